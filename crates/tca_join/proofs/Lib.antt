@@ -1,0 +1,8 @@
+pub mod Sets
+pub mod Search
+pub mod Merge
+pub mod Unions
+pub mod Differ
+pub mod Places
+pub mod Steps
+pub mod Firsts

@@ -1,0 +1,14 @@
+use Rattle.std.proofs.Common.{length, drop, ◌-◌, ◌≡◌, ◌≤◌}
+use Rattle.tca_join.specs.Chains.{differ_at}
+use Rattle.tca_join.proofs.Differ.{shifted}
+use Rattle.tca_join.proofs.chain.difference.Given as goal
+
+abbrev pub invariant-loop-i : goal.invariant-loop-i
+invariant-loop-i g l = record {
+  so_far : differ_at g.T.PartialEq.eq l.first l.second ≡ shifted l.i (differ_at g.T.PartialEq.eq (drop l.i l.first) (drop l.i l.second));
+  first_in : l.i ≤ length l.first;
+  second_in : l.i ≤ length l.second;
+}
+
+abbrev pub decreases-loop-i : goal.decreases-loop-i
+decreases-loop-i g l = length l.first - l.i

@@ -1,0 +1,57 @@
+ghost use Rattle.std.specs.Prelude.{◌≡◌, ℕ, Bool, false, Option, None, IfOk, IfErr, OnOk, OnErr};
+ghost use Rattle.tca_join.specs.Joins.{IsJoin, Commutes, Associates, AssociatesBack, IsIdempotent, IsAbove, IsLeast};
+ghost use Rattle.tca_join.specs.Faults.{IsJoinFault};
+
+use crate::fault::JoinFault;
+use std::alloc::AllocError;
+
+/// Values of which some two have a join, their least upper bound.
+///
+/// Two values have one where they don't clash and their join is within each limit. The laws hold up to `same`, and [`join_laws`] states them.
+pub trait Join: Drop + Sized {
+    /// Holds of each value of the type.
+    ghost proper: { Self → Type 0 };
+
+    /// `None` where the two are compatible; else what they clash at, which `Clash` names.
+    ghost clash: { Self → Self → Option ℕ };
+
+    /// Whether the join of two compatible values is above a limit.
+    ghost full: { Self → Self → Bool };
+
+    /// Whether two values count as one.
+    ghost same: { Self → Self → Type 0 };
+
+    /// The join, of two that have one.
+    ghost joined: { Self → Self → Self };
+
+    /// Changes nothing: its clause says what is known of each value.
+    fn known(&self)
+        ensures { proper self.now };
+
+    /// Makes this the join of the two.
+    ///
+    /// `Clash` comes exactly where the two have no join, and `Full` where they have one that is above a limit, want of memory apart. On each refusal the value is as before.
+    fn join_from(&mut self, other: &Self) -> Result<(), JoinFault>
+        ensures compatible { OnOk result (clash self.old other.now ≡ None) }
+        ensures within { OnOk result (full self.old other.now ≡ false) }
+        ensures ok { OnOk result (self.new ≡ joined self.old other.now) }
+        ensures err { OnErr result (self.new ≡ self.old) }
+        ensures fault { IfErr result (IsJoinFault (clash self.old other.now) (full self.old other.now)) };
+
+    /// A value of its own that equals this one.
+    fn copy(&self) -> Result<Self, AllocError>
+        ensures { IfOk result (λ c. c ≡ self.now) };
+
+    /// The laws that each type of such values keeps to.
+    ghost laws: { IsJoin proper clash full same joined };
+}
+
+/// The laws of each join, as a contract: the order of values doesn't matter, each way to join three is defined exactly where the other is, and the join is the least upper bound.
+pub fn join_laws<J: Join>()
+    ensures commutes { Commutes J.proper J.clash J.full J.same J.joined }
+    ensures associates { Associates J.proper J.clash J.full J.same J.joined }
+    ensures associates_back { AssociatesBack J.proper J.clash J.full J.same J.joined }
+    ensures idempotent { IsIdempotent J.proper J.clash J.full J.same J.joined }
+    ensures above { IsAbove J.proper J.clash J.full J.same J.joined }
+    ensures least { IsLeast J.proper J.clash J.full J.same J.joined }
+{}

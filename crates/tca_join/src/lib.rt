@@ -1,0 +1,27 @@
+//! Finite sets, and values that join.
+//!
+//! A [`Join`] is a type of values of which some two have a least upper bound: `join_from` makes a value that bound, or answers why there is none and changes nothing.
+//! [`MaxOf`] is a count of which the greater is kept; a [`Chain`] is a list of which the longer is kept, where one begins with the other; [`ByKey`] joins values under numbers key by key.
+//! A join takes time and memory in proportion to the lengths of the two values.
+//!
+//! `specs/Sets.antt` says what a finite set is for all crates above: the one list that has each member once and rises strictly. [`set_laws`] states the laws of such lists.
+#![tactic(auto)]
+
+mod by_key;
+mod chain;
+mod count;
+mod fault;
+mod join;
+mod keys;
+mod laws;
+
+pub use by_key::ByKey;
+pub use chain::Chain;
+pub use count::MaxOf;
+pub use fault::JoinFault;
+pub use join::{Join, join_laws};
+pub use keys::Keys;
+pub use laws::{chain_words, map_words, set_laws};
+
+#[cfg(test)]
+mod tests;

@@ -1,0 +1,136 @@
+ghost use Rattle.std.specs.Prelude.{◌≡◌};
+ghost use Rattle.tca_meters.specs.SrTcm.{IsSingleRate, single_rate};
+
+use crate::colour::Colour;
+use crate::fault::{MeterFault, in_range};
+use crate::levels::Levels;
+use crate::meter::Meter;
+use std::marker::Model;
+use tca_buckets::{Bucket, fill_spilling, ticks};
+
+/// The meter of RFC 2697, the single rate three color marker: tokens of one rate go to a committed
+/// bucket, and those that it has no room for to an excess bucket.
+#[derive(Clone, Copy, Debug, PartialEq, Eq)]
+pub struct SrTcm {
+    cir: u64,
+    cbs: u64,
+    ebs: u64,
+    aware: bool,
+}
+
+impl Model for SrTcm {
+    ghost use Rattle.tca_meters.specs.SrTcm.{SingleRate, IsSingleRate};
+
+    ghost Value = { SingleRate };
+
+    ghost view = { λ m. record { cir = m.cir; cbs = m.cbs; ebs = m.ebs; aware = m.aware } };
+
+    ghost invariant = { λ m. IsSingleRate (record { cir = m.cir; cbs = m.cbs; ebs = m.ebs; aware = m.aware }) };
+
+    ghost inverse = { λ m. record { cir = m.cir; cbs = m.cbs; ebs = m.ebs; aware = m.aware } };
+}
+
+impl SrTcm {
+    /// A meter of this committed rate and these sizes of the committed and the excess bucket; `aware`
+    /// says whether precolours count. `NoBurst` where both sizes are 0, else `RateRange` where one of
+    /// the three is above 1,000,000,000,000.
+    pub fn new(cir: u64, cbs: u64, ebs: u64, aware: bool) -> Result<SrTcm, MeterFault>
+        ensures { result ≡ single_rate cir cbs ebs aware }
+    {
+        if cbs == 0 && ebs == 0 {
+            return Err(MeterFault::NoBurst);
+        }
+        if !(in_range(cir) && in_range(cbs) && in_range(ebs)) {
+            return Err(MeterFault::RateRange);
+        }
+        Ok(SrTcm {
+            cir,
+            cbs,
+            ebs,
+            aware,
+        })
+    }
+
+    /// The committed information rate, in tokens per second.
+    pub fn cir(&self) -> u64
+        ensures value { result ≡ self.now.cir }
+        ensures range { IsSingleRate self.now }
+    {
+        self.cir
+    }
+
+    /// The committed burst size, in tokens.
+    pub fn cbs(&self) -> u64
+        ensures value { result ≡ self.now.cbs }
+        ensures range { IsSingleRate self.now }
+    {
+        self.cbs
+    }
+
+    /// The excess burst size, in tokens.
+    pub fn ebs(&self) -> u64
+        ensures value { result ≡ self.now.ebs }
+        ensures range { IsSingleRate self.now }
+    {
+        self.ebs
+    }
+
+    /// Whether precolours count.
+    pub fn aware(&self) -> bool
+        ensures value { result ≡ self.now.aware }
+        ensures range { IsSingleRate self.now }
+    {
+        self.aware
+    }
+}
+
+impl Meter for SrTcm {
+    type State = Levels;
+
+    ghost use Rattle.tca_meters.specs.SrTcm.{single_rate_rule, IsWithinSizes};
+    ghost use Rattle.tca_meters.specs.SrTcmLaws as laws;
+
+    ghost rule = { single_rate_rule };
+
+    ghost within = { IsWithinSizes };
+
+    ghost aware = { λ m s. m.aware };
+
+    ghost additive = { laws.additive };
+
+    ghost sizes = { laws.sizes };
+
+    ghost never_betters = { laws.never_betters };
+
+    ghost blind = { laws.blind };
+
+    ghost red_keeps = { laws.red_keeps };
+
+    fn start(&self) -> Levels {
+        Levels {
+            committed: Bucket::full(self.cbs),
+            excess: Bucket::full(self.ebs),
+        }
+    }
+
+    fn advance(&self, state: Levels, from: u64, to: u64) -> Levels {
+        let mut next = state;
+        let tokens = ticks(self.cir, from, to);
+        fill_spilling(&mut next.committed, &mut next.excess, tokens);
+        next
+    }
+
+    fn offer(&self, state: Levels, octets: u32, pre: Colour) -> (Colour, Levels) {
+        let pre = if self.aware { pre } else { Colour::Green };
+        let mut next = state;
+        if pre == Colour::Green && state.committed.fits(octets, true) {
+            next.committed.spend(octets);
+            (Colour::Green, next)
+        } else if pre != Colour::Red && state.excess.fits(octets, true) {
+            next.excess.spend(octets);
+            (Colour::Yellow, next)
+        } else {
+            (Colour::Red, state)
+        }
+    }
+}

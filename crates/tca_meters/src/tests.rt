@@ -1,0 +1,238 @@
+mod slow;
+
+use super::*;
+use slow::Slow;
+use std::process::Abort;
+use std::test::*;
+use tca_buckets::{Bucket, ticks};
+
+/// The time of the worked examples.
+const T: u64 = 1_700_000_000_000;
+
+/// The colour of a packet that comes some time after the one before it, by what the trait has.
+fn step<M: Meter>(
+    rt: &impl Abort,
+    meter: &M,
+    state: M::State,
+    from: u64,
+    to: u64,
+    octets: u32,
+    pre: Colour,
+) -> (Colour, M::State) {
+    assert!(rt; from <= to && to < 1 << 48);
+    meter.offer(meter.advance(state, from, to), octets, pre)
+}
+
+fn levels(state: Levels) -> (u64, u64) {
+    (state.committed.level(), state.excess.level())
+}
+
+/// The state after a packet, which gets this colour and leaves these levels.
+fn state_after(
+    rt: &impl Abort,
+    meter: &SrTcm,
+    state: Levels,
+    (from, to): (u64, u64),
+    octets: u32,
+    want: (Colour, u64, u64),
+) -> Levels {
+    let (colour, next) = step(rt, meter, state, from, to, octets, Colour::Green);
+    let (committed, excess) = levels(next);
+    assert!(rt;
+        colour == want.0 && committed == want.1 && excess == want.2,
+        "at {to}"
+    );
+    next
+}
+
+#[test]
+fn three_packets_get_three_colours(rt: HostRuntime) -> Result<(), Fail> {
+    let meter = SrTcm::new(1000, 2000, 1000, false).ok().ok_or("a meter")?;
+    let parameters = (meter.cir(), meter.cbs(), meter.ebs(), meter.aware());
+    assert_eq!(rt; parameters, (1000, 2000, 1000, false));
+    assert_eq!(rt; levels(meter.start()), (2000, 1000));
+    let state = meter.start();
+    let state = state_after(&rt, &meter, state, (0, T), 1500, (Colour::Green, 500, 1000));
+    let state = state_after(
+        &rt,
+        &meter,
+        state,
+        (T, T + 100),
+        1000,
+        (Colour::Yellow, 600, 0),
+    );
+    state_after(
+        &rt,
+        &meter,
+        state,
+        (T + 100, T + 200),
+        800,
+        (Colour::Red, 700, 0),
+    );
+    Ok(())
+}
+
+#[test]
+fn precolours_count_where_aware(rt: HostRuntime) -> Result<(), Fail> {
+    let aware = SrTcm::new(1000, 2000, 1000, true).ok().ok_or("a meter")?;
+    let blind = SrTcm::new(1000, 2000, 1000, false).ok().ok_or("a meter")?;
+    for (octets, pre, want, left) in [
+        (100, Colour::Red, Colour::Red, (2000, 1000)),
+        (1000, Colour::Yellow, Colour::Yellow, (2000, 0)),
+        (2000, Colour::Green, Colour::Green, (0, 1000)),
+    ] {
+        let (colour, state) = step(&rt, &aware, aware.start(), 0, T, octets, pre);
+        assert_eq!(rt; (colour, levels(state)), (want, left));
+        let (colour, _) = step(&rt, &blind, blind.start(), 0, T, octets, pre);
+        assert_eq!(rt; colour, Colour::Green);
+    }
+    Ok(())
+}
+
+#[test]
+fn faults_come_in_order_and_say_why(rt: HostRuntime) -> Result<(), Fail> {
+    let most = 1_000_000_000_000;
+    let over = most + 1;
+    for (cir, cbs, ebs, want) in [
+        (over, 0, 0, Some(MeterFault::NoBurst)),
+        (over, 1, 0, Some(MeterFault::RateRange)),
+        (1, over, 0, Some(MeterFault::RateRange)),
+        (1, 0, over, Some(MeterFault::RateRange)),
+        (most, most, most, None),
+        (0, 1, 0, None),
+        (0, 0, 1, None),
+    ] {
+        assert_eq!(rt; SrTcm::new(cir, cbs, ebs, false).err(), want);
+    }
+    for (fault, number, text) in [
+        (
+            MeterFault::NoBurst,
+            1,
+            "no burst size to meter by: expected one above 0, and for RFC 2698 both",
+        ),
+        (
+            MeterFault::PeakBelowCommitted,
+            2,
+            "the peak rate is below the committed rate: expected it to be at least that",
+        ),
+        (
+            MeterFault::RateRange,
+            3,
+            "a rate or a burst size is out of range: expected each to be at most 1000000000000",
+        ),
+    ] {
+        assert_eq!(rt; fault.number(), number);
+        let said = format!(in rt.alloc(); "{fault}")?;
+        assert_eq!(rt; said.as_str(), text);
+    }
+    let numbers = [
+        Colour::Green.number(),
+        Colour::Yellow.number(),
+        Colour::Red.number(),
+    ];
+    assert_eq!(rt; numbers, [0, 1, 2]);
+    assert!(rt; Colour::Green < Colour::Yellow && Colour::Yellow < Colour::Red);
+    Ok(())
+}
+
+const RATES: [u64; 11] = [0, 1, 3, 7, 333, 500, 999, 1000, 1001, 1999, 3000];
+
+#[test]
+fn ticks_are_counted_tokens(rt: HostRuntime) {
+    for rate in RATES {
+        assert!(rt; rate <= 3000);
+        for from in 0..20u64 {
+            for more in 0..20u64 {
+                let want = slow::count(rate, from, from + more, 120);
+                assert_eq!(rt;
+                    ticks(rate, from, from + more),
+                    want,
+                    "{rate} {from} {more}"
+                );
+            }
+        }
+    }
+}
+
+/// A packet of some size near what the buckets have, at some later time, of some colour.
+fn some_packet(seed: u64, slow: &Slow) -> (u64, u32, Colour) {
+    let octets = match seed / 8 % 5 {
+        0 => slow.committed,
+        1 => slow.committed.wrapping_add(1),
+        2 => slow.excess,
+        3 => slow.excess.wrapping_add(1),
+        _ => seed / 64 % 12,
+    };
+    let pre = match seed / 1024 % 3 {
+        0 => Colour::Green,
+        1 => Colour::Yellow,
+        _ => Colour::Red,
+    };
+    (seed % 6, (octets % 4096) as u32, pre)
+}
+
+/// Compares a meter with the slow one over some packets, from time 0 on.
+fn compare(rt: &impl Abort, slow: Slow, first_seed: u64) {
+    let Ok(meter) = SrTcm::new(slow.cir, slow.cbs, slow.ebs, slow.aware) else {
+        assert!(rt; false, "a meter");
+        return;
+    };
+    let mut slow = slow;
+    let mut state = meter.start();
+    let mut time = 0u64;
+    let mut seed = first_seed;
+    for turn in 0..12u64 {
+        seed = seed
+            .wrapping_mul(6364136223846793005)
+            .wrapping_add(1442695040888963407);
+        let (gap, octets, pre) = some_packet(seed >> 33, &slow);
+        // The first packet comes at time 0.
+        let gap = gap.min(turn);
+        assert!(rt; time < 1000 && gap < 6);
+        slow.wait(time, time + gap, 180);
+        let (colour, next) = step(rt, &meter, state, time, time + gap, octets, pre);
+        assert_eq!(rt; colour, slow.take(octets as u64, pre), "{slow:?}");
+        assert_eq!(rt; levels(next), (slow.committed, slow.excess), "{slow:?}");
+        state = next;
+        time += gap;
+    }
+}
+
+#[test]
+fn colours_are_those_by_single_tokens(rt: HostRuntime) {
+    for cir in RATES {
+        for (cbs, ebs) in [(0, 1), (1, 0), (1, 1), (2, 0), (5, 3), (40, 10)] {
+            for aware in [false, true] {
+                let slow = Slow {
+                    cir,
+                    cbs,
+                    ebs,
+                    aware,
+                    committed: cbs,
+                    excess: ebs,
+                };
+                compare(&rt, slow, cir);
+                compare(&rt, slow, cbs);
+            }
+        }
+    }
+}
+
+/// Where a rate is a multiple of 1000, each millisecond brings exactly its thousandth.
+#[test]
+fn great_rates_fill_great_buckets(rt: HostRuntime) -> Result<(), Fail> {
+    let most = 1_000_000_000_000;
+    let meter = SrTcm::new(most, most, 5, false).ok().ok_or("a meter")?;
+    let empty = Levels {
+        committed: Bucket::new(0, most).ok_or("a bucket")?,
+        excess: Bucket::new(0, 5).ok_or("a bucket")?,
+    };
+    assert_eq!(rt; levels(meter.advance(empty, 7, 7)), (0, 0));
+    assert_eq!(rt; levels(meter.advance(empty, 7, 10)), (3_000_000_000, 0));
+    assert_eq!(rt; levels(meter.advance(empty, 7, 1007)), (most, 0));
+    assert_eq!(rt; meter.advance(empty, 7, 1008), meter.start());
+    assert_eq!(rt; meter.advance(empty, 0, (1 << 48) - 1), meter.start());
+    assert_eq!(rt; ticks(most - 1, 0, 1), 999_999_999);
+    assert_eq!(rt; ticks(most - 1, 1, 2), 1_000_000_000);
+    Ok(())
+}

@@ -1,0 +1,8 @@
+use Rattle.tca_report.proofs.Order.{report_total, report_exact}
+use Rattle.tca_report.proofs.report.order_is_total.Goals as goal
+
+pub returns-clause-total : goal.returns-clause-total
+returns-clause-total c = report_total
+
+pub returns-clause-exact : goal.returns-clause-exact
+returns-clause-exact c = report_exact

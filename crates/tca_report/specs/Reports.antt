@@ -1,0 +1,50 @@
+-- A report of one packet, and the order of reports.
+use Rattle.std.specs.Prelude.{ℕ, ◌<◌, ◌≤◌, ◌^◌, ◌==◌, Bool, ◌&&◌, nat_lt, nat_le, Option, Some, None, if◌then◌else◌}
+use Rattle.std.specs.Ordering.{nat_cmp, ordering_then}
+use Rattle.std.specs.declared.cmp.Ordering.{Ordering}
+use Rattle.tca_report.specs.declared.report.Identity.{Identity}
+use Rattle.tca_report.specs.declared.report.Content.{Content}
+
+-- what contracts see of a report
+pub record PacketReport : Type 0 where
+  pub time : ℕ
+  pub domain : ℕ
+  pub place : ℕ
+  pub octets : ℕ
+  pub dscp : ℕ
+  pub iface : ℕ
+
+-- times are below 2^48 ms; a packet has 1 to 65,575 octets and a code point of six bits
+pub record InRange (r : PacketReport) : Type 0 where
+  pub time : r.time < 2 ^ 48
+  pub some : 1 ≤ r.octets
+  pub octets : r.octets ≤ 65575
+  pub dscp : r.dscp ≤ 63
+  pub domain : r.domain < 2 ^ 32
+  pub place : r.place < 2 ^ 32
+  pub iface : r.iface < 2 ^ 32
+
+-- the same range as a test
+abbrev pub in_range : PacketReport → Bool
+in_range r = nat_lt r.time (2 ^ 48) && (nat_le 1 r.octets && (nat_le r.octets 65575 && nat_le r.dscp 63))
+
+-- the report that tells this content of this identity
+abbrev pub reported : Identity → Content → PacketReport
+reported i c = record { time = c.time; domain = i.domain; place = i.place; octets = c.octets; dscp = c.dscp; iface = c.iface }
+
+-- a report where it is in range, else none
+abbrev pub ranged : PacketReport → Option PacketReport
+ranged r = if in_range r then Some r else None
+
+-- whether two reports are of one record: the same observation domain and the same place
+abbrev pub same_identity : PacketReport → PacketReport → Bool
+same_identity a b = (a.domain == b.domain) && (a.place == b.place)
+
+-- by time, domain, place, octets, code point and interface, each ascending
+abbrev pub report_cmp : PacketReport → PacketReport → Ordering
+report_cmp a b =
+    ordering_then (nat_cmp a.time b.time)
+    (ordering_then (nat_cmp a.domain b.domain)
+    (ordering_then (nat_cmp a.place b.place)
+    (ordering_then (nat_cmp a.octets b.octets)
+    (ordering_then (nat_cmp a.dscp b.dscp) (nat_cmp a.iface b.iface)))))

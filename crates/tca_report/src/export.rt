@@ -1,0 +1,71 @@
+//! The log export: its limit, its faults and its law.
+ghost use Rattle.std.specs.Prelude.{◌≡◌, List};
+ghost use Rattle.tca_report.specs.Export.{IsExportable, export};
+ghost use Rattle.tca_report.specs.FaultNumbers.{export_number};
+ghost use Rattle.tca_report.specs.Reports.{PacketReport};
+
+use std::alloc::AllocError;
+use thiserror::Error;
+
+/// How many reports one export may have.
+pub(crate) const MOST_REPORTS: u32 = 4_194_304;
+
+/// What is wrong with an export: the first fault from the left.
+#[derive(Clone, Copy, Debug, PartialEq, Eq, Error)]
+pub enum ExportFault {
+    /// The first four octets are not `TCAX`.
+    #[error("the export does not begin with TCAX")]
+    Magic,
+    /// The version is not 1.
+    #[error("the export has version {0}, not 1")]
+    Version(u16),
+    /// The count is above 4,194,304, or octets follow the last report.
+    #[error("the export counts more than 4194304 reports, or octets follow its last report")]
+    Count,
+    /// The header, or a report of the count, is not there whole.
+    #[error("the export is cut short")]
+    Cut,
+    /// Report `n`, counted from 0, has a time, a size or a code point out of range.
+    #[error("report {n} has a time, a size or a DSCP out of range")]
+    Range { n: u32 },
+    /// Report `n`, counted from 0, is not above the one before it.
+    #[error("report {n} is not above the report before it")]
+    Order { n: u32 },
+    /// No memory for the list.
+    #[error("out of memory")]
+    Memory,
+}
+
+impl ExportFault {
+    /// The number that stands for the fault in a program's messages.
+    pub fn number(&self) -> u8
+        ensures { result ≡ export_number self.now }
+    {
+        match self {
+            ExportFault::Magic => 1,
+            ExportFault::Version(_) => 2,
+            ExportFault::Count => 3,
+            ExportFault::Cut => 4,
+            ExportFault::Range { .. } => 5,
+            ExportFault::Order { .. } => 6,
+            ExportFault::Memory => 7,
+        }
+    }
+}
+
+impl From<AllocError> for ExportFault {
+    ghost use Rattle.std.specs.Prelude.{◌≡◌};
+    ghost use Rattle.tca_report.specs.declared.export.ExportFault.TheVariants.{Memory};
+
+    ghost from_gives = { λ _ e. e ≡ Memory };
+
+    fn from(_e: AllocError) -> ExportFault {
+        ExportFault::Memory
+    }
+}
+
+/// The law of the format: no two lists of reports have the same octets.
+pub fn spelling_is_unique()
+    ensures { (a b : List PacketReport) → IsExportable a → IsExportable b
+        → export a ≡ export b → a ≡ b }
+{}

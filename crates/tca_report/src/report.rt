@@ -1,0 +1,105 @@
+//! A report of one packet, and the order of reports.
+ghost use Rattle.std.specs.Prelude.{◌≡◌};
+ghost use Rattle.std.specs.Cmp.{IsTotalOrder};
+ghost use Rattle.std.specs.declared.cmp.Ordering.TheVariants.{Equal};
+ghost use Rattle.tca_report.specs.Reports.{PacketReport, InRange, reported, ranged, report_cmp};
+
+use std::marker::Model;
+
+/// Which record a report is of: the observation domain that exported it (RFC 7011 section 3.1), and
+/// its place among the domain's data records, modulo 2^32.
+#[derive(Clone, Copy, Debug, PartialEq, Eq, PartialOrd, Ord)]
+pub struct Identity {
+    pub domain: u32,
+    pub place: u32,
+}
+
+/// What a report tells of its packet.
+#[derive(Clone, Copy, Debug, PartialEq, Eq, PartialOrd, Ord)]
+pub struct Content {
+    /// Milliseconds from 1970 UTC, below 2^48.
+    pub time: u64,
+    /// Octets of the IP packet, 1 to 65,575.
+    pub octets: u32,
+    /// The code point of RFC 2474, at most 63.
+    pub dscp: u8,
+    /// The ingress interface, 0 where none was told.
+    pub iface: u32,
+}
+
+/// A report of one packet. Reports are ordered by time, domain, place, octets, code point and
+/// interface, each ascending.
+#[derive(Clone, Copy, Debug, PartialEq, Eq, PartialOrd, Ord)]
+pub struct Report {
+    time: u64,
+    domain: u32,
+    place: u32,
+    octets: u32,
+    dscp: u8,
+    iface: u32,
+}
+
+impl Model for Report {
+    ghost use Rattle.tca_report.specs.Reports.{PacketReport, InRange};
+
+    ghost Value = { PacketReport };
+
+    ghost view = { λ r. record { time = r.time; domain = r.domain; place = r.place; octets = r.octets; dscp = r.dscp; iface = r.iface } };
+
+    ghost invariant = { λ r. InRange (record { time = r.time; domain = r.domain; place = r.place; octets = r.octets; dscp = r.dscp; iface = r.iface }) };
+
+    ghost inverse = { λ r. record { time = r.time; domain = r.domain; place = r.place; octets = r.octets; dscp = r.dscp; iface = r.iface } };
+}
+
+impl Report {
+    /// The report of this content; None where the content is out of range.
+    pub fn new(identity: Identity, content: Content) -> Option<Report>
+        ensures { result ≡ ranged (reported identity content) }
+    {
+        if content.time < 1 << 48
+            && content.octets >= 1
+            && content.octets <= 65_575
+            && content.dscp <= 63
+        {
+            Some(Report {
+                time: content.time,
+                domain: identity.domain,
+                place: identity.place,
+                octets: content.octets,
+                dscp: content.dscp,
+                iface: content.iface,
+            })
+        } else {
+            None
+        }
+    }
+
+    /// Which record the report is of.
+    pub fn identity(&self) -> Identity
+        ensures { result ≡ record { domain = self.now.domain; place = self.now.place } }
+    {
+        Identity {
+            domain: self.domain,
+            place: self.place,
+        }
+    }
+
+    /// What the report tells of its packet.
+    pub fn content(&self) -> Content
+        ensures value { result ≡ record { time = self.now.time; octets = self.now.octets; dscp = self.now.dscp; iface = self.now.iface } }
+        ensures range { InRange self.now }
+    {
+        Content {
+            time: self.time,
+            octets: self.octets,
+            dscp: self.dscp,
+            iface: self.iface,
+        }
+    }
+}
+
+/// The law of the order: it is total, and only equal reports tie.
+pub fn order_is_total()
+    ensures total { IsTotalOrder report_cmp }
+    ensures exact { (a b : PacketReport) → report_cmp a b ≡ Equal → a ≡ b }
+{}
