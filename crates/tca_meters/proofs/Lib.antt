@@ -1,1 +1,3 @@
 pub mod Coloured
+pub mod SpecParts
+pub mod SpecNumbers

@@ -2,5 +2,15 @@ pub mod Colours
 pub mod Packets
 pub mod Laws
 pub mod Faults
+pub mod Levels
+pub mod LevelsLaws
 pub mod SrTcm
 pub mod SrTcmLaws
+pub mod TrTcm
+pub mod TrTcmLaws
+pub mod Rfc4115
+pub mod Rfc4115Laws
+pub mod AnyMeters
+pub mod AnyMeterLaws
+pub mod CodePoints
+pub mod MeterSpecs

@@ -1,14 +1,14 @@
 -- The meter of RFC 2697: its parameters, and what one token and one packet do.
-use Rattle.std.specs.Prelude.{ℕ, ◌+◌, ◌<◌, ◌≤◌, ◌==◌, Bool, true, ◌&&◌, not, Result, Ok, Err, if◌then◌else◌}
+use Rattle.std.specs.Prelude.{ℕ, ◌+◌, ◌<◌, ◌≤◌, ◌==◌, Bool, true, ◌&&◌, Result, Ok, Err, if◌then◌else◌}
 use Rattle.tca_buckets.specs.Tokens.{due}
-use Rattle.tca_buckets.specs.Buckets.{TokenBucket, full_bucket, spill, repeated, fits, after_spending, IsOfSize}
+use Rattle.tca_buckets.specs.Buckets.{TokenBucket, spill, repeated}
 use Rattle.tca_meters.specs.declared.colour.Colour.{Colour}
-use Rattle.tca_meters.specs.declared.colour.Colour.TheVariants.{Green, Yellow, Red}
 use Rattle.tca_meters.specs.declared.fault.MeterFault.{MeterFault}
 use Rattle.tca_meters.specs.declared.fault.MeterFault.TheVariants.{NoBurst, RateRange}
 use Rattle.tca_meters.specs.declared.levels.Levels.{Levels}
-use Rattle.tca_meters.specs.Colours.{is_green, is_red}
+use Rattle.tca_meters.specs.Colours.{counted}
 use Rattle.tca_meters.specs.Faults.{in_range}
+use Rattle.tca_meters.specs.Levels.{full_levels, committed_or_excess, AreOfSizes}
 use Rattle.tca_meters.specs.Packets.{Rule}
 
 -- the parameters of RFC 2697 section 2, and whether precolours count
@@ -33,7 +33,7 @@ single_rate cir cbs ebs aware =
 
 -- at time 0 both buckets are full
 abbrev pub opening_levels : SingleRate → Levels
-opening_levels m = record { committed = full_bucket m.cbs; excess = full_bucket m.ebs }
+opening_levels m = full_levels m.cbs m.ebs
 
 -- the two buckets as a state
 abbrev pub levels : TokenBucket × TokenBucket → Levels
@@ -43,22 +43,18 @@ levels p = record { committed = p.0; excess = p.1 }
 abbrev pub filled_levels : SingleRate → ℕ → ℕ → Levels → Levels
 filled_levels m from to s = levels (repeated (due m.cir from to) spill (s.committed, s.excess))
 
--- green needs a green packet and so many committed tokens, yellow one that isn't red and so many excess tokens, and red spends nothing
+-- RFC 2697 section 3, where a packet may take all tokens
 abbrev pub judged_packet : Levels → ℕ → Colour → Colour × Levels
-judged_packet s octets pre =
-    if is_green pre && fits s.committed octets true then (Green, record s { committed = after_spending s.committed octets })
-    else (if not (is_red pre) && fits s.excess octets true then (Yellow, record s { excess = after_spending s.excess octets })
-    else (Red, s))
+judged_packet = committed_or_excess true
 
--- RFC 2697 section 3. A meter that isn't aware treats each packet as a green one
+-- the meter as a whole
 abbrev pub single_rate_rule : SingleRate → Rule Levels
 single_rate_rule m = record {
   opening = opening_levels m;
   filled = filled_levels m;
-  judged = λ s octets pre. judged_packet s octets (if m.aware then pre else Green);
+  judged = λ s octets pre. judged_packet s octets (counted m.aware pre);
 }
 
 -- both buckets are of the meter's sizes
-pub record IsWithinSizes (m : SingleRate) (s : Levels) : Type 0 where
-  pub committed : IsOfSize s.committed m.cbs
-  pub excess : IsOfSize s.excess m.ebs
+abbrev pub IsWithinSizes : SingleRate → Levels → Type 0
+IsWithinSizes m s = AreOfSizes s m.cbs m.ebs

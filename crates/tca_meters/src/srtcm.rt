@@ -6,7 +6,7 @@ use crate::fault::{MeterFault, in_range};
 use crate::levels::Levels;
 use crate::meter::Meter;
 use std::marker::Model;
-use tca_buckets::{Bucket, fill_spilling, ticks};
+use tca_buckets::{fill_spilling, ticks};
 
 /// The meter of RFC 2697, the single rate three color marker: tokens of one rate go to a committed
 /// bucket, and those that it has no room for to an excess bucket.
@@ -107,10 +107,7 @@ impl Meter for SrTcm {
     ghost red_keeps = { laws.red_keeps };
 
     fn start(&self) -> Levels {
-        Levels {
-            committed: Bucket::full(self.cbs),
-            excess: Bucket::full(self.ebs),
-        }
+        Levels::full(self.cbs, self.ebs)
     }
 
     fn advance(&self, state: Levels, from: u64, to: u64) -> Levels {
@@ -122,15 +119,6 @@ impl Meter for SrTcm {
 
     fn offer(&self, state: Levels, octets: u32, pre: Colour) -> (Colour, Levels) {
         let pre = if self.aware { pre } else { Colour::Green };
-        let mut next = state;
-        if pre == Colour::Green && state.committed.fits(octets, true) {
-            next.committed.spend(octets);
-            (Colour::Green, next)
-        } else if pre != Colour::Red && state.excess.fits(octets, true) {
-            next.excess.spend(octets);
-            (Colour::Yellow, next)
-        } else {
-            (Colour::Red, state)
-        }
+        state.offered(octets, pre, true)
     }
 }

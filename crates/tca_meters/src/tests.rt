@@ -1,7 +1,8 @@
 mod slow;
+mod specs;
 
 use super::*;
-use slow::Slow;
+use slow::{Kind, Slow};
 use std::process::Abort;
 use std::test::*;
 use tca_buckets::{Bucket, ticks};
@@ -27,10 +28,10 @@ fn levels(state: Levels) -> (u64, u64) {
     (state.committed.level(), state.excess.level())
 }
 
-/// The state after a packet, which gets this colour and leaves these levels.
+/// The state after a green packet, which gets this colour and leaves these levels.
 fn state_after(
     rt: &impl Abort,
-    meter: &SrTcm,
+    meter: &AnyMeter,
     state: Levels,
     (from, to): (u64, u64),
     octets: u32,
@@ -45,30 +46,78 @@ fn state_after(
     next
 }
 
+/// Compares three packets, each with its time, its octets and what is wanted of it.
+fn compare_three(rt: &impl Abort, meter: AnyMeter, packets: [(u64, u32, (Colour, u64, u64)); 3]) {
+    let [first, second, third] = packets;
+    let state = state_after(rt, &meter, meter.start(), (0, first.0), first.1, first.2);
+    let state = state_after(rt, &meter, state, (first.0, second.0), second.1, second.2);
+    state_after(rt, &meter, state, (second.0, third.0), third.1, third.2);
+}
+
 #[test]
 fn three_packets_get_three_colours(rt: HostRuntime) -> Result<(), Fail> {
     let meter = SrTcm::new(1000, 2000, 1000, false).ok().ok_or("a meter")?;
     let parameters = (meter.cir(), meter.cbs(), meter.ebs(), meter.aware());
     assert_eq!(rt; parameters, (1000, 2000, 1000, false));
     assert_eq!(rt; levels(meter.start()), (2000, 1000));
-    let state = meter.start();
-    let state = state_after(&rt, &meter, state, (0, T), 1500, (Colour::Green, 500, 1000));
-    let state = state_after(
+    compare_three(
         &rt,
-        &meter,
-        state,
-        (T, T + 100),
-        1000,
-        (Colour::Yellow, 600, 0),
+        meter.into(),
+        [
+            (T, 1500, (Colour::Green, 500, 1000)),
+            (T + 100, 1000, (Colour::Yellow, 600, 0)),
+            (T + 200, 800, (Colour::Red, 700, 0)),
+        ],
     );
-    state_after(
+    Ok(())
+}
+
+#[test]
+fn two_rates_fill_two_buckets(rt: HostRuntime) -> Result<(), Fail> {
+    let meter = TrTcm::new(2000, 2001, 1000, 1001, false)
+        .ok()
+        .ok_or("a meter")?;
+    let rates = (meter.pir(), meter.pbs(), meter.cir(), meter.cbs());
+    assert_eq!(rt; rates, (2000, 2001, 1000, 1001));
+    assert!(rt; !meter.aware());
+    assert_eq!(rt; levels(meter.start()), (1001, 2001));
+    let meter = TrTcm::new(2000, 2000, 1000, 1000, false)
+        .ok()
+        .ok_or("a meter")?;
+    compare_three(
         &rt,
-        &meter,
-        state,
-        (T + 100, T + 200),
-        800,
-        (Colour::Red, 700, 0),
+        meter.into(),
+        [
+            (T, 1500, (Colour::Yellow, 1000, 500)),
+            (T, 500, (Colour::Green, 500, 0)),
+            (T + 1, 3, (Colour::Red, 501, 2)),
+        ],
     );
+    Ok(())
+}
+
+#[test]
+fn a_packet_fits_exactly_or_below(rt: HostRuntime) -> Result<(), Fail> {
+    let meter = Rfc4115::new(1, 2, 3, 4, true, true).ok().ok_or("a meter")?;
+    let rates = (meter.cir(), meter.cbs(), meter.eir(), meter.ebs());
+    assert_eq!(rt; rates, (1, 2, 3, 4));
+    assert_eq!(rt; (meter.exact_fit(), meter.aware()), (true, true));
+    let exact = meter_spec("rfc4115:1000:1000:1000:1000:exact:blind")
+        .ok()
+        .ok_or("a meter")?;
+    compare_three(
+        &rt,
+        exact,
+        [
+            (T, 1000, (Colour::Green, 0, 1000)),
+            (T, 1000, (Colour::Yellow, 0, 0)),
+            (T, 1000, (Colour::Red, 0, 0)),
+        ],
+    );
+    let below = meter_spec("rfc4115:1000:1000:1000:1000:below:blind")
+        .ok()
+        .ok_or("a meter")?;
+    compare_three(&rt, below, [(T, 1000, (Colour::Red, 1000, 1000)); 3]);
     Ok(())
 }
 
@@ -76,11 +125,12 @@ fn three_packets_get_three_colours(rt: HostRuntime) -> Result<(), Fail> {
 fn precolours_count_where_aware(rt: HostRuntime) -> Result<(), Fail> {
     let aware = SrTcm::new(1000, 2000, 1000, true).ok().ok_or("a meter")?;
     let blind = SrTcm::new(1000, 2000, 1000, false).ok().ok_or("a meter")?;
-    for (octets, pre, want, left) in [
-        (100, Colour::Red, Colour::Red, (2000, 1000)),
-        (1000, Colour::Yellow, Colour::Yellow, (2000, 0)),
-        (2000, Colour::Green, Colour::Green, (0, 1000)),
+    for (octets, dscp, want, left) in [
+        (100, 14, Colour::Red, (2000, 1000)),
+        (1000, 12, Colour::Yellow, (2000, 0)),
+        (2000, 46, Colour::Green, (0, 1000)),
     ] {
+        let pre = precolour(dscp, Colour::Green);
         let (colour, state) = step(&rt, &aware, aware.start(), 0, T, octets, pre);
         assert_eq!(rt; (colour, levels(state)), (want, left));
         let (colour, _) = step(&rt, &blind, blind.start(), 0, T, octets, pre);
@@ -90,7 +140,7 @@ fn precolours_count_where_aware(rt: HostRuntime) -> Result<(), Fail> {
 }
 
 #[test]
-fn faults_come_in_order_and_say_why(rt: HostRuntime) -> Result<(), Fail> {
+fn faults_come_in_order(rt: HostRuntime) {
     let most = 1_000_000_000_000;
     let over = most + 1;
     for (cir, cbs, ebs, want) in [
@@ -104,6 +154,35 @@ fn faults_come_in_order_and_say_why(rt: HostRuntime) -> Result<(), Fail> {
     ] {
         assert_eq!(rt; SrTcm::new(cir, cbs, ebs, false).err(), want);
     }
+    for (pir, pbs, cir, cbs, want) in [
+        (1, 0, over, 1, Some(MeterFault::NoBurst)),
+        (1, 1, over, 0, Some(MeterFault::NoBurst)),
+        (most, 1, over, 1, Some(MeterFault::PeakBelowCommitted)),
+        (0, over, 1, over, Some(MeterFault::PeakBelowCommitted)),
+        (over, 1, 0, 1, Some(MeterFault::RateRange)),
+        (1, over, 1, 1, Some(MeterFault::RateRange)),
+        (1, 1, 1, over, Some(MeterFault::RateRange)),
+        (most, most, most, most, None),
+        (0, 1, 0, 1, None),
+    ] {
+        assert_eq!(rt; TrTcm::new(pir, pbs, cir, cbs, false).err(), want);
+    }
+    for (cir, cbs, eir, ebs, want) in [
+        (over, 0, over, 0, Some(MeterFault::NoBurst)),
+        (over, 1, 1, 0, Some(MeterFault::RateRange)),
+        (1, over, 1, 0, Some(MeterFault::RateRange)),
+        (1, 1, over, 0, Some(MeterFault::RateRange)),
+        (1, 0, 1, over, Some(MeterFault::RateRange)),
+        (most, most, most, most, None),
+        (1, 1, 0, 0, None),
+        (1, 0, 0, 1, None),
+    ] {
+        assert_eq!(rt; Rfc4115::new(cir, cbs, eir, ebs, true, false).err(), want);
+    }
+}
+
+#[test]
+fn faults_say_why(rt: HostRuntime) -> Result<(), Fail> {
     for (fault, number, text) in [
         (
             MeterFault::NoBurst,
@@ -156,11 +235,13 @@ fn ticks_are_counted_tokens(rt: HostRuntime) {
 
 /// A packet of some size near what the buckets have, at some later time, of some colour.
 fn some_packet(seed: u64, slow: &Slow) -> (u64, u32, Colour) {
-    let octets = match seed / 8 % 5 {
+    let octets = match seed / 8 % 7 {
         0 => slow.committed,
         1 => slow.committed.wrapping_add(1),
-        2 => slow.excess,
-        3 => slow.excess.wrapping_add(1),
+        2 => slow.committed.wrapping_sub(1),
+        3 => slow.second,
+        4 => slow.second.wrapping_add(1),
+        5 => slow.second.wrapping_sub(1),
         _ => seed / 64 % 12,
     };
     let pre = match seed / 1024 % 3 {
@@ -171,9 +252,22 @@ fn some_packet(seed: u64, slow: &Slow) -> (u64, u32, Colour) {
     (seed % 6, (octets % 4096) as u32, pre)
 }
 
+/// The meter that has the parameters of a slow one. RFC 2697 has no second rate.
+fn meter_of(slow: &Slow) -> Result<AnyMeter, MeterFault> {
+    let (cir, cbs) = (slow.cir, slow.cbs);
+    let (rate, size) = (slow.second_rate, slow.second_size);
+    match slow.kind {
+        Kind::Rfc2697 => SrTcm::new(cir, cbs, size, slow.aware).map(AnyMeter::from),
+        Kind::Rfc2698 => TrTcm::new(rate, size, cir, cbs, slow.aware).map(AnyMeter::from),
+        Kind::Rfc4115 { exact_fit } => {
+            Rfc4115::new(cir, cbs, rate, size, exact_fit, slow.aware).map(AnyMeter::from)
+        }
+    }
+}
+
 /// Compares a meter with the slow one over some packets, from time 0 on.
 fn compare(rt: &impl Abort, slow: Slow, first_seed: u64) {
-    let Ok(meter) = SrTcm::new(slow.cir, slow.cbs, slow.ebs, slow.aware) else {
+    let Ok(meter) = meter_of(&slow) else {
         assert!(rt; false, "a meter");
         return;
     };
@@ -192,27 +286,59 @@ fn compare(rt: &impl Abort, slow: Slow, first_seed: u64) {
         slow.wait(time, time + gap, 180);
         let (colour, next) = step(rt, &meter, state, time, time + gap, octets, pre);
         assert_eq!(rt; colour, slow.take(octets as u64, pre), "{slow:?}");
-        assert_eq!(rt; levels(next), (slow.committed, slow.excess), "{slow:?}");
+        assert_eq!(rt; levels(next), (slow.committed, slow.second), "{slow:?}");
         state = next;
         time += gap;
+    }
+}
+
+/// Compares the meter of these parameters, blind and aware.
+fn compare_modes(rt: &impl Abort, kind: Kind, (cir, cbs): (u64, u64), (rate, size): (u64, u64)) {
+    for aware in [false, true] {
+        let slow = Slow {
+            kind,
+            cir,
+            cbs,
+            second_rate: rate,
+            second_size: size,
+            aware,
+            committed: cbs,
+            second: size,
+        };
+        compare(rt, slow, cir);
+        compare(rt, slow, cbs);
     }
 }
 
 #[test]
 fn colours_are_those_by_single_tokens(rt: HostRuntime) {
     for cir in RATES {
-        for (cbs, ebs) in [(0, 1), (1, 0), (1, 1), (2, 0), (5, 3), (40, 10)] {
-            for aware in [false, true] {
-                let slow = Slow {
-                    cir,
-                    cbs,
-                    ebs,
-                    aware,
-                    committed: cbs,
-                    excess: ebs,
-                };
-                compare(&rt, slow, cir);
-                compare(&rt, slow, cbs);
+        for (cbs, size) in [(0, 1), (1, 0), (1, 1), (2, 0), (5, 3), (40, 10)] {
+            compare_modes(&rt, Kind::Rfc2697, (cir, cbs), (0, size));
+        }
+    }
+}
+
+#[test]
+fn colours_of_two_rates_are_those_by_single_tokens(rt: HostRuntime) {
+    for cir in RATES {
+        for rate in [cir, 3000] {
+            for (cbs, size) in [(1, 1), (2, 7), (5, 3), (40, 50)] {
+                compare_modes(&rt, Kind::Rfc2698, (cir, cbs), (rate, size));
+            }
+        }
+    }
+}
+
+#[test]
+fn colours_of_fits_are_those_by_single_tokens(rt: HostRuntime) {
+    for cir in RATES {
+        for rate in [0, 1001] {
+            for (cbs, size) in [(0, 1), (1, 0), (2, 7), (5, 3), (40, 10)] {
+                for exact_fit in [false, true] {
+                    let kind = Kind::Rfc4115 { exact_fit };
+                    compare_modes(&rt, kind, (cir, cbs), (rate, size));
+                }
             }
         }
     }

@@ -1,0 +1,13 @@
+pub mod Contents
+pub mod Each
+pub mod Gathering
+pub mod Logs
+pub mod Noting
+pub mod Parts
+pub mod Places
+pub mod Ranks
+pub mod Search
+pub mod Ties
+pub mod Undisputed
+pub mod Uniting
+pub mod Whole

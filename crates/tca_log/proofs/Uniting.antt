@@ -1,0 +1,112 @@
+-- A log that gets many reports at once.
+use Rattle.std.proofs.Common.{◌≡◌, suc, ◌+◌, ◌≤◌, Bool, true, false, not, ◌&&◌, ◌||◌, cond, List, [], ◌∷◌, ◌++◌, length, map, filter, refl, sym, ap, subst, ◌∙◌, arith}
+use Rattle.std.specs.Prelude.{nat_lt}
+use Rattle.std.proofs.lemmas.List.Sums.{length-filter}
+use Rattle.std.specs.List.Sorted.{IsStrictlySortedBy, IsPermutation}
+use Rattle.std.specs.Ordering.{eq_by_cmp}
+use Rattle.std.specs.Cmp.{IsTotalOrder}
+use Rattle.std.specs.declared.cmp.Ordering.{Ordering}
+use Rattle.std.proofs.lemmas.Map.Lookups.{CmpEqualImpliesEq}
+use Rattle.std.proofs.lemmas.List.Sorted.{IsPermutation-map, list_any-IsPermutation, length_permutation, sum_by-IsPermutation}
+use Rattle.tca_join.specs.Sets.{has, put, in_order}
+use Rattle.tca_join.proofs.Sets.{has-append, has-in_order, rises_in_order, only_one, all_more}
+use Rattle.tca_report.specs.Reports.{PacketReport, report_cmp}
+use Rattle.tca_report.specs.Identities.{identity_of, identity_cmp}
+use Rattle.tca_report.proofs.Order.{report_total}
+use Rattle.tca_report.proofs.Identities.{identity_total}
+use Rattle.tca_report.specs.declared.report.Identity.{Identity}
+use Rattle.tca_log.specs.declared.by_identity.ByIdentity.{ByIdentity}
+use Rattle.tca_log.specs.Chunks.{put_each, without_each, AreApart}
+use Rattle.tca_log.specs.Disputes.{contents}
+use Rattle.tca_log.specs.Logs.{index_cmp, indexed, count_at, IsLog, AreNotes, Noted, noted_all, reports_of}
+use Rattle.tca_log.proofs.Each.{has-put_each, rises_put_each, all_put_each, length-put_each, still_apart, beyond_rises, beyond_apart}
+use Rattle.tca_log.proofs.Contents.{length-filter_put, disputed_rises, disputed_is, has-filter}
+use Rattle.tca_log.proofs.Logs.{index_total}
+use Rattle.tca_log.proofs.Noting.{notes_all, or_comm, or_true, put_each_longest}
+
+reports_back : (rs : List PacketReport) → reports_of (map indexed rs) ≡ rs
+reports_back [] = refl
+reports_back (r ∷ rs) = ap (λ (l : List PacketReport). r ∷ l) (reports_back rs)
+
+module _ (news : List PacketReport) (keys : List ByIdentity) (same : IsPermutation (map indexed news) keys) where
+  moved : IsPermutation news (reports_of keys)
+  moved = subst (λ (l : List PacketReport). IsPermutation l (reports_of keys)) (reports_back news) (IsPermutation-map (λ b. b.report) (map indexed news) keys same)
+
+  pub count_moved : (i : Identity) → count_at (reports_of keys) i ≡ count_at news i
+  unfolding contents
+  count_moved i =
+      length-filter (λ r. eq_by_cmp identity_cmp i (identity_of r)) (reports_of keys)
+      ∙ sum_by-IsPermutation (λ r. cond (eq_by_cmp identity_cmp i (identity_of r)) 1 0) news (reports_of keys) moved
+      ∙ sym (length-filter (λ r. eq_by_cmp identity_cmp i (identity_of r)) news)
+
+  pub has_moved : (r : PacketReport) → has report_cmp (reports_of keys) r ≡ has report_cmp news r
+  unfolding has
+  has_moved r = sym (list_any-IsPermutation (eq_by_cmp report_cmp r) news (reports_of keys) moved)
+
+  pub length_moved : length (reports_of keys) ≡ length news
+  length_moved = length_permutation news (reports_of keys) moved
+
+  pub length_keys : length keys ≡ length news
+  length_keys = mapped keys ∙ length_moved
+    where
+      mapped : (ks : List ByIdentity) → length ks ≡ length (reports_of ks)
+      mapped [] = refl
+      mapped (k ∷ ks) = ap suc (mapped ks)
+
+count_put_each : (news rs : List PacketReport) (i : Identity) → IsStrictlySortedBy report_cmp news → AreApart report_cmp news rs → count_at (put_each report_cmp news rs) i ≡ count_at rs i + count_at news i
+unfolding put_each contents IsStrictlySortedBy
+count_put_each [] rs i s a = omega arith
+count_put_each (r ∷ news) rs i s a =
+    count_put_each news (put report_cmp r rs) i s.1 (still_apart report_cmp report_total r news rs s.0 a.1)
+    ∙ ap (λ n. n + length (filter (λ x. eq_by_cmp identity_cmp i (identity_of x)) news)) (length-filter_put report_cmp (λ x. eq_by_cmp identity_cmp i (identity_of x)) r rs a.0)
+    ∙ elim (eq_by_cmp identity_cmp i (identity_of r)) as (λ b. (length (filter (λ x. eq_by_cmp identity_cmp i (identity_of x)) rs) + cond b 1 0) + length (filter (λ x. eq_by_cmp identity_cmp i (identity_of x)) news) ≡ length (filter (λ x. eq_by_cmp identity_cmp i (identity_of x)) rs) + length (cond b (r ∷ filter (λ x. eq_by_cmp identity_cmp i (identity_of x)) news) (filter (λ x. eq_by_cmp identity_cmp i (identity_of x)) news))) [ true ↦ omega arith | false ↦ omega arith ]
+
+-- the three parts with all that is new
+module _ (rs : List PacketReport) (index : List ByIdentity) (doubled : List Identity) (news : List PacketReport) (keys : List ByIdentity) (n : Noted) (log : IsLog rs index doubled) (same : IsPermutation (map indexed news) keys)
+    (is : n ≡ noted_all index doubled keys (record { fresh = []; twice = [] })) where
+  pub notes : AreNotes rs index doubled (reports_of keys) n.fresh n.twice
+  notes = notes_all rs index doubled keys n log is
+
+  pub few_fresh : length n.fresh ≤ length news
+  few_fresh = omega (arith, notes.fewer, length_moved news keys same)
+
+  pub few_twice : length n.twice ≤ length news
+  few_twice = omega (arith, notes.fewer_disputes, length_moved news keys same)
+
+  pub united_log : IsStrictlySortedBy report_cmp news → AreApart report_cmp news rs → length rs + length news ≤ 4194304 → IsLog (put_each report_cmp news rs) (put_each index_cmp n.fresh index) (put_each identity_cmp n.twice doubled)
+  united_log s a few = record {
+    rises = rises_put_each report_cmp report_total news rs log.rises;
+    limit = omega (arith, longer, few);
+    known = λ r. has-put_each index_cmp index_total n.fresh index (indexed r) ∙ or_comm (has index_cmp n.fresh (indexed r)) (has index_cmp index (indexed r)) ∙ notes.known r ∙ ap (nat_lt 0) (counts (identity_of r));
+    among = all_put_each index_cmp index_total (λ b. has report_cmp (put_each report_cmp news rs) b.report ≡ true) n.fresh index
+        (all_more (λ b. has report_cmp (reports_of keys) b.report ≡ true) (λ b. has report_cmp (put_each report_cmp news rs) b.report ≡ true) (λ b e. has-put_each report_cmp report_total news rs b.report ∙ ap (λ c. c || has report_cmp rs b.report) (sym (has_moved news keys same b.report) ∙ e)) n.fresh notes.among)
+        (all_more (λ b. has report_cmp rs b.report ≡ true) (λ b. has report_cmp (put_each report_cmp news rs) b.report ≡ true) (λ b e. has-put_each report_cmp report_total news rs b.report ∙ ap (λ c. has report_cmp news b.report || c) e ∙ or_true (has report_cmp news b.report)) index log.among);
+    disputes = disputed_is (put_each report_cmp news rs) (put_each identity_cmp n.twice doubled) (rises_put_each identity_cmp identity_total n.twice doubled (subst (IsStrictlySortedBy identity_cmp) (sym log.disputes) (disputed_rises rs)))
+        (λ i. has-put_each identity_cmp identity_total n.twice doubled i ∙ or_comm (has identity_cmp n.twice i) (has identity_cmp doubled i) ∙ notes.doubled i ∙ ap (nat_lt 1) (counts i));
+    fewer = omega (arith, put_each_longest index_cmp n.fresh index, few_fresh, log.fewer, longer);
+    fewer_disputes = omega (arith, put_each_longest identity_cmp n.twice doubled, few_twice, log.fewer_disputes, longer);
+  }
+    where
+      counts : (i : Identity) → count_at rs i + count_at (reports_of keys) i ≡ count_at (put_each report_cmp news rs) i
+      counts i = ap (λ m. count_at rs i + m) (count_moved news keys same i) ∙ sym (count_put_each news rs i s a)
+
+      longer : length (put_each report_cmp news rs) ≡ length rs + length news
+      longer = length-put_each report_cmp report_total news rs s a
+
+-- a set with all that is new to it is the union
+module _ {K : Type 0} (R : K → K → Ordering) (o : IsTotalOrder R) (exact : CmpEqualImpliesEq R) where
+  or_beyond : (a b : Bool) → ((not a && b) || a) ≡ (a || b)
+  or_beyond true b = refl
+  or_beyond false true = refl
+  or_beyond false false = refl
+
+  pub union_is : (rs others : List K) → IsStrictlySortedBy R rs → put_each R (without_each R rs others) rs ≡ in_order R (rs ++ others)
+  unfolding without_each
+  union_is rs others s = only_one R o exact (put_each R (filter (λ x. not (has R rs x)) others) rs) (in_order R (rs ++ others)) (rises_put_each R o (filter (λ x. not (has R rs x)) others) rs s) (rises_in_order R o (rs ++ others)) (λ q.
+      has-put_each R o (filter (λ x. not (has R rs x)) others) rs q
+      ∙ ap (λ b. b || has R rs q) (has-filter R exact (λ x. not (has R rs x)) others q)
+      ∙ or_beyond (has R rs q) (has R others q)
+      ∙ sym (has-in_order R o (rs ++ others) q ∙ has-append R o rs others q))
+
+  pub union_length : (rs others : List K) → IsStrictlySortedBy R rs → IsStrictlySortedBy R others → length (in_order R (rs ++ others)) ≡ length rs + length (without_each R rs others)
+  union_length rs others s t = sym (ap length (union_is rs others s)) ∙ length-put_each R o (without_each R rs others) rs (beyond_rises R o rs others t) (beyond_apart R o rs others)

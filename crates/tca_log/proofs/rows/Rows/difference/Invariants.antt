@@ -1,0 +1,7 @@
+use Rattle.std.proofs.Common.{[]}
+use Rattle.tca_log.specs.Chunks.{without_each}
+use Rattle.tca_log.proofs.Each.{ArePutting}
+use Rattle.tca_log.proofs.rows.Rows.difference.Given as goal
+
+abbrev pub invariant-loop-key : goal.invariant-loop-key
+invariant-loop-key g l = ArePutting g.K.Ord.cmp (without_each g.K.Ord.cmp l.held.rows l.self.rows) [] l.rest.rows (without_each g.K.Ord.cmp l.held.rows l.key-iterator)

@@ -1,0 +1,20 @@
+-- What a log refuses.
+use Rattle.std.specs.Prelude.{◌≡◌, ◌<◌, ◌≤◌, ℕ, List, length}
+use Rattle.tca_report.specs.Reports.{PacketReport}
+use Rattle.tca_log.specs.declared.fault.LogFault.{LogFault}
+use Rattle.tca_log.specs.declared.fault.LogFault.TheVariants.{Full, Memory}
+
+-- the number of a fault
+abbrev pub fault_number : LogFault → ℕ
+fault_number Full = 1
+fault_number Memory = 2
+
+-- a set that has room for no further report is full, and memory was asked for only where there was room
+abbrev pub IsAddRefused : LogFault → List PacketReport → Type 0
+IsAddRefused Full rs = length rs ≡ 4194304
+IsAddRefused Memory rs = length rs < 4194304
+
+-- full exactly where the union is above the limit
+abbrev pub IsUnionRefused : LogFault → List PacketReport → Type 0
+IsUnionRefused Full all = 4194304 < length all
+IsUnionRefused Memory all = length all ≤ 4194304

@@ -1,0 +1,5 @@
+pub mod Chunks
+pub mod Disputes
+pub mod Faults
+pub mod Logs
+pub mod LogJoin

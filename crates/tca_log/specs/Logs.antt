@@ -1,0 +1,92 @@
+-- A log's set, with what is kept beside it: a content of each identity, and the identities that are disputed.
+use Rattle.std.specs.Prelude.{◌≡◌, ℕ, ◌+◌, ◌≤◌, ◌||◌, if◌then◌else◌, Bool, true, false, List, [], ◌∷◌, length, map, nat_lt, Option, Some, None}
+use Rattle.std.specs.List.{AllByRecursion}
+use Rattle.std.specs.List.Sorted.{IsStrictlySortedBy}
+use Rattle.std.specs.declared.cmp.Ordering.{Ordering}
+use Rattle.tca_join.specs.Sets.{has, put}
+use Rattle.tca_report.specs.Reports.{PacketReport, report_cmp}
+use Rattle.tca_report.specs.Identities.{identity_of, identity_cmp}
+use Rattle.tca_report.specs.declared.report.Identity.{Identity}
+use Rattle.tca_log.specs.declared.answer.Added.{Added}
+use Rattle.tca_log.specs.declared.answer.Added.TheVariants.{Fresh, NewDispute, MoreDispute}
+use Rattle.tca_log.specs.declared.by_identity.ByIdentity.{ByIdentity}
+use Rattle.tca_log.specs.Chunks.{tied, AreApart}
+use Rattle.tca_log.specs.Disputes.{by_identity_cmp, contents, disputed}
+
+-- the order of the index
+abbrev pub index_cmp : ByIdentity → ByIdentity → Ordering
+index_cmp a b = by_identity_cmp a.report b.report
+
+-- a report as a row of the index
+abbrev pub indexed : PacketReport → ByIdentity
+indexed r = record { report = r }
+
+-- how many members an identity has
+abbrev pub count_at : List PacketReport → Identity → ℕ
+count_at rs i = length (contents rs i)
+
+-- a log's three parts agree
+pub record IsLog (rs : List PacketReport) (index : List ByIdentity) (doubled : List Identity) : Type 0 where
+  pub rises : IsStrictlySortedBy report_cmp rs
+  pub limit : length rs ≤ 4194304
+  pub known : (r : PacketReport) → has index_cmp index (indexed r) ≡ nat_lt 0 (count_at rs (identity_of r))
+  pub among : AllByRecursion (λ b. has report_cmp rs b.report ≡ true) index
+  pub disputes : doubled ≡ disputed rs
+  pub fewer : length index ≤ length rs
+  pub fewer_disputes : length doubled ≤ length rs
+
+-- the content that the index has of a report's identity
+abbrev pub first_of : List ByIdentity → PacketReport → Option ByIdentity
+first_of index r = tied index_cmp (indexed r) index
+
+-- whether a report's identity is among those that are disputed
+abbrev pub is_disputed : List Identity → PacketReport → Bool
+is_disputed disputes r = has identity_cmp disputes (identity_of r)
+
+-- the answer to a report that is not there, by a content of its identity and whether that identity is disputed
+abbrev pub answered : Option ByIdentity → Bool → Added
+answered None doubled = Fresh
+answered (Some first) true = MoreDispute
+answered (Some first) false = NewDispute first.report
+
+-- the index with a new report
+abbrev pub index_after : Option ByIdentity → PacketReport → List ByIdentity → List ByIdentity
+index_after None r index = put index_cmp (indexed r) index
+index_after (Some first) r index = index
+
+-- the disputed identities with a new report
+abbrev pub disputes_after : Option ByIdentity → Bool → PacketReport → List Identity → List Identity
+disputes_after None doubled r disputes = disputes
+disputes_after (Some first) true r disputes = disputes
+disputes_after (Some first) false r disputes = put identity_cmp (identity_of r) disputes
+
+-- what reports that are new to a log add to its index and to its disputed identities
+pub record AreNotes (rs : List PacketReport) (index : List ByIdentity) (disputes : List Identity) (news : List PacketReport) (fresh : List ByIdentity) (twice : List Identity) : Type 0 where
+  pub known : (r : PacketReport) → (has index_cmp index (indexed r) || has index_cmp fresh (indexed r)) ≡ nat_lt 0 (count_at rs (identity_of r) + count_at news (identity_of r))
+  pub doubled : (i : Identity) → (has identity_cmp disputes i || has identity_cmp twice i) ≡ nat_lt 1 (count_at rs i + count_at news i)
+  pub among : AllByRecursion (λ b. has report_cmp news b.report ≡ true) fresh
+  pub apart : AreApart index_cmp fresh index
+  pub apart_disputes : AreApart identity_cmp twice disputes
+  pub fewer : length fresh ≤ length news
+  pub fewer_disputes : length twice ≤ length news
+
+-- the first contents of identities that were unknown, and the identities that become disputed
+pub record Noted : Type 0 where
+  pub fresh : List ByIdentity
+  pub twice : List Identity
+
+-- these with one more report
+abbrev pub noted : List ByIdentity → List Identity → ByIdentity → Noted → Noted
+noted index disputes key n =
+    if has index_cmp index key || has index_cmp n.fresh key
+    then (if has identity_cmp disputes (identity_of key.report) || has identity_cmp n.twice (identity_of key.report) then n else record { fresh = n.fresh; twice = put identity_cmp (identity_of key.report) n.twice })
+    else record { fresh = put index_cmp key n.fresh; twice = n.twice }
+
+-- these with one report after another
+unfoldable pub noted_all : List ByIdentity → List Identity → List ByIdentity → Noted → Noted
+noted_all index disputes [] n = n
+noted_all index disputes (key ∷ keys) n = noted_all index disputes keys (noted index disputes key n)
+
+-- the reports of rows of the index
+abbrev pub reports_of : List ByIdentity → List PacketReport
+reports_of keys = map (λ b. b.report) keys

@@ -1,0 +1,50 @@
+//! The rows of a container, one after another.
+ghost use Rattle.std.specs.Prelude.{◌≡◌, ◌++◌};
+ghost use Rattle.std.specs.Iterator.{YieldsFirstRef, item_count};
+ghost use Rattle.tca_log.specs.Chunks.{joined};
+
+use crate::chunk::Chunk;
+use std::marker::Model;
+
+/// Rows in order, borrowed from their container.
+#[derive(Drop)]
+pub struct RowsIter<'a, K: Ord + Copy> {
+    now: &'a [K],
+    later: &'a [Chunk<K>],
+}
+
+impl<'a, K: Ord + Copy> Model for RowsIter<'a, K> {
+    ghost use Rattle.std.specs.Prelude.{List, ◌++◌};
+    ghost use Rattle.tca_log.specs.Chunks.{joined};
+
+    ghost Value = { List K };
+
+    ghost view = { λ r. r.now.now ++ joined r.later.now };
+}
+
+impl<'a, K: Ord + Copy> RowsIter<'a, K> {
+    pub(crate) fn new(now: &'a [K], later: &'a [Chunk<K>]) -> RowsIter<'a, K>
+        ensures { result ≡ now.now ++ joined later.now }
+    {
+        RowsIter { now, later }
+    }
+}
+
+impl<'a, K: Ord + Copy> Iterator for RowsIter<'a, K> {
+    type Item = &'a K;
+
+    ghost next_gives = { YieldsFirstRef (λ s. s) };
+
+    ghost remaining = { item_count (λ s. s) };
+
+    fn next(&mut self) -> Option<&'a K> {
+        while self.now.is_empty() {
+            let (chunk, others) = self.later.split_first()?;
+            self.now = chunk.rows();
+            self.later = others;
+        }
+        let (first, others) = self.now.split_first()?;
+        self.now = others;
+        Some(first)
+    }
+}

@@ -1,0 +1,35 @@
+//! The log: a finite set of packet reports in their order, with the disputes among them.
+//!
+//! Logs that got the same reports are equal, in whatever order, with whatever repeats and unions they came.
+//! An identity with two or more contents is disputed, and none of them is settled. Each call either does all
+//! that it says or leaves the log as it was. A report is found and added by binary searches in ordered chunks,
+//! so that no choice of identities or times by a stranger makes a log slow.
+//!
+//! - `rows`: the ordered container, with `chunk`, `locate` and `iter` beneath it;
+//! - `log`, `union`: the log, one report and many reports at a time;
+//! - `index`, `notes`, `by_identity`: which identities the log knows, and which are disputed;
+//! - `settled`: the reports that no other disputes; `answer`, `fault`: what a log answers.
+#![tactic(auto)]
+
+mod answer;
+mod by_identity;
+mod chunk;
+mod fault;
+mod index;
+mod iter;
+mod joins;
+mod locate;
+mod log;
+mod notes;
+pub mod rows;
+mod settled;
+mod union;
+
+pub use answer::Added;
+pub use fault::LogFault;
+pub use iter::RowsIter;
+pub use log::Log;
+pub use settled::Settled;
+
+#[cfg(test)]
+mod tests;

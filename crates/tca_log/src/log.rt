@@ -1,0 +1,127 @@
+//! The log itself.
+ghost use Rattle.std.specs.Prelude.{◌≡◌, ℕ, ◌+◌, ◌<◌, ◌≤◌, false, [], length, IfOk, IfErr, OnOk, OnErr};
+ghost use Rattle.std.specs.List.Sorted.{IsStrictlySortedBy};
+ghost use Rattle.tca_join.specs.Sets.{has, put};
+ghost use Rattle.tca_report.specs.Reports.{report_cmp};
+ghost use Rattle.tca_log.specs.Disputes.{added, undisputed, disputed};
+ghost use Rattle.tca_log.specs.Faults.{IsAddRefused};
+
+use crate::answer::Added;
+use crate::by_identity::ByIdentity;
+use crate::fault::LogFault;
+use crate::index::enter;
+use crate::iter::RowsIter;
+use crate::rows::{LIMIT, Rows};
+use crate::settled::Settled;
+use std::alloc::{AllocError, Global};
+use std::marker::Model;
+use tca_report::{Identity, Report};
+
+/// A finite set of packet reports, at most 4,194,304, in their order. It keeps all contents of an identity;
+/// two or more of them dispute one another, and none of these is settled.
+///
+/// Adding a report costs a search among the reports and one among the identities, whatever their values are.
+#[derive(Drop)]
+pub struct Log {
+    pub(crate) rows: Rows<Report>,
+    pub(crate) index: Rows<ByIdentity>,
+    pub(crate) disputed: Rows<Identity>,
+}
+
+impl Model for Log {
+    ghost use Rattle.std.specs.Prelude.{List};
+    ghost use Rattle.tca_report.specs.Reports.{PacketReport};
+    ghost use Rattle.tca_log.specs.Logs.{IsLog};
+
+    ghost Value = { List PacketReport };
+
+    ghost view = { λ l. l.rows.rows };
+
+    ghost invariant = { λ l. IsLog l.rows.rows l.index.rows l.disputed.rows };
+}
+
+impl Log {
+    /// A log without reports. It takes no memory.
+    pub fn new(alloc: Global) -> Log
+        ensures { result ≡ [] }
+    {
+        Log {
+            rows: Rows::new(alloc),
+            index: Rows::new(alloc),
+            disputed: Rows::new(alloc),
+        }
+    }
+
+    /// How many reports there are.
+    pub fn len(&self) -> u32
+        ensures length { result ≡ length self.now }
+        ensures limit { length self.now ≤ 4194304 }
+    {
+        self.rows.len() as u32
+    }
+
+    /// Whether the report is there.
+    pub fn contains(&self, report: &Report) -> bool
+        ensures { result ≡ has report_cmp self.now report.now }
+    {
+        self.rows.contains(report)
+    }
+
+    /// How many identities have two or more contents.
+    pub fn disputed(&self) -> u32
+        ensures { result ≡ length (disputed self.now) }
+    {
+        self.disputed.len() as u32
+    }
+
+    /// All reports, in order.
+    pub fn reports(&self) -> RowsIter<'_, Report>
+        ensures all { result ≡ self.now }
+        ensures rises { IsStrictlySortedBy report_cmp self.now }
+        ensures limit { length self.now ≤ 4194304 }
+    {
+        self.rows.iter()
+    }
+
+    /// The reports whose identity has no other content, in order.
+    pub fn settled(&self) -> Settled<'_>
+        ensures all { result ≡ undisputed self.now }
+        ensures rises { IsStrictlySortedBy report_cmp (undisputed self.now) }
+        ensures limit { length (undisputed self.now) ≤ 4194304 }
+    {
+        Settled::new(&self.rows, &self.disputed)
+    }
+
+    /// Adds a report, and answers what it was to the log. A repeat changes nothing, takes no memory and is
+    /// never refused. `Full` comes where the log has 4,194,304 reports and this one is new, `Memory` where a
+    /// growth was refused; both leave the log as it was.
+    pub fn add(&mut self, report: Report) -> Result<Added, LogFault>
+        ensures answer { IfOk result (λ a. a ≡ added self.old report) }
+        ensures ok { OnOk result (self.new ≡ put report_cmp report self.old) }
+        ensures err { OnErr result (self.new ≡ self.old) }
+        ensures new { OnErr result (has report_cmp self.old report ≡ false) }
+        ensures fault { IfErr result (λ e. IsAddRefused e self.old) }
+    {
+        if self.rows.contains(&report) {
+            return Ok(Added::Repeat);
+        }
+        if self.rows.len() >= LIMIT {
+            return Err(LogFault::Full);
+        }
+        self.rows.reserve()?;
+        let answer = enter(&mut self.index, &mut self.disputed, report)?;
+        self.rows.put(report);
+        Ok(answer)
+    }
+
+    /// The same log once more.
+    pub fn copy(&self) -> Result<Log, AllocError>
+        ensures { IfOk result (λ c. c ≡ self.now) }
+    {
+        Ok(Log {
+            rows: self.rows.copy()?,
+            index: self.index.copy()?,
+            disputed: self.disputed.copy()?,
+        })
+    }
+}

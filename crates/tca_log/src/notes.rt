@@ -1,0 +1,90 @@
+//! What new reports add to a log's index and to its disputed identities.
+ghost use Rattle.std.specs.Prelude.{◌≡◌, ◌<◌, ◌≤◌, [], length, map, IfOk, OnOk};
+ghost use Rattle.std.specs.List.Sorted.{IsPermutation};
+ghost use Rattle.tca_log.specs.Logs.{indexed, noted, noted_all};
+
+use crate::by_identity::ByIdentity;
+use crate::rows::Rows;
+use std::alloc::{AllocError, Global};
+use std::marker::Model;
+use tca_report::{Identity, Report};
+
+/// The first contents of identities that were unknown, and the identities that become disputed.
+#[derive(Drop)]
+pub struct Notes {
+    pub fresh: Rows<ByIdentity>,
+    pub twice: Rows<Identity>,
+}
+
+impl Model for Notes {
+    ghost use Rattle.tca_log.specs.Logs.{Noted};
+
+    ghost Value = { Noted };
+
+    ghost view = { λ n. record { fresh = n.fresh.rows; twice = n.twice.rows } };
+}
+
+impl Notes {
+    /// Nothing noted yet.
+    pub fn new(alloc: Global) -> Notes
+        ensures { result ≡ record { fresh = []; twice = [] } }
+    {
+        Notes {
+            fresh: Rows::new(alloc),
+            twice: Rows::new(alloc),
+        }
+    }
+
+    /// Notes one more report.
+    pub fn note(
+        &mut self,
+        index: &Rows<ByIdentity>,
+        disputed: &Rows<Identity>,
+        key: ByIdentity,
+    ) -> Result<(), AllocError>
+        requires few { length self.old.fresh < 4194304 }
+        requires few_disputed { length self.old.twice < 4194304 }
+        ensures { OnOk result (self.new ≡ noted index.now.rows disputed.now.rows key self.old) }
+    {
+        if !index.contains(&key) && !self.fresh.contains(&key) {
+            self.fresh.reserve()?;
+            self.fresh.put(key);
+            return Ok(());
+        }
+        let identity = key.report.identity();
+        if !disputed.contains(&identity) && !self.twice.contains(&identity) {
+            self.twice.reserve()?;
+            self.twice.put(identity);
+        }
+        Ok(())
+    }
+}
+
+/// What all these add.
+pub fn note_all(
+    alloc: Global,
+    index: &Rows<ByIdentity>,
+    disputed: &Rows<Identity>,
+    keys: &[ByIdentity],
+) -> Result<Notes, AllocError>
+    requires { length keys.now ≤ 4194304 }
+    ensures { IfOk result (λ n. n ≡ noted_all index.now.rows disputed.now.rows keys.now (record { fresh = []; twice = [] })) }
+{
+    let mut notes = Notes::new(alloc);
+    for key in keys {
+        notes.note(index, disputed, *key)?;
+    }
+    Ok(notes)
+}
+
+/// The reports in the order of their identities, so that those that are searched for lie side by side.
+pub fn by_identity(alloc: Global, reports: &Rows<Report>) -> Result<Vec<ByIdentity>, AllocError>
+    ensures { IfOk result (λ keys. IsPermutation (map indexed reports.now.rows) keys.items) }
+{
+    let mut keys = Vec::with_capacity(alloc, reports.len())?;
+    for report in reports.iter() {
+        keys.push(ByIdentity { report: *report })?;
+    }
+    keys.sort_unstable();
+    Ok(keys)
+}

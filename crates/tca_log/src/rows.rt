@@ -1,0 +1,252 @@
+//! An ordered set that makes room first, and then takes no memory.
+ghost use Rattle.std.specs.Prelude.{◌≡◌, ℕ, true, false, ◌+◌, ◌-◌, ◌<◌, ◌≤◌, [], ◌∷◌, ◌++◌, length, drop, OnOk, OnErr, IfOk, IsTrue, Some, is_some, IfSome, vec_len, vec_capacity, option_copied};
+ghost use Rattle.std.specs.List.Sorted.{IsStrictlySortedBy};
+ghost use Rattle.tca_join.specs.Sets.{has, put};
+ghost use Rattle.tca_log.specs.Chunks.{without, rank, tied, put_each, without_each, AreApart, joined, AreChunks, Ordered};
+
+use crate::chunk::{CHUNK, Chunk};
+use crate::iter::RowsIter;
+use crate::locate::{count_of, from_row, place};
+use std::alloc::{AllocError, Global};
+use std::marker::Model;
+
+/// The most rows of a container.
+pub const LIMIT: usize = 4_194_304;
+
+/// Rows in strictly ascending order, at most 4,194,304. They lie in chunks of at most 256, so that putting
+/// one moves few others. `reserve` makes room for one row, and `put` and `withdraw` take no memory.
+#[derive(Drop)]
+pub struct Rows<K: Ord + Copy> {
+    chunks: Vec<Chunk<K>>,
+    spare: Option<Chunk<K>>,
+    count: usize,
+}
+
+impl<K: Ord + Copy> Model for Rows<K> {
+    ghost use Rattle.std.specs.Prelude.{is_some, vec_capacity};
+    ghost use Rattle.tca_log.specs.Chunks.{Ordered, joined, AreRows};
+
+    ghost Value = { Ordered K };
+
+    ghost view = { λ s. record { rows = joined s.chunks.items; ready = is_some s.spare } };
+
+    ghost invariant = { λ s. AreRows K.cmp s.chunks.items s.spare s.count (vec_capacity s.chunks) };
+}
+
+impl<K: Ord + Copy> Rows<K> {
+    /// A container without rows. It takes no memory.
+    pub fn new(alloc: Global) -> Rows<K>
+        ensures { result ≡ record { rows = []; ready = false } }
+    {
+        Rows {
+            chunks: Vec::new(alloc),
+            spare: None,
+            count: 0,
+        }
+    }
+
+    /// Where its memory comes from.
+    pub(crate) fn allocator(&self) -> Global {
+        *self.chunks.allocator()
+    }
+
+    /// How many rows there are.
+    pub fn len(&self) -> usize
+        ensures length { result ≡ length self.now.rows }
+        ensures limit { length self.now.rows ≤ 4194304 }
+        ensures rises { IsStrictlySortedBy K.cmp self.now.rows }
+    {
+        self.count
+    }
+
+    /// The rows in order.
+    pub fn iter(&self) -> RowsIter<'_, K>
+        ensures { result ≡ self.now.rows }
+    {
+        RowsIter::new(&[], &self.chunks)
+    }
+
+    /// The rows in order from one on, counted from 0.
+    pub fn iter_from(&self, row: usize) -> RowsIter<'_, K>
+        requires { row ≤ length self.now.rows }
+        ensures { result ≡ drop row self.now.rows }
+    {
+        from_row(&self.chunks, row)
+    }
+
+    /// The row that ties with this one in the order, if there is one.
+    pub fn get(&self, key: &K) -> Option<&K>
+        ensures { option_copied result ≡ tied K.cmp key.now self.now.rows }
+    {
+        if self.chunks.len() == 0 {
+            return None;
+        }
+        let at = place(&self.chunks, key);
+        self.chunks[at].get(key)
+    }
+
+    /// Whether a row ties with this one.
+    pub fn contains(&self, key: &K) -> bool
+        ensures { result ≡ has K.cmp self.now.rows key.now }
+    {
+        self.get(key).is_some()
+    }
+
+    /// How many rows come before this one.
+    pub fn rank(&self, key: &K) -> usize
+        ensures { result ≡ rank K.cmp key.now self.now.rows }
+    {
+        if self.chunks.len() == 0 {
+            return 0;
+        }
+        let at = place(&self.chunks, key);
+        count_of(&self.chunks[..at]) + self.chunks[at].rank(key)
+    }
+
+    /// Makes room for one more row. An error leaves all as it was, and comes only where there was no room yet.
+    pub fn reserve(&mut self) -> Result<(), AllocError>
+        ensures rows { self.new.rows ≡ self.old.rows }
+        ensures ready { OnOk result (self.new.ready ≡ true) }
+        ensures err { OnErr result (self.new ≡ self.old) }
+        ensures refused { OnErr result (self.old.ready ≡ false) }
+    {
+        if self.spare.is_none() {
+            self.chunks.reserve(1)?;
+            let alloc = *self.chunks.allocator();
+            self.spare = Some(Chunk::new(alloc)?);
+        }
+        Ok(())
+    }
+
+    /// Puts a row in its place. It takes no memory.
+    pub fn put(&mut self, key: K)
+        requires ready { self.old.ready ≡ true }
+        requires new { has K.cmp self.old.rows key ≡ false }
+        requires few { length self.old.rows < 4194304 }
+        ensures { self.new.rows ≡ put K.cmp key self.old.rows }
+    {
+        self.count += 1;
+        put_in(&mut self.chunks, &mut self.spare, key);
+    }
+
+    /// Takes away the row that ties with this one. It takes no memory.
+    pub fn withdraw(&mut self, key: &K)
+        requires there { has K.cmp self.old.rows key.now ≡ true }
+        ensures rows { self.new.rows ≡ without K.cmp key.now self.old.rows }
+        ensures ready { self.new.ready ≡ self.old.ready }
+    {
+        self.count -= 1;
+        take_from(&mut self.chunks, key);
+    }
+
+    /// Puts all rows of another container, or none where memory is short.
+    pub fn put_all(&mut self, other: &Rows<K>) -> Result<(), AllocError>
+        requires apart { AreApart K.cmp other.now.rows self.old.rows }
+        requires few { length self.old.rows + length other.now.rows ≤ 4194304 }
+        ensures ok { OnOk result (self.new.rows ≡ put_each K.cmp other.now.rows self.old.rows) }
+        ensures err { OnErr result (self.new.rows ≡ self.old.rows) }
+    {
+        if other.len() == 0 {
+            return Ok(());
+        }
+        for key in other.iter() {
+            if let Err(refused) = self.reserve() {
+                self.withdraw_all(other);
+                return Err(refused);
+            }
+            self.put(*key);
+        }
+        Ok(())
+    }
+
+    /// Takes away each row that ties with one of another container. It takes no memory.
+    pub fn withdraw_all(&mut self, other: &Rows<K>)
+        ensures { self.new.rows ≡ without_each K.cmp other.now.rows self.old.rows }
+    {
+        for key in other.iter() {
+            if self.contains(key) {
+                self.withdraw(key);
+            }
+        }
+    }
+
+    /// How many rows tie with none of another container.
+    pub fn count_beyond(&self, held: &Rows<K>) -> usize
+        ensures { result ≡ length (without_each K.cmp held.now.rows self.now.rows) }
+    {
+        let mut count = self.len();
+        for key in self.iter() {
+            if held.contains(key) {
+                count -= 1;
+            }
+        }
+        count
+    }
+
+    /// The rows that tie with none of another container.
+    pub fn difference(&self, held: &Rows<K>) -> Result<Rows<K>, AllocError>
+        ensures { IfOk result (λ rest. rest.rows ≡ without_each K.cmp held.now.rows self.now.rows) }
+    {
+        let mut rest = Rows::new(*self.chunks.allocator());
+        for key in self.iter() {
+            if !held.contains(key) {
+                rest.reserve()?;
+                rest.put(*key);
+            }
+        }
+        Ok(rest)
+    }
+
+    /// The same rows once more.
+    pub fn copy(&self) -> Result<Rows<K>, AllocError>
+        ensures { IfOk result (λ c. c.rows ≡ self.now.rows) }
+    {
+        let mut copy = Rows::new(*self.chunks.allocator());
+        copy.put_all(self)?;
+        Ok(copy)
+    }
+}
+
+// Puts a row in its chunk, or splits the chunk where it is full.
+fn put_in<K: Ord + Copy>(chunks: &mut Vec<Chunk<K>>, spare: &mut Option<Chunk<K>>, key: K)
+    requires chunks { AreChunks K.cmp chunks.old.items }
+    requires spare { spare.old ≡ Some [] }
+    requires room { vec_len chunks.old < vec_capacity chunks.old }
+    ensures joined { joined chunks.new.items ≡ put K.cmp key (joined chunks.old.items) }
+    ensures chunks { AreChunks K.cmp chunks.new.items }
+    ensures spare { IfSome spare.new (λ c. c ≡ []) }
+    ensures room { is_some spare.new ≡ true → vec_len chunks.new < vec_capacity chunks.new }
+{
+    if chunks.len() == 0 {
+        if let Some(mut first) = spare.take() {
+            first.push(key);
+            let _ = chunks.push(first);
+        }
+        return;
+    }
+    let at = place(chunks, &key);
+    if chunks[at].len() < CHUNK {
+        chunks[at].put(key);
+    } else if let Some(mut upper) = spare.take() {
+        let is_last = at + 1 == chunks.len();
+        chunks[at].put_splitting(&mut upper, key, is_last);
+        let _ = chunks.insert(at + 1, upper);
+    }
+}
+
+// Takes a row from its chunk, and the chunk away where it has no other.
+fn take_from<K: Ord + Copy>(chunks: &mut Vec<Chunk<K>>, key: &K)
+    requires chunks { AreChunks K.cmp chunks.old.items }
+    requires some { 0 < vec_len chunks.old }
+    ensures joined { joined chunks.new.items ≡ without K.cmp key.now (joined chunks.old.items) }
+    ensures chunks { AreChunks K.cmp chunks.new.items }
+    ensures fewer { vec_len chunks.new ≤ vec_len chunks.old }
+    ensures capacity { vec_capacity chunks.new ≡ vec_capacity chunks.old }
+{
+    let at = place(chunks, key);
+    let chunk = &mut chunks[at];
+    chunk.withdraw(key);
+    if chunk.len() == 0 {
+        let _ = chunks.remove(at);
+    }
+}

@@ -1,0 +1,338 @@
+use crate::rows::Rows;
+use crate::{Added, Log, LogFault};
+use std::alloc::{AllocError, Global};
+use std::test::Fail;
+use tca_report::{Content, Identity, Report};
+
+// The time of the first report of the worked rows.
+const START: u64 = 1_700_000_000_000;
+
+const LIMIT: u32 = 4_194_304;
+
+// Place, milliseconds after the first, octets: three identities, a late report, and two more contents of its identity.
+const ROWS: [(u32, u32, u32); 6] = [
+    (0, 0, 1500),
+    (1, 100, 1000),
+    (2, 200, 800),
+    (3, 50, 600),
+    (3, 60, 601),
+    (3, 70, 602),
+];
+
+fn report(place: u32, late: u32, octets: u32) -> Option<Report> {
+    Report::new(
+        Identity { domain: 7, place },
+        Content {
+            time: START + late as u64,
+            octets,
+            dscp: 0,
+            iface: 1,
+        },
+    )
+}
+
+fn rows(alloc: Global, count: usize) -> Result<Vec<Report>, AllocError> {
+    let mut list = Vec::new(alloc);
+    for (place, late, octets) in ROWS {
+        if let Some(report) = report(place, late, octets) {
+            list.push(report)?;
+        }
+    }
+    list.truncate(count);
+    Ok(list)
+}
+
+// The list in one of its orders: each code below the factorial of its length gives another one.
+fn in_turn(left: &mut Vec<Report>, code: usize, order: &mut Vec<Report>) -> Result<(), AllocError> {
+    let mut code = code;
+    for _ in 0..6 {
+        let count = left.len();
+        if count > 0 {
+            let next = left.remove(code % count);
+            order.push(next)?;
+            code /= count;
+        }
+    }
+    Ok(())
+}
+
+// What a plain list of reports answers to one more, which it then has.
+fn added_to(list: &mut Vec<Report>, report: Report) -> Result<Added, AllocError> {
+    if list.contains(&report) {
+        return Ok(Added::Repeat);
+    }
+    let mut answer = Added::Fresh;
+    for other in list.iter() {
+        if other.identity() == report.identity() {
+            answer = match answer {
+                Added::Fresh => Added::NewDispute { withdrawn: *other },
+                _ => Added::MoreDispute,
+            };
+        }
+    }
+    list.push(report)?;
+    Ok(answer)
+}
+
+fn contents_in(list: &[Report], identity: Identity) -> usize {
+    list.iter().filter(|r| r.identity() == identity).count()
+}
+
+fn has_reports(log: &Log, list: &[Report]) -> bool {
+    let mut left = log.reports();
+    for report in list {
+        match left.next() {
+            Some(next) => {
+                if next != report {
+                    return false;
+                }
+            }
+            None => return false,
+        }
+    }
+    left.next().is_none()
+}
+
+fn has_settled(log: &Log, list: &[Report]) -> bool {
+    let mut left = log.settled();
+    for report in list {
+        if contents_in(list, report.identity()) == 1 {
+            match left.next() {
+                Some(next) => {
+                    if next != report {
+                        return false;
+                    }
+                }
+                None => return false,
+            }
+        }
+    }
+    left.next().is_none()
+}
+
+// Adds each report to both, and compares the answers.
+fn add_each(log: &mut Log, plain: &mut Vec<Report>, order: &[Report]) -> Result<bool, AllocError> {
+    for report in order {
+        let wanted = added_to(plain, *report)?;
+        if log.add(*report) != Ok(wanted) {
+            return Ok(false);
+        }
+    }
+    Ok(true)
+}
+
+// Whether a log that gets the reports one by one answers as a plain list does and has what that has.
+fn agrees(alloc: Global, order: &[Report], disputed: u32) -> Result<bool, AllocError> {
+    let mut log = Log::new(alloc);
+    let mut plain = Vec::new(alloc);
+    let alike = add_each(&mut log, &mut plain, order)?;
+    plain.sort_unstable();
+    Ok(
+        alike
+            && has_reports(&log, &plain)
+            && has_settled(&log, &plain)
+            && log.len() as usize == plain.len()
+            && log.disputed() == disputed,
+    )
+}
+
+fn unites(alloc: Global, log: &mut Log, report: Report) -> bool {
+    let mut one = Log::new(alloc);
+    one.add(report) == Ok(Added::Fresh) && log.union(&one) == Ok(1) && log.union(&one) == Ok(0)
+}
+
+fn unites_each(alloc: Global, order: &[Report], list: &[Report]) -> bool {
+    let mut log = Log::new(alloc);
+    for report in order {
+        if !unites(alloc, &mut log, *report) {
+            return false;
+        }
+    }
+    has_reports(&log, list)
+}
+
+fn adds_all(alloc: Global, order: &[Report], list: &[Report], new: u32) -> bool {
+    let mut log = Log::new(alloc);
+    log.add_all(order) == Ok(new) && has_reports(&log, list) && has_settled(&log, list)
+}
+
+// Whether an order of the first reports, each twice, gives one log by all three calls.
+fn is_one_log(alloc: Global, code: usize) -> Result<bool, AllocError> {
+    let list = &rows(alloc, 3)?;
+    let mut order = Vec::new(alloc);
+    in_turn(&mut rows(alloc, 3)?, code, &mut order)?;
+    let united = unites_each(alloc, &order, list);
+    in_turn(&mut rows(alloc, 3)?, code, &mut order)?;
+    Ok(united && adds_all(alloc, &order, list, 3) && agrees(alloc, &order, 0)?)
+}
+
+fn agrees_in_turn(
+    alloc: Global,
+    count: usize,
+    code: usize,
+    disputed: u32,
+) -> Result<bool, AllocError> {
+    let mut order = Vec::new(alloc);
+    in_turn(&mut rows(alloc, count)?, code, &mut order)?;
+    agrees(alloc, &order, disputed)
+}
+
+#[test]
+fn every_order_and_repeats_give_one_log(rt: HostRuntime) -> Result<(), Fail> {
+    for code in 0..6 {
+        assert!(rt; is_one_log(rt.alloc(), code)?);
+    }
+    Ok(())
+}
+
+#[test]
+fn disputes_do_not_depend_on_the_order(rt: HostRuntime) -> Result<(), Fail> {
+    for code in 0..720 {
+        assert!(rt; agrees_in_turn(rt.alloc(), 4, code, 0)?);
+        assert!(rt; agrees_in_turn(rt.alloc(), 5, code, 1)?);
+        assert!(rt; agrees_in_turn(rt.alloc(), 6, code, 1)?);
+    }
+    Ok(())
+}
+
+// The answers to the late contents in the order of the worked rows, and a copy.
+fn answers_late(log: &mut Log, late: Report, second: Report, third: Report) -> bool {
+    log.add(late) == Ok(Added::Fresh)
+        && log.contains(&late)
+        && !log.contains(&second)
+        && log.add(second) == Ok(Added::NewDispute { withdrawn: late })
+        && log.add(third) == Ok(Added::MoreDispute)
+        && log.add(second) == Ok(Added::Repeat)
+}
+
+fn copies(alloc: Global) -> Result<bool, AllocError> {
+    let list = rows(alloc, 6)?;
+    let mut log = Log::new(alloc);
+    let added = log.add_all(&list) == Ok(6);
+    let mut sorted = list;
+    sorted.sort_unstable();
+    let copy = log.copy()?;
+    Ok(added && has_reports(&copy, &sorted) && has_settled(&copy, &sorted) && copy.disputed() == 1)
+}
+
+#[test]
+fn late_contents_dispute(rt: HostRuntime) -> Result<(), Fail> {
+    let list = rows(rt.alloc(), 6)?;
+    let mut log = Log::new(rt.alloc());
+    if let [_, _, _, late, second, third] = list.as_slice() {
+        assert!(rt; answers_late(&mut log, *late, *second, *third));
+    }
+    assert_eq!(rt; (log.len(), log.disputed()), (3, 1));
+    assert!(rt; copies(rt.alloc())?);
+    Ok(())
+}
+
+// 513 reports, of which 213 identities have two contents.
+fn many(alloc: Global) -> Result<Vec<Report>, AllocError> {
+    let mut list = Vec::new(alloc);
+    for i in 0..513 {
+        if let Some(report) = report(i % 300, i, 40 + i) {
+            list.push(report)?;
+        }
+    }
+    Ok(list)
+}
+
+// The first, the last, the second, the last but one, and so on.
+fn alternating(alloc: Global, list: &[Report]) -> Result<Vec<Report>, AllocError> {
+    let mut order = Vec::new(alloc);
+    for (i, report) in list.iter().enumerate() {
+        order.push(*report)?;
+        order.push(list[list.len() - 1 - i])?;
+    }
+    Ok(order)
+}
+
+#[test]
+fn chunks_do_not_show(rt: HostRuntime) -> Result<(), Fail> {
+    let mut list = many(rt.alloc())?;
+    let order = alternating(rt.alloc(), &list)?;
+    assert!(rt; agrees(rt.alloc(), &list, 213)?);
+    assert!(rt; agrees(rt.alloc(), &order, 213)?);
+    assert!(rt; adds_all(rt.alloc(), &order, &list, 513));
+    list.reverse();
+    assert!(rt; agrees(rt.alloc(), &list, 213)?);
+    Ok(())
+}
+
+fn fill(log: &mut Log) -> bool {
+    for i in 0..LIMIT {
+        if let Some(report) = report(i, i, 40) {
+            if log.add(report) != Ok(Added::Fresh) {
+                return false;
+            }
+        }
+    }
+    log.len() == LIMIT
+}
+
+fn refuses(log: &mut Log, new: Report, old: Report) -> bool {
+    log.add(new) == Err(LogFault::Full)
+        && log.add(old) == Ok(Added::Repeat)
+        && log.add_all(&[new]) == Err(LogFault::Full)
+        && log.add_all(&[old]) == Ok(0)
+        && log.len() == LIMIT
+}
+
+fn refuses_union(alloc: Global, log: &mut Log, report: Report) -> bool {
+    let mut other = Log::new(alloc);
+    other.add(report) == Ok(Added::Fresh)
+        && log.union(&other) == Err(LogFault::Full)
+        && log.len() == LIMIT
+}
+
+#[test]
+fn a_full_log_refuses_what_is_new(rt: HostRuntime) -> Result<(), Fail> {
+    let mut log = Log::new(rt.alloc());
+    assert!(rt; fill(&mut log));
+    if let (Some(new), Some(old)) = (report(9, LIMIT, 40), report(9, 9, 40)) {
+        assert!(rt; refuses(&mut log, new, old));
+        assert!(rt; refuses_union(rt.alloc(), &mut log, new));
+    }
+    Ok(())
+}
+
+// A container that gets rows from another, and gives them back.
+fn exchanges(alloc: Global) -> Result<(usize, usize, usize), AllocError> {
+    let mut odd = Rows::new(alloc);
+    let mut all = Rows::new(alloc);
+    for i in 0..600u32 {
+        all.reserve()?;
+        if i % 2 == 1 && !odd.contains(&i) && odd.len() < 4_194_304 {
+            odd.reserve()?;
+            odd.put(i);
+        }
+        if !all.contains(&i) && all.len() < 4_194_304 {
+            all.put(i);
+        }
+    }
+    let even = all.difference(&odd)?;
+    all.withdraw_all(&odd);
+    Ok((even.len(), all.count_beyond(&odd), all.rank(&300)))
+}
+
+#[test]
+fn containers_exchange_rows(rt: HostRuntime) -> Result<(), Fail> {
+    assert_eq!(rt; exchanges(rt.alloc())?, (300, 300, 150));
+    Ok(())
+}
+
+#[test]
+fn faults_have_numbers_and_texts(rt: HostRuntime) -> Result<(), Fail> {
+    let (full, memory) = (LogFault::Full, LogFault::Memory);
+    assert_eq!(rt; (full.number(), memory.number()), (1, 2));
+    assert_eq!(rt;
+        format!(in rt.alloc(); "{full}")?.as_str(),
+        "the log is full: it has at most 4194304 reports"
+    );
+    assert_eq!(rt;
+        format!(in rt.alloc(); "{memory}")?.as_str(),
+        "no memory for more reports in the log"
+    );
+    Ok(())
+}

@@ -1,0 +1,132 @@
+use crate::*;
+use std::process::Abort;
+use std::test::*;
+
+#[test]
+fn code_points_have_the_colours_of_their_precedences(rt: HostRuntime) {
+    for other in [Colour::Green, Colour::Yellow, Colour::Red] {
+        for dscp in 0..64u8 {
+            let want = if [10, 18, 26, 34].contains(&dscp) {
+                Colour::Green
+            } else if [12, 20, 28, 36].contains(&dscp) {
+                Colour::Yellow
+            } else if [14, 22, 30, 38].contains(&dscp) {
+                Colour::Red
+            } else {
+                other
+            };
+            assert_eq!(rt; precolour(dscp, other), want, "{dscp}");
+        }
+    }
+}
+
+#[test]
+fn texts_name_meters(rt: HostRuntime) -> Result<(), Fail> {
+    for (text, meter) in [
+        (
+            "rfc2697:1000:2000:3000:blind",
+            SrTcm::new(1000, 2000, 3000, false).map(AnyMeter::from),
+        ),
+        (
+            "rfc2697:0:0:0000000000001:aware",
+            SrTcm::new(0, 0, 1, true).map(AnyMeter::from),
+        ),
+        (
+            "rfc2698:4000:2000:1000:3000:blind",
+            TrTcm::new(4000, 2000, 1000, 3000, false).map(AnyMeter::from),
+        ),
+        (
+            "rfc2698:1000000000000:1:1000000000000:2:aware",
+            TrTcm::new(1_000_000_000_000, 1, 1_000_000_000_000, 2, true).map(AnyMeter::from),
+        ),
+        (
+            "rfc4115:1:2:3:4:exact:blind",
+            Rfc4115::new(1, 2, 3, 4, true, false).map(AnyMeter::from),
+        ),
+        (
+            "rfc4115:1:2:3:4:below:aware",
+            Rfc4115::new(1, 2, 3, 4, false, true).map(AnyMeter::from),
+        ),
+    ] {
+        assert!(rt; meter.is_ok());
+        assert_eq!(rt; meter_spec(text).ok(), meter.ok(), "{text}");
+    }
+    Ok(())
+}
+
+#[test]
+fn other_texts_are_refused(rt: HostRuntime) {
+    for text in [
+        "",
+        ":",
+        "rfc2697",
+        "rfc2697:1000:2000:1000",
+        "rfc2697:1000:2000:1000:",
+        "rfc2697:1000:2000:blind",
+        "rfc2697:1000:2000:1000:2000:blind",
+        "rfc2697:1000:2000:1000:blind:",
+        ":rfc2697:1000:2000:1000:blind",
+        "rfc2697:10000000000000:2000:1000:blind",
+        "rfc2697:1000:00000000000001:1000:blind",
+        "rfc2697::2000:1000:blind",
+        "rfc2697:+1000:2000:1000:blind",
+        "rfc2697:1000:-2000:1000:blind",
+        "rfc2697:1000:2000: 1000:blind",
+        "rfc2697:1000:2000:1e3:blind",
+        "rfc2697:1000:2000:1000:Blind",
+        "rfc2697:1000:2000:1000:AWARE",
+        "rfc2697:1000:2000:1000:exact",
+        "RFC2697:1000:2000:1000:blind",
+        "rfc2696:1000:2000:1000:blind",
+        "rfc2698:1000:2000:1000:blind",
+        "rfc2698:1:2:3:4:exact:blind",
+        "rfc4115:1:2:3:4:blind",
+        "rfc4115:1:2:3:4:5:blind",
+        "rfc4115:1:2:3:4:blind:exact",
+        "rfc4115:1:2:3:4:Below:blind",
+        "rfc4115:1:2:3:4:exact:blind\n",
+    ] {
+        assert_eq!(rt; meter_spec(text).err(), Some(SpecFault::Text), "{text}");
+    }
+}
+
+#[test]
+fn texts_of_no_meter_say_why(rt: HostRuntime) -> Result<(), Fail> {
+    for (text, fault) in [
+        ("rfc2697:1000:0:0:blind", MeterFault::NoBurst),
+        ("rfc2697:1000000000001:1:1:blind", MeterFault::RateRange),
+        (
+            "rfc2698:999:2000:1000:1000:blind",
+            MeterFault::PeakBelowCommitted,
+        ),
+        ("rfc2698:999:2000:1000:0:aware", MeterFault::NoBurst),
+        ("rfc4115:1:0:1:0:below:aware", MeterFault::NoBurst),
+        (
+            "rfc4115:1:1:9999999999999:1:exact:blind",
+            MeterFault::RateRange,
+        ),
+    ] {
+        assert_eq!(rt;
+            meter_spec(text).err(),
+            Some(SpecFault::Meter(fault)),
+            "{text}"
+        );
+    }
+    for (fault, number, text) in [
+        (
+            SpecFault::Text,
+            1,
+            "the text names no meter: expected rfc2697:CIR:CBS:EBS:MODE, rfc2698:PIR:PBS:CIR:CBS:MODE or rfc4115:CIR:CBS:EIR:EBS:FIT:MODE, with numbers of 1 to 13 digits, MODE blind or aware, and FIT exact or below",
+        ),
+        (
+            SpecFault::Meter(MeterFault::PeakBelowCommitted),
+            2,
+            "no meter of these parameters: the peak rate is below the committed rate: expected it to be at least that",
+        ),
+    ] {
+        assert_eq!(rt; fault.number(), number);
+        let said = format!(in rt.alloc(); "{fault}")?;
+        assert_eq!(rt; said.as_str(), text);
+    }
+    Ok(())
+}

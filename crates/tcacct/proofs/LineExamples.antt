@@ -1,0 +1,52 @@
+-- What command lines mean that are written out.
+use Rattle.std.proofs.Common.{◌≡◌, [], ◌∷◌, Some, None, codes, refl}
+use Rattle.clap.proofs.OnLiterals.{clap_on_literals}
+use Rattle.tcacct.specs.Lines.{meter, combine, order_in}
+
+pub one_input : order_in (codes "tcacct" ∷ codes "meter" ∷ codes "rfc2697:1000:2000:1000:blind" ∷ codes "a" ∷ []) ≡ Some (meter (codes "rfc2697:1000:2000:1000:blind") (codes "a" ∷ []))
+unfolding clap_on_literals
+one_input = refl
+
+pub two_inputs : order_in (codes "tcacct" ∷ codes "meter" ∷ codes "s" ∷ codes "a" ∷ codes "b" ∷ []) ≡ Some (meter (codes "s") (codes "a" ∷ codes "b" ∷ []))
+unfolding clap_on_literals
+two_inputs = refl
+
+pub union : order_in (codes "tcacct" ∷ codes "combine" ∷ codes "o" ∷ codes "a" ∷ codes "b" ∷ codes "c" ∷ []) ≡ Some (combine (codes "o") (codes "a" ∷ codes "b" ∷ codes "c" ∷ []))
+unfolding clap_on_literals
+union = refl
+
+pub dashes : order_in (codes "tcacct" ∷ codes "combine" ∷ codes "--" ∷ codes "-o" ∷ codes "-a" ∷ []) ≡ Some (combine (codes "-o") (codes "-a" ∷ []))
+unfolding clap_on_literals
+dashes = refl
+
+pub no_words : order_in ([]) ≡ None
+unfolding clap_on_literals
+no_words = refl
+
+pub no_command : order_in (codes "tcacct" ∷ []) ≡ None
+unfolding clap_on_literals
+no_command = refl
+
+pub unknown_command : order_in (codes "tcacct" ∷ codes "bill" ∷ codes "plan" ∷ codes "a" ∷ []) ≡ None
+unfolding clap_on_literals
+unknown_command = refl
+
+pub no_input : order_in (codes "tcacct" ∷ codes "meter" ∷ codes "s" ∷ []) ≡ None
+unfolding clap_on_literals
+no_input = refl
+
+pub third_input : order_in (codes "tcacct" ∷ codes "meter" ∷ codes "s" ∷ codes "a" ∷ codes "b" ∷ codes "c" ∷ []) ≡ None
+unfolding clap_on_literals
+third_input = refl
+
+pub no_file : order_in (codes "tcacct" ∷ codes "combine" ∷ codes "o" ∷ []) ≡ None
+unfolding clap_on_literals
+no_file = refl
+
+pub unknown_option : order_in (codes "tcacct" ∷ codes "meter" ∷ codes "--quiet" ∷ codes "s" ∷ codes "a" ∷ []) ≡ None
+unfolding clap_on_literals
+unknown_option = refl
+
+pub help : order_in (codes "tcacct" ∷ codes "--help" ∷ []) ≡ None
+unfolding clap_on_literals
+help = refl

@@ -1,0 +1,18 @@
+use Rattle.tcacct.proofs.LineExamples as line
+use Rattle.tcacct.proofs.line.written_out.Goals as goal
+
+pub returns : goal.returns
+returns c = record {
+  one_input = line.one_input;
+  two_inputs = line.two_inputs;
+  union = line.union;
+  dashes = line.dashes;
+  no_words = line.no_words;
+  no_command = line.no_command;
+  unknown_command = line.unknown_command;
+  no_input = line.no_input;
+  third_input = line.third_input;
+  no_file = line.no_file;
+  unknown_option = line.unknown_option;
+  help = line.help;
+}

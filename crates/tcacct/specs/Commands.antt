@@ -1,0 +1,29 @@
+-- The commands of the program, as clap sees them.
+use Rattle.std.specs.Prelude.{ℕ, Some, true, codes}
+use Rattle.clap.specs.Words.{App, Rule, Text, new_app, new_rule, with_rule, with_subcommand}
+
+-- a word that has to be given once
+abbrev pub one_word : Text → Rule
+one_word id = record (new_rule id) { required = true }
+
+-- a word that has to be given, from once to `most` times
+abbrev pub many_words : Text → ℕ → Rule
+many_words id most = record (new_rule id) {
+  required = true;
+  range = Some (record { start_inclusive = 1; end_inclusive = most });
+}
+
+-- `meter SPEC A [B]`
+abbrev pub meter_command : App
+meter_command = with_rule (with_rule (new_app (codes "meter")) (one_word (codes "SPEC"))) (many_words (codes "INPUT") 2)
+
+-- `combine OUT INPUT...`, with fewer than 2^32 inputs
+abbrev pub combine_command : App
+combine_command = with_rule (with_rule (new_app (codes "combine")) (one_word (codes "OUT"))) (many_words (codes "INPUT") 4294967295)
+
+-- the program's name, then one of its commands
+abbrev pub program : App
+program = with_subcommand (with_subcommand required_command meter_command.top) combine_command.top
+  where
+    required_command : App
+    required_command = record (new_app (codes "tcacct")) { top = record (new_app (codes "tcacct")).top { subcommand_required = true } }

@@ -1,0 +1,8 @@
+pub mod Commands
+pub mod Lines
+pub mod MeterSpecs
+pub mod Totals
+pub mod Texts
+pub mod Runs
+pub mod Metered
+pub mod Combined

@@ -1,0 +1,87 @@
+ghost use Rattle.std.specs.Prelude.{◌≡◌, ◌≤◌, IfOk, false};
+ghost use Rattle.clap.specs.Words.{app_of, rule_of};
+ghost use Rattle.clap.specs.declared.builder.command.Command.TheViews.{out-Command as fields_of};
+ghost use Rattle.tcacct.specs.Commands.{many_words, one_word, combine_command, meter_command, program};
+
+use clap::{Arg, Command};
+use std::alloc::{AllocError, Global};
+
+const ABOUT: &str = "Usage accounting by three-colour meters (RFC 2697)";
+
+const AFTER: &str = "Example: tcacct meter rfc2697:1000:2000:1000:blind reports.tcax
+
+Exit status: 0 done, 1 refused (one line on standard error says what and where),
+2 wrong command line.";
+
+const METER: &str = "Meters the undisputed reports of one or two inputs, and prints the octets and
+packets of each colour";
+
+const METER_AFTER: &str =
+    "SPEC is rfc2697:CIR:CBS:EBS:blind: the committed information rate in octets a
+second, the committed and the excess burst size in octets, each of 1 to 13 digits.
+
+An input is a log export (a file that begins with TCAX). Reports that both inputs
+hold count once. Three lines are printed: a colour, its octets, its packets.
+
+Example: tcacct meter rfc2697:1000:2000:1000:blind monday.tcax tuesday.tcax";
+
+const COMBINE: &str = "Writes the union of the inputs' reports to OUT as one log export, and prints
+how many reports it holds";
+
+const COMBINE_AFTER: &str = "All inputs are read before OUT is made, so OUT may be one of them.
+
+Example: tcacct combine week.tcax monday.tcax tuesday.tcax";
+
+fn one_word<'a>(alloc: Global, id: &'a str, help: &'a str) -> Arg<'a>
+    ensures rule { rule_of result ≡ one_word id.entry.now }
+    ensures local { result.global ≡ false }
+{
+    Arg::new(alloc, id).required(true).help(help)
+}
+
+fn many_words<'a>(alloc: Global, id: &'a str, most: usize, help: &'a str) -> Arg<'a>
+    requires { 1 ≤ most }
+    ensures rule { rule_of result ≡ many_words id.entry.now most }
+    ensures local { result.global ≡ false }
+{
+    Arg::new(alloc, id)
+        .required(true)
+        .num_args(1..=most)
+        .help(help)
+}
+
+fn meter<'a>(alloc: Global) -> Result<Command<'a>, AllocError>
+    ensures { IfOk result (λ c. (app_of c ≡ meter_command)
+        × ((fields_of c).has_globals ≡ false)) }
+{
+    let spec = one_word(alloc, "SPEC", "the meter and its parameters");
+    let inputs = many_words(alloc, "INPUT", 2, "one or two files of reports");
+    let command = Command::new(alloc, "meter")
+        .about(METER)
+        .after_help(METER_AFTER);
+    Ok(command.arg(spec)?.arg(inputs)?)
+}
+
+fn combine<'a>(alloc: Global) -> Result<Command<'a>, AllocError>
+    ensures { IfOk result (λ c. (app_of c ≡ combine_command)
+        × ((fields_of c).has_globals ≡ false)) }
+{
+    let out = one_word(alloc, "OUT", "the file to write");
+    let inputs = many_words(alloc, "INPUT", 4_294_967_295, "files of reports");
+    let command = Command::new(alloc, "combine")
+        .about(COMBINE)
+        .after_help(COMBINE_AFTER);
+    Ok(command.arg(out)?.arg(inputs)?)
+}
+
+/// The program's command line, for clap.
+pub fn program<'a>(alloc: Global) -> Result<Command<'a>, AllocError>
+    ensures { IfOk result (λ c. app_of c ≡ program) }
+{
+    let command = Command::new(alloc, "tcacct")
+        .about(ABOUT)
+        .after_help(AFTER)
+        .subcommand_required(true);
+    let command = command.subcommand(meter(alloc)?)?;
+    Ok(command.subcommand(combine(alloc)?)?)
+}

@@ -1,0 +1,52 @@
+ghost use Rattle.std.specs.Prelude.{◌≡◌, ◌<◌, ◌^◌, ◌++◌, List, Ok, [], IfErr, IfOk, OnOk, false, length, map, MatchResult};
+ghost use Rattle.std.specs.List.Sorted.{IsStrictlySortedBy};
+ghost use Rattle.tca_join.specs.Sets.{in_order};
+ghost use Rattle.tca_report.specs.Reports.{PacketReport, report_cmp};
+ghost use Rattle.tca_report.specs.Export.{IsExportable, export};
+ghost use Rattle.tca_report.specs.ExportReading.{reading};
+ghost use Rattle.tcacct.specs.Runs.{IsRefusedAs, IsUnion, gathered, is_write, with_input};
+
+use crate::fault::RunFault;
+use std::alloc::Global;
+use tca_log::Log;
+use tca_report::read_export;
+
+// Adds the reports of input `n`.
+fn add_input(alloc: Global, n: u32, octets: &[u8], log: &mut Log) -> Result<(), RunFault>
+    ensures exact { MatchResult result (λ _. with_input n log.old (reading octets.now) ≡ Ok log.new)
+        (λ e. IsRefusedAs e (with_input n log.old (reading octets.now))) }
+    ensures found { OnOk result ((rs : List PacketReport) × IsExportable rs × (octets.now ≡ export rs)
+        × (log.new ≡ in_order report_cmp (log.old ++ rs))) }
+    ensures no_write { IfErr result (λ e. is_write e ≡ false) }
+    ensures rises { OnOk result (IsStrictlySortedBy report_cmp log.new) }
+{
+    let reports = match read_export(alloc, octets) {
+        Ok(reports) => reports,
+        Err(fault) => return Err(RunFault::export(n, fault)),
+    };
+    match log.add_all(&reports) {
+        Ok(_) => {
+            let _reports = log.reports();
+            Ok(())
+        }
+        Err(fault) => Err(RunFault::log(n, fault)),
+    }
+}
+
+/// The union of the inputs' reports, each input gathered and added before the next is looked at. The
+/// first input that is no export, or whose reports the log doesn't take, refuses all.
+pub fn gather_all(alloc: Global, inputs: &[Vec<u8>]) -> Result<Log, RunFault>
+    requires { length inputs.now < 2 ^ 32 }
+    ensures found { IfOk result (λ log. IsUnion (map (λ v. v.items) inputs.now) log) }
+    ensures no_write { IfErr result (λ e. is_write e ≡ false) }
+    ensures exact { MatchResult result (λ log. gathered 0 [] (map (λ v. v.items) inputs.now) ≡ Ok log)
+        (λ e. IsRefusedAs e (gathered 0 [] (map (λ v. v.items) inputs.now))) }
+{
+    let mut log = Log::new(alloc);
+    for (n, input) in inputs.iter().enumerate() {
+        if let Err(fault) = add_input(alloc, n as u32, input, &mut log) {
+            return Err(fault);
+        }
+    }
+    Ok(log)
+}

@@ -1,0 +1,160 @@
+ghost use Rattle.std.specs.Prelude.{◌≡◌, ◌≢◌, ◌∷◌, [], IfOk, IfErr, Some, None, codes, map, option_map};
+ghost use Rattle.clap.specs.Words.{all_of, first_of, found_of, kind_of, rows_of};
+ghost use Rattle.tcacct.specs.Lines.{combine, combine_of, meter, meter_of, order_from, order_in, order_of, texts};
+
+use crate::commands;
+use clap::ArgMatches;
+use clap::error::ErrorKind;
+use std::alloc::{AllocError, Global};
+use thiserror::Error;
+
+/// What the words of a command line ask for. Inputs and OUT are paths.
+#[derive(Debug, Drop)]
+pub enum Line<'a> {
+    Meter { spec: &'a str, inputs: Vec<&'a str> },
+    Combine { out: &'a str, inputs: Vec<&'a str> },
+}
+
+/// Why the words of a command line ask for nothing.
+#[derive(Debug, Drop, Error)]
+pub enum LineFault {
+    /// They are wrong; the text says how, for standard error.
+    #[error("{text}")]
+    Usage { text: String },
+    /// They ask for help; the text is it, for standard output.
+    #[error("{text}")]
+    Help { text: String },
+    #[error("no memory is left")]
+    Memory,
+}
+
+fn text<'a>(matches: &ArgMatches<'a>, id: &str) -> Option<&'a str>
+    ensures { option_map (λ s. s.now) result ≡ first_of id.now (rows_of (found_of matches.now)) }
+{
+    matches.get_str(id)
+}
+
+fn texts<'a>(
+    alloc: Global,
+    matches: &ArgMatches<'a>,
+    id: &str,
+) -> Result<Option<Vec<&'a str>>, AllocError>
+    ensures { IfOk result (λ o. option_map (λ v. texts v.items) o
+        ≡ all_of id.now (rows_of (found_of matches.now))) }
+{
+    let Some(words) = matches.get_raw(id) else {
+        return Ok(None);
+    };
+    let mut list = Vec::new(alloc);
+    for word in words {
+        list.push(*word)?;
+    }
+    Ok(Some(list))
+}
+
+fn meter_line<'a>(alloc: Global, matches: &ArgMatches<'a>) -> Result<Option<Line<'a>>, AllocError>
+    ensures { IfOk result (λ o. option_map order_of o ≡ meter_of (rows_of (found_of matches.now))) }
+{
+    let Some(spec) = text(matches, "SPEC") else {
+        return Ok(None);
+    };
+    let Some(inputs) = texts(alloc, matches, "INPUT")? else {
+        return Ok(None);
+    };
+    Ok(Some(Line::Meter { spec, inputs }))
+}
+
+fn combine_line<'a>(alloc: Global, matches: &ArgMatches<'a>) -> Result<Option<Line<'a>>, AllocError>
+    ensures { IfOk result (λ o. option_map order_of o ≡ combine_of (rows_of (found_of matches.now))) }
+{
+    let Some(out) = text(matches, "OUT") else {
+        return Ok(None);
+    };
+    let Some(inputs) = texts(alloc, matches, "INPUT")? else {
+        return Ok(None);
+    };
+    Ok(Some(Line::Combine { out, inputs }))
+}
+
+fn line_from<'a>(
+    alloc: Global,
+    name: &str,
+    matches: &ArgMatches<'a>,
+) -> Result<Option<Line<'a>>, AllocError>
+    ensures { IfOk result (λ o. option_map order_of o
+        ≡ order_from name.now (rows_of (found_of matches.now))) }
+{
+    match name {
+        "meter" => meter_line(alloc, matches),
+        "combine" => combine_line(alloc, matches),
+        _ => Ok(None),
+    }
+}
+
+// What no command line gives, since clap has found each word that is required.
+fn nothing_asked(alloc: Global) -> LineFault
+    ensures { result ≢ LineFault.Memory }
+{
+    LineFault::Usage {
+        text: String::new(alloc),
+    }
+}
+
+fn fault_of(alloc: Global, error: &clap::Error) -> LineFault
+    ensures { kind_of error.now ≡ ErrorKind.OutOfMemory → result ≡ LineFault.Memory }
+{
+    if error.kind() == ErrorKind::OutOfMemory {
+        return LineFault::Memory;
+    }
+    match format!(in alloc; "{error}") {
+        Ok(text) if error.use_stderr() => LineFault::Usage { text },
+        Ok(text) => LineFault::Help { text },
+        Err(_) => LineFault::Memory,
+    }
+}
+
+/// Reads the words of a command line, of which the first is the program's own name. Ok is what
+/// they ask for by clap's meaning of the commands; words that have such a meaning are refused for
+/// want of memory alone.
+pub fn read_line<'a>(alloc: Global, words: &'a [&'a str]) -> Result<Line<'a>, LineFault>
+    ensures ok { IfOk result (λ l. order_in (map (λ s. s.now) words.entry.now) ≡ Some (order_of l)) }
+    ensures refused { IfErr result (λ e. e ≢ LineFault.Memory
+        → order_in (map (λ s. s.now) words.entry.now) ≡ None) }
+{
+    let command = match commands::program(alloc) {
+        Ok(command) => command,
+        Err(_) => return Err(LineFault::Memory),
+    };
+    let matches = match command.try_get_matches_from(words) {
+        Ok(matches) => matches,
+        Err(error) => return Err(fault_of(alloc, &error)),
+    };
+    let Some((name, inner)) = matches.subcommand() else {
+        return Err(nothing_asked(alloc));
+    };
+    match line_from(alloc, name, inner) {
+        Ok(Some(line)) => Ok(line),
+        Ok(None) => Err(nothing_asked(alloc)),
+        Err(_) => Err(LineFault::Memory),
+    }
+}
+
+/// What clap's meaning gives for command lines that are written out, right and wrong ones.
+pub fn written_out()
+    ensures one_input { order_in (codes "tcacct" ∷ codes "meter" ∷ codes "rfc2697:1000:2000:1000:blind" ∷ codes "a" ∷ [])
+        ≡ Some (meter (codes "rfc2697:1000:2000:1000:blind") (codes "a" ∷ [])) }
+    ensures two_inputs { order_in (codes "tcacct" ∷ codes "meter" ∷ codes "s" ∷ codes "a" ∷ codes "b" ∷ [])
+        ≡ Some (meter (codes "s") (codes "a" ∷ codes "b" ∷ [])) }
+    ensures union { order_in (codes "tcacct" ∷ codes "combine" ∷ codes "o" ∷ codes "a" ∷ codes "b" ∷ codes "c" ∷ [])
+        ≡ Some (combine (codes "o") (codes "a" ∷ codes "b" ∷ codes "c" ∷ [])) }
+    ensures dashes { order_in (codes "tcacct" ∷ codes "combine" ∷ codes "--" ∷ codes "-o" ∷ codes "-a" ∷ [])
+        ≡ Some (combine (codes "-o") (codes "-a" ∷ [])) }
+    ensures no_words { order_in ([]) ≡ None }
+    ensures no_command { order_in (codes "tcacct" ∷ []) ≡ None }
+    ensures unknown_command { order_in (codes "tcacct" ∷ codes "bill" ∷ codes "plan" ∷ codes "a" ∷ []) ≡ None }
+    ensures no_input { order_in (codes "tcacct" ∷ codes "meter" ∷ codes "s" ∷ []) ≡ None }
+    ensures third_input { order_in (codes "tcacct" ∷ codes "meter" ∷ codes "s" ∷ codes "a" ∷ codes "b" ∷ codes "c" ∷ []) ≡ None }
+    ensures no_file { order_in (codes "tcacct" ∷ codes "combine" ∷ codes "o" ∷ []) ≡ None }
+    ensures unknown_option { order_in (codes "tcacct" ∷ codes "meter" ∷ codes "--quiet" ∷ codes "s" ∷ codes "a" ∷ []) ≡ None }
+    ensures help { order_in (codes "tcacct" ∷ codes "--help" ∷ []) ≡ None }
+{}

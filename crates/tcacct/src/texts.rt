@@ -1,0 +1,28 @@
+ghost use Rattle.std.specs.Prelude.{◌≡◌, ◌++◌, IfOk, OnOk, string_bytes};
+ghost use Rattle.tcacct.specs.Texts.{colour_line, meter_text, combine_text};
+
+use crate::sums::Sums;
+use std::alloc::{AllocError, Global};
+
+fn colour_line(alloc: Global, name: &str, octets: u64, packets: u64) -> Result<String, AllocError>
+    ensures { IfOk result (λ text. string_bytes text ≡ colour_line name.now octets packets) }
+{
+    format!(in alloc; "{name} {octets} {packets}\n")
+}
+
+/// A line for each colour: its name, its octets, its packets.
+pub fn meter_lines(alloc: Global, sums: &Sums) -> Result<String, AllocError>
+    ensures { IfOk result (λ text. string_bytes text ≡ meter_text sums.now.octets sums.now.packets) }
+{
+    let mut text = colour_line(alloc, "green", sums.octets[0], sums.packets[0])?;
+    text.push_str(colour_line(alloc, "yellow", sums.octets[1], sums.packets[1])?.as_str())?;
+    text.push_str(colour_line(alloc, "red", sums.octets[2], sums.packets[2])?.as_str())?;
+    Ok(text)
+}
+
+/// How many reports a log has.
+pub fn combine_line(alloc: Global, reports: u32) -> Result<String, AllocError>
+    ensures { IfOk result (λ text. string_bytes text ≡ combine_text reports) }
+{
+    format!(in alloc; "reports {reports}\n")
+}
