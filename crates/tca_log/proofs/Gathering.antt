@@ -1,133 +1,69 @@
 -- A list of reports that is gathered into a set.
-use Rattle.std.proofs.Common.{◌≡◌, ℕ, suc, ◌+◌, ◌<◌, ◌≤◌, Bool, true, false, not, ◌&&◌, ◌||◌, List, [], ◌∷◌, ◌++◌, length, get_or, drop, filter, refl, sym, ap, subst, ◌∙◌, arith, add-one}
+use Rattle.std.proofs.Common.{◌≡◌, ℕ, suc, ◌+◌, ◌<◌, ◌≤◌, ◌==◌, Bool, true, false, ◌&&◌, ◌||◌, cond, List, [], ◌∷◌, ◌++◌, length, get_or, drop, refl, sym, ap, ◌∙◌, arith, add-one}
 use Rattle.std.proofs.Math.Seq.{drop-cons}
 use Rattle.std.proofs.Math.ListN.{drop_of_length-le}
-use Rattle.std.specs.List.Sorted.{IsStrictlySortedBy, IsPermutation}
-use Rattle.std.specs.Ordering.{eq_by_cmp}
-use Rattle.std.specs.Cmp.{Equal-is}
+use Rattle.std.specs.List.{list_any, dedup, dedup_from}
+use Rattle.std.specs.List.Sorted.{IsStrictlySortedBy, IsPermutation, IsSorted}
+use Rattle.std.specs.Ordering.{nat_cmp, ordering_then, eq_by_cmp, is_eq}
+use Rattle.std.specs.Cmp.{IsTotalOrder, Equal-is, unsigned_tied}
+use Rattle.std.specs.declared.cmp.Ordering.{Ordering}
+use Rattle.std.specs.declared.cmp.Ordering.TheVariants.{Less, Equal, Greater}
 use Rattle.std.proofs.lemmas.List.{append-nil}
+use Rattle.std.proofs.lemmas.List.Kept.{IsStrictlySortedBy-dedup}
 use Rattle.std.proofs.lemmas.List.Sorted.{list_any-IsPermutation}
-use Rattle.tca_join.specs.Sets.{has, put, in_order}
-use Rattle.tca_join.proofs.Sets.{has-append, has-in_order, has-put, rises_in_order, rises_put, all_put, only_one}
+use Rattle.std.proofs.lemmas.Map.Lookups.{CmpEqualImpliesEq}
+use Rattle.tca_join.specs.Sets.{has, in_order}
+use Rattle.tca_join.proofs.Sets.{has-append, has-in_order, rises_in_order, only_one, or_again}
 use Rattle.tca_join.proofs.Merge.{in_order_alike, in_order_of_rising}
-use Rattle.tca_join.proofs.Unions.{union_longer}
+use Rattle.tca_log.specs.Chunks.{without_each}
+use Rattle.tca_log.proofs.Each.{beyond_new, beyond_held, beyond_none}
 use Rattle.tca_report.specs.Reports.{PacketReport, report_cmp}
 use Rattle.tca_report.proofs.Order.{report_total, report_exact}
-use Rattle.tca_log.specs.Chunks.{put_each, without_each, AreApart}
-use Rattle.tca_log.proofs.Places.{length_put}
-use Rattle.tca_log.proofs.Each.{has-put_each, rises_put_each, length-put_each, beyond_rises}
-use Rattle.tca_log.proofs.Contents.{has-filter}
 
--- what was gathered and what is left are what is new
-pub record AreGathered (rows news left all : List PacketReport) : Type 0 where
-  pub members : (q : PacketReport) → (has report_cmp news q || (not (has report_cmp rows q) && has report_cmp left q)) ≡ (not (has report_cmp rows q) && has report_cmp all q)
-  pub few : length rows + length news ≤ 4194304
-  pub apart : AreApart report_cmp news rows
-  pub rises : IsStrictlySortedBy report_cmp news
-
-left_out : (r n e l a : Bool) → (e ≡ true → (r || n) ≡ true) → (n || (not r && (e || l))) ≡ (not r && a) → (n || (not r && l)) ≡ (not r && a)
-left_out r n false l a p h = h
-left_out true n true l a p h = h
-left_out false true true l a p h = h
-left_out false false true l a p h = absurd (no (p refl))
-  where
-    no : false ≡ true → ⊥
-    no e = cc
-
-taken : (r n e l a : Bool) → (e ≡ true → r ≡ false) → (n || (not r && (e || l))) ≡ (not r && a) → ((e || n) || (not r && l)) ≡ (not r && a)
-taken r n false l a p h = h
-taken false true true l a p h = h
-taken false false true l a p h = h
-taken true n true l a p h = absurd (no (p refl))
-  where
-    no : true ≡ false → ⊥
-    no e = cc
-
-among_all : (r n e l a : Bool) → (n || (not r && (e || l))) ≡ (not r && a) → ((e || (n || r)) || (r || a)) ≡ (r || a)
-among_all true true true l a h = refl
-among_all true true false l a h = refl
-among_all true false true l a h = refl
-among_all true false false l a h = refl
-among_all false true e l true h = or_true (e || true)
-  where
-    or_true : (b : Bool) → (b || true) ≡ true
-    or_true true = refl
-    or_true false = refl
-among_all false true e l false h = absurd cc
-among_all false false true l a h = h
-among_all false false false l a h = refl
-
-module _ (rows news left all : List PacketReport) (r : PacketReport) (s : IsStrictlySortedBy report_cmp rows) (g : AreGathered rows news (r ∷ left) all) where
-  at : (q : PacketReport) → (has report_cmp news q || (not (has report_cmp rows q) && (eq_by_cmp report_cmp q r || has report_cmp left q))) ≡ (not (has report_cmp rows q) && has report_cmp all q)
+-- a sorted list without what stands twice is the set of its members
+module _ {K : Type 0} (R : K → K → Ordering) (o : IsTotalOrder R) (exact : CmpEqualImpliesEq R) (E : K → K → Bool) (ties : (x y : K) → E x y ≡ eq_by_cmp R x y) where
+  kept_alike : (k : K) (xs : List K) (q : K) → has R (dedup_from E k xs) q ≡ has R (k ∷ xs) q
   unfolding has
-  at q = g.members q
+  kept_alike k [] q = refl
+  kept_alike k (x ∷ xs) q =
+      elim (E x k) as (λ b. E x k ≡ b → list_any (eq_by_cmp R q) (cond b (dedup_from E k xs) (k ∷ dedup_from E x xs)) ≡ (eq_by_cmp R q k || (eq_by_cmp R q x || list_any (eq_by_cmp R q) xs))) [
+        | true ↦ λ e.
+            let same : x ≡ k = exact x k ((Equal-is (R x k)).0 (sym (ties x k) ∙ e)) in
+            kept_alike k xs q ∙ or_again (eq_by_cmp R q k) (list_any (eq_by_cmp R q) xs) ∙ ap (λ (z : K). eq_by_cmp R q k || (eq_by_cmp R q z || list_any (eq_by_cmp R q) xs)) (sym same)
+        | false ↦ λ e. ap (λ b. eq_by_cmp R q k || b) (kept_alike x xs q)
+      ] refl
 
-  tied_as : (xs : List PacketReport) (q : PacketReport) → eq_by_cmp report_cmp q r ≡ true → has report_cmp xs r ≡ has report_cmp xs q
-  tied_as xs q e = ap (has report_cmp xs) (sym (report_exact q r ((Equal-is (report_cmp q r)).0 e)))
+  all_alike : (xs : List K) (q : K) → has R (dedup E xs) q ≡ has R xs q
+  all_alike [] q = refl
+  all_alike (x ∷ xs) q = kept_alike x xs q
 
-  pub gathered_known : (has report_cmp rows r || has report_cmp news r) ≡ true → AreGathered rows news left all
-  gathered_known known = record {
-    members = λ q. left_out (has report_cmp rows q) (has report_cmp news q) (eq_by_cmp report_cmp q r) (has report_cmp left q) (has report_cmp all q) (λ e. (λ i. sym (tied_as rows q e) i || sym (tied_as news q e) i) ∙ known) (at q);
-    few = g.few;
-    apart = g.apart;
-    rises = g.rises;
-  }
+  pub set_is : (all sorted kept : List K) → IsPermutation all sorted → IsSorted R sorted → kept ≡ dedup E sorted → kept ≡ in_order R all
+  unfolding has
+  set_is all sorted kept moved s is =
+      is ∙ only_one R o exact (dedup E sorted) (in_order R all) (IsStrictlySortedBy-dedup o ties sorted s) (rises_in_order R o all) (λ q.
+      all_alike sorted q ∙ sym (list_any-IsPermutation (eq_by_cmp R q) all sorted moved) ∙ sym (has-in_order R o all q))
 
-  pub gathered_new : has report_cmp rows r ≡ false → has report_cmp news r ≡ false → length rows + length news < 4194304 → AreGathered rows (put report_cmp r news) left all
-  gathered_new absent new room = record {
-    members = λ q. ap (λ b. b || (not (has report_cmp rows q) && has report_cmp left q)) (has-put report_cmp report_total r news q) ∙ taken (has report_cmp rows q) (has report_cmp news q) (eq_by_cmp report_cmp q r) (has report_cmp left q) (has report_cmp all q) (λ e. sym (tied_as rows q e) ∙ absent) (at q);
-    few = omega (arith, length_put report_cmp report_total r news new);
-    apart = all_put report_cmp report_total (λ x. has report_cmp rows x ≡ false) r news absent g.apart;
-    rises = rises_put report_cmp report_total r news g.rises;
-  }
+-- whether two reports agree in each field
+abbrev pub same_report : PacketReport → PacketReport → Bool
+same_report a b = (a.time == b.time) && ((a.domain == b.domain) && ((a.place == b.place) && ((a.octets == b.octets) && ((a.dscp == b.dscp) && (a.iface == b.iface)))))
 
-  -- a report more than the limit
-  pub gathered_full : has report_cmp rows r ≡ false → has report_cmp news r ≡ false → 4194304 ≤ length rows + length news → 4194304 < length (in_order report_cmp (rows ++ all))
-  gathered_full absent new full =
-      let most = union_longer report_cmp report_total report_exact (put report_cmp r (put_each report_cmp news rows)) (rows ++ all) (rises_put report_cmp report_total r (put_each report_cmp news rows) (rises_put_each report_cmp report_total news rows s)) in
-      let same : in_order report_cmp (put report_cmp r (put_each report_cmp news rows) ++ (rows ++ all)) ≡ in_order report_cmp (rows ++ all) = in_order_alike report_cmp report_total report_exact (put report_cmp r (put_each report_cmp news rows) ++ (rows ++ all)) (rows ++ all) (λ q.
-      has-append report_cmp report_total (put report_cmp r (put_each report_cmp news rows)) (rows ++ all) q
-      ∙ (λ i. (has-put report_cmp report_total r (put_each report_cmp news rows) q ∙ ap (λ b. eq_by_cmp report_cmp q r || b) (has-put_each report_cmp report_total news rows q)) i || has-append report_cmp report_total rows all q i)
-      ∙ among_all (has report_cmp rows q) (has report_cmp news q) (eq_by_cmp report_cmp q r) (has report_cmp left q) (has report_cmp all q) (at q)
-      ∙ sym (has-append report_cmp report_total rows all q)) in
-      let absent_both : has report_cmp (put_each report_cmp news rows) r ≡ false = has-put_each report_cmp report_total news rows r ∙ (λ i. new i || absent i) in
-      omega (arith, most, ap length same, length_put report_cmp report_total r (put_each report_cmp news rows) absent_both, length-put_each report_cmp report_total news rows g.rises g.apart)
-
-pub gathered_none : (rows all : List PacketReport) → length rows ≤ 4194304 → AreGathered rows [] all all
-unfolding has IsStrictlySortedBy
-gathered_none rows all few = record { members = λ q. refl; few = omega arith; apart = tt; rises = tt }
-
--- all were gathered
-pub gathered_all : (rows news all : List PacketReport) → AreGathered rows news [] all → news ≡ without_each report_cmp rows (in_order report_cmp all)
-unfolding without_each has
-gathered_all rows news all g =
-    only_one report_cmp report_total report_exact news (filter (λ x. not (has report_cmp rows x)) (in_order report_cmp all)) g.rises (beyond_rises report_cmp report_total rows (in_order report_cmp all) (rises_in_order report_cmp report_total all)) (λ q.
-    sym (or_none (has report_cmp rows q) (has report_cmp news q)) ∙ g.members q
-    ∙ sym (has-filter report_cmp report_exact (λ x. not (has report_cmp rows x)) (in_order report_cmp all) q ∙ ap (λ b. not (has report_cmp rows q) && b) (has-in_order report_cmp report_total all q)))
+pub same_tied : (a b : PacketReport) → same_report a b ≡ eq_by_cmp report_cmp a b
+same_tied a b = field a.time b.time _ _ (field a.domain b.domain _ _ (field a.place b.place _ _ (field a.octets b.octets _ _ (field a.dscp b.dscp _ _ (sym (unsigned_tied a.iface b.iface))))))
   where
-    or_none : (r n : Bool) → (n || (not r && false)) ≡ n
-    or_none true true = refl
-    or_none true false = refl
-    or_none false true = refl
-    or_none false false = refl
+    is_eq_then : (a b : Ordering) → is_eq (ordering_then a b) ≡ (is_eq a && is_eq b)
+    is_eq_then Less b = refl
+    is_eq_then Equal b = refl
+    is_eq_then Greater b = refl
 
--- a list in another order has the same members
-pub union_moved : (rows reports sorted : List PacketReport) → IsPermutation reports sorted → in_order report_cmp (rows ++ in_order report_cmp sorted) ≡ in_order report_cmp (rows ++ reports)
-unfolding has
-union_moved rows reports sorted same = in_order_alike report_cmp report_total report_exact (rows ++ in_order report_cmp sorted) (rows ++ reports) (λ q.
-    has-append report_cmp report_total rows (in_order report_cmp sorted) q
-    ∙ ap (λ b. has report_cmp rows q || b) (has-in_order report_cmp report_total sorted q ∙ sym (list_any-IsPermutation (eq_by_cmp report_cmp q) reports sorted same))
+    field : (m n : ℕ) (b : Bool) (r : Ordering) → b ≡ is_eq r → ((m == n) && b) ≡ is_eq (ordering_then (nat_cmp m n) r)
+    field m n b r e = sym (is_eq_then (nat_cmp m n) r ∙ (λ i. unsigned_tied m n i && sym e i))
+
+-- a list and the set of its members have one union with the rows
+pub union_set : (rows reports : List PacketReport) → in_order report_cmp (rows ++ in_order report_cmp reports) ≡ in_order report_cmp (rows ++ reports)
+union_set rows reports = in_order_alike report_cmp report_total report_exact (rows ++ in_order report_cmp reports) (rows ++ reports) (λ q.
+    has-append report_cmp report_total rows (in_order report_cmp reports) q
+    ∙ ap (λ b. has report_cmp rows q || b) (has-in_order report_cmp report_total reports q)
     ∙ sym (has-append report_cmp report_total rows reports q))
-
-pub union_same : (rows reports sorted : List PacketReport) → IsPermutation reports sorted → in_order report_cmp (rows ++ sorted) ≡ in_order report_cmp (rows ++ reports)
-unfolding has
-union_same rows reports sorted same = in_order_alike report_cmp report_total report_exact (rows ++ sorted) (rows ++ reports) (λ q.
-    has-append report_cmp report_total rows sorted q
-    ∙ ap (λ b. has report_cmp rows q || b) (sym (list_any-IsPermutation (eq_by_cmp report_cmp q) reports sorted same))
-    ∙ sym (has-append report_cmp report_total rows reports q))
-
-pub gathered_end : (rows news all : List PacketReport) (i : ℕ) → length all ≤ i → AreGathered rows news (drop i all) all → AreGathered rows news [] all
-gathered_end rows news all i h g = subst (λ (l : List PacketReport). AreGathered rows news l all) (drop_of_length-le all h) g
 
 -- the next of a list
 pub next_of : (xs : List PacketReport) (i : ℕ) (x : PacketReport) → i < length xs → x ≡ get_or xs i x → drop i xs ≡ x ∷ drop (i + 1) xs
@@ -136,3 +72,14 @@ next_of xs i x h is = rw add-one (drop-cons xs i x h ∙ ap (λ (y : PacketRepor
 pub union_none : (rows reports : List PacketReport) → IsStrictlySortedBy report_cmp rows → length reports ≡ 0 → rows ≡ in_order report_cmp (rows ++ reports)
 union_none rows [] s h = sym (ap (in_order report_cmp) (append-nil rows) ∙ in_order_of_rising report_cmp report_total report_exact rows s)
 union_none rows (r ∷ reports) s h = absurd (omega arith)
+
+-- what is left to look at, after one more of the list
+module _ (rows all : List PacketReport) (i : ℕ) (x : PacketReport) (h : i < length all) (is : x ≡ get_or all i x) where
+  pub new_next : has report_cmp rows x ≡ false → without_each report_cmp rows (drop i all) ≡ x ∷ without_each report_cmp rows (drop (i + 1) all)
+  new_next absent = ap (without_each report_cmp rows) (next_of all i x h is) ∙ beyond_new report_cmp report_total rows x (drop (i + 1) all) absent
+
+  pub held_next : has report_cmp rows x ≡ true → without_each report_cmp rows (drop i all) ≡ without_each report_cmp rows (drop (i + 1) all)
+  held_next there = ap (without_each report_cmp rows) (next_of all i x h is) ∙ beyond_held report_cmp report_total rows x (drop (i + 1) all) there
+
+pub none_left : (rows all : List PacketReport) (i : ℕ) → length all ≤ i → without_each report_cmp rows (drop i all) ≡ []
+none_left rows all i h = ap (without_each report_cmp rows) (drop_of_length-le all h) ∙ beyond_none report_cmp report_total rows

@@ -1,10 +1,10 @@
 -- The join of logs: their union, where it is within the limit. Its laws, with their proofs.
-use Rattle.std.specs.Prelude.{◌≡◌, ℕ, ◌≤◌, ◌<◌, Bool, true, false, nat_lt, List, ◌++◌, length, Option, None, refl}
+use Rattle.std.specs.Prelude.{◌≡◌, ℕ, ◌≤◌, Bool, false, nat_lt, List, ◌++◌, length, Option, None, refl}
 use Rattle.std.specs.List.Sorted.{IsStrictlySortedBy}
 use Rattle.std.proofs.Common.{◌∙◌, sym, ap, subst, arith, le-ltb}
 use Rattle.std.proofs.lemmas.Bool.{ltb-false}
 use Rattle.tca_join.specs.Sets.{in_order}
-use Rattle.tca_join.specs.Joins.{Joins, IsJoin}
+use Rattle.tca_join.specs.Joins.{IsJoin}
 use Rattle.tca_join.proofs.Sets.{rises_in_order}
 use Rattle.tca_join.proofs.Unions.{union_commutes, union_associates, union_again, union_longer}
 use Rattle.tca_report.specs.Reports.{PacketReport, report_cmp}

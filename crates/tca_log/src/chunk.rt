@@ -5,7 +5,7 @@ ghost use Rattle.std.specs.List.Sorted.{IsStrictlySortedBy, IsSearchInRange};
 ghost use Rattle.tca_join.specs.Sets.{put};
 ghost use Rattle.tca_log.specs.Chunks.{starts_after, without, rank, tied};
 
-use std::alloc::{AllocError, Global};
+use std::alloc::{AllocError, Allocator};
 use std::marker::Model;
 
 /// How many rows a chunk has room for.
@@ -13,11 +13,11 @@ pub const CHUNK: usize = 256;
 
 /// Some rows in order, with room for 256.
 #[derive(Drop)]
-pub struct Chunk<K: Ord + Copy> {
-    rows: Vec<K>,
+pub struct Chunk<K: Ord + Copy, A: Allocator> {
+    rows: Vec<K, A>,
 }
 
-impl<K: Ord + Copy> Model for Chunk<K> {
+impl<K: Ord + Copy, A: Allocator> Model for Chunk<K, A> {
     ghost use Rattle.std.specs.Prelude.{List, ◌≤◌, vec_len, vec_capacity};
 
     ghost Value = { List K };
@@ -27,9 +27,9 @@ impl<K: Ord + Copy> Model for Chunk<K> {
     ghost invariant = { λ c. (vec_len c.rows ≤ 256) × (256 ≤ vec_capacity c.rows) };
 }
 
-impl<K: Ord + Copy> Chunk<K> {
+impl<K: Ord + Copy, A: Allocator> Chunk<K, A> {
     /// A chunk without rows, with room for all that it may have.
-    pub fn new(alloc: Global) -> Result<Chunk<K>, AllocError>
+    pub(crate) fn new(alloc: A) -> Result<Chunk<K, A>, AllocError>
         ensures { IfOk result (λ c. c ≡ []) }
     {
         Ok(Chunk {
@@ -38,7 +38,7 @@ impl<K: Ord + Copy> Chunk<K> {
     }
 
     /// How many rows there are.
-    pub fn len(&self) -> usize
+    pub(crate) fn len(&self) -> usize
         ensures length { result ≡ length self.now }
         ensures limit { length self.now ≤ 256 }
     {
@@ -46,14 +46,14 @@ impl<K: Ord + Copy> Chunk<K> {
     }
 
     /// The rows in order.
-    pub fn rows(&self) -> &[K]
+    pub(crate) fn rows(&self) -> &[K]
         ensures { result.now ≡ self.now }
     {
         &self.rows
     }
 
     /// Whether its first row comes after this one.
-    pub fn starts_after(&self, key: &K) -> bool
+    pub(crate) fn starts_after(&self, key: &K) -> bool
         ensures { result ≡ starts_after K.cmp key.now self.now }
     {
         match self.rows.first() {
@@ -78,7 +78,7 @@ impl<K: Ord + Copy> Chunk<K> {
     }
 
     /// How many rows come before this one.
-    pub fn rank(&self, key: &K) -> usize
+    pub(crate) fn rank(&self, key: &K) -> usize
         requires { IsStrictlySortedBy K.cmp self.now }
         ensures rank { result ≡ rank K.cmp key.now self.now }
         ensures limit { result ≤ 256 }
@@ -91,7 +91,7 @@ impl<K: Ord + Copy> Chunk<K> {
     }
 
     /// The row that ties with this one.
-    pub fn get(&self, key: &K) -> Option<&K>
+    pub(crate) fn get(&self, key: &K) -> Option<&K>
         requires { IsStrictlySortedBy K.cmp self.now }
         ensures { option_copied result ≡ tied K.cmp key.now self.now }
     {
@@ -105,7 +105,7 @@ impl<K: Ord + Copy> Chunk<K> {
     }
 
     /// Puts a row in its place, where none that ties with it is there.
-    pub fn put(&mut self, key: K)
+    pub(crate) fn put(&mut self, key: K)
         requires rises { IsStrictlySortedBy K.cmp self.old }
         requires room { length self.old < 256 }
         ensures { self.new ≡ put K.cmp key self.old }
@@ -118,7 +118,7 @@ impl<K: Ord + Copy> Chunk<K> {
     }
 
     /// Takes a row away, where it is there.
-    pub fn withdraw(&mut self, key: &K)
+    pub(crate) fn withdraw(&mut self, key: &K)
         requires rises { IsStrictlySortedBy K.cmp self.old }
         ensures { self.new ≡ without K.cmp key.now self.old }
     {
@@ -128,7 +128,7 @@ impl<K: Ord + Copy> Chunk<K> {
     }
 
     /// Adds a row at the end.
-    pub fn push(&mut self, key: K)
+    pub(crate) fn push(&mut self, key: K)
         requires { length self.old < 256 }
         ensures { self.new ≡ self.old ++ key ∷ [] }
     {
@@ -149,7 +149,7 @@ impl<K: Ord + Copy> Chunk<K> {
 
     /// Puts a row in its place in a full chunk. Its upper half moves over, but at the end of the last chunk
     /// the new row alone, so that a rising run fills its chunks.
-    pub fn put_splitting(&mut self, upper: &mut Chunk<K>, key: K, is_last: bool)
+    pub(crate) fn put_splitting(&mut self, upper: &mut Chunk<K, A>, key: K, is_last: bool)
         requires rises { IsStrictlySortedBy K.cmp self.old }
         requires empty { upper.old ≡ [] }
         requires full { length self.old ≡ 256 }
@@ -170,7 +170,7 @@ impl<K: Ord + Copy> Chunk<K> {
     }
 
     /// Moves the upper half over.
-    pub fn split(&mut self, upper: &mut Chunk<K>)
+    pub(crate) fn split(&mut self, upper: &mut Chunk<K, A>)
         requires { upper.old ≡ [] }
         ensures all { self.new ++ upper.new ≡ self.old }
         ensures lower { length self.old ≡ 256 → length self.new ≡ 128 }

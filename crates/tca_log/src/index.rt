@@ -5,13 +5,13 @@ ghost use Rattle.tca_log.specs.Logs.{first_of, is_disputed, answered, index_afte
 use crate::answer::Added;
 use crate::by_identity::ByIdentity;
 use crate::rows::Rows;
-use std::alloc::AllocError;
+use std::alloc::{AllocError, Allocator};
 use tca_report::{Identity, Report};
 
 /// Enters a report that the log does not have, and answers what it is to it. An error leaves both as they were.
-pub fn enter(
-    index: &mut Rows<ByIdentity>,
-    disputed: &mut Rows<Identity>,
+pub(crate) fn enter<A: Allocator + Copy>(
+    index: &mut Rows<ByIdentity, A>,
+    disputed: &mut Rows<Identity, A>,
     report: Report,
 ) -> Result<Added, AllocError>
     requires few { length index.old.rows < 4194304 }

@@ -4,16 +4,17 @@ ghost use Rattle.std.specs.Iterator.{YieldsFirstRef, item_count};
 ghost use Rattle.tca_log.specs.Chunks.{joined};
 
 use crate::chunk::Chunk;
+use std::alloc::{Allocator, Global};
 use std::marker::Model;
 
 /// Rows in order, borrowed from their container.
 #[derive(Drop)]
-pub struct RowsIter<'a, K: Ord + Copy> {
+pub struct RowsIter<'a, K: Ord + Copy, A: Allocator = Global> {
     now: &'a [K],
-    later: &'a [Chunk<K>],
+    later: &'a [Chunk<K, A>],
 }
 
-impl<'a, K: Ord + Copy> Model for RowsIter<'a, K> {
+impl<'a, K: Ord + Copy, A: Allocator> Model for RowsIter<'a, K, A> {
     ghost use Rattle.std.specs.Prelude.{List, ◌++◌};
     ghost use Rattle.tca_log.specs.Chunks.{joined};
 
@@ -22,15 +23,15 @@ impl<'a, K: Ord + Copy> Model for RowsIter<'a, K> {
     ghost view = { λ r. r.now.now ++ joined r.later.now };
 }
 
-impl<'a, K: Ord + Copy> RowsIter<'a, K> {
-    pub(crate) fn new(now: &'a [K], later: &'a [Chunk<K>]) -> RowsIter<'a, K>
+impl<'a, K: Ord + Copy, A: Allocator> RowsIter<'a, K, A> {
+    pub(crate) fn new(now: &'a [K], later: &'a [Chunk<K, A>]) -> RowsIter<'a, K, A>
         ensures { result ≡ now.now ++ joined later.now }
     {
         RowsIter { now, later }
     }
 }
 
-impl<'a, K: Ord + Copy> Iterator for RowsIter<'a, K> {
+impl<'a, K: Ord + Copy, A: Allocator> Iterator for RowsIter<'a, K, A> {
     type Item = &'a K;
 
     ghost next_gives = { YieldsFirstRef (λ s. s) };

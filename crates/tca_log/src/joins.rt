@@ -5,10 +5,10 @@ ghost use Rattle.tca_log.specs.LogJoin.{IsLogSet, log_clash, log_full, log_joine
 
 use crate::fault::LogFault;
 use crate::log::Log;
-use std::alloc::AllocError;
+use std::alloc::{AllocError, Allocator};
 use tca_join::{Join, JoinFault};
 
-impl Join for Log {
+impl<A: Allocator + Copy> Join for Log<A> {
     ghost proper = { IsLogSet };
 
     ghost clash = { log_clash };
@@ -26,7 +26,7 @@ impl Join for Log {
     }
 
     /// The union. It is refused where `union` is.
-    fn join_from(&mut self, other: &Log) -> Result<(), JoinFault> {
+    fn join_from(&mut self, other: &Log<A>) -> Result<(), JoinFault> {
         match self.union(other) {
             Ok(_) => {
                 let _within = self.len();
@@ -37,7 +37,7 @@ impl Join for Log {
         }
     }
 
-    fn copy(&self) -> Result<Log, AllocError> {
+    fn copy(&self) -> Result<Log<A>, AllocError> {
         Log::copy(self)
     }
 }

@@ -4,9 +4,10 @@ ghost use Rattle.tca_log.specs.Chunks.{IsPlace, joined};
 
 use crate::chunk::Chunk;
 use crate::iter::RowsIter;
+use std::alloc::Allocator;
 
 /// The chunk in which a row is, or would go.
-pub fn place<K: Ord + Copy>(chunks: &[Chunk<K>], key: &K) -> usize
+pub(crate) fn place<K: Ord + Copy, A: Allocator>(chunks: &[Chunk<K, A>], key: &K) -> usize
     requires { 0 < length chunks.now }
     ensures { IsPlace K.cmp chunks.now key.now result }
 {
@@ -28,7 +29,7 @@ pub fn place<K: Ord + Copy>(chunks: &[Chunk<K>], key: &K) -> usize
 }
 
 /// How many rows these are.
-pub fn count_of<K: Ord + Copy>(chunks: &[Chunk<K>]) -> usize
+pub(crate) fn count_of<K: Ord + Copy, A: Allocator>(chunks: &[Chunk<K, A>]) -> usize
     requires { length (joined chunks.now) ≤ 4194304 }
     ensures { result ≡ length (joined chunks.now) }
 {
@@ -40,7 +41,10 @@ pub fn count_of<K: Ord + Copy>(chunks: &[Chunk<K>]) -> usize
 }
 
 /// The rows from one on.
-pub fn from_row<K: Ord + Copy>(chunks: &[Chunk<K>], row: usize) -> RowsIter<'_, K>
+pub(crate) fn from_row<K: Ord + Copy, A: Allocator>(
+    chunks: &[Chunk<K, A>],
+    row: usize,
+) -> RowsIter<'_, K, A>
     requires { row ≤ length (joined chunks.now) }
     ensures { result ≡ drop row (joined chunks.now) }
 {

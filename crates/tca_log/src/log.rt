@@ -13,7 +13,7 @@ use crate::index::enter;
 use crate::iter::RowsIter;
 use crate::rows::{LIMIT, Rows};
 use crate::settled::Settled;
-use std::alloc::{AllocError, Global};
+use std::alloc::{AllocError, Allocator, Global};
 use std::marker::Model;
 use tca_report::{Identity, Report};
 
@@ -22,13 +22,13 @@ use tca_report::{Identity, Report};
 ///
 /// Adding a report costs a search among the reports and one among the identities, whatever their values are.
 #[derive(Drop)]
-pub struct Log {
-    pub(crate) rows: Rows<Report>,
-    pub(crate) index: Rows<ByIdentity>,
-    pub(crate) disputed: Rows<Identity>,
+pub struct Log<A: Allocator + Copy = Global> {
+    pub(crate) rows: Rows<Report, A>,
+    pub(crate) index: Rows<ByIdentity, A>,
+    pub(crate) disputed: Rows<Identity, A>,
 }
 
-impl Model for Log {
+impl<A: Allocator + Copy> Model for Log<A> {
     ghost use Rattle.std.specs.Prelude.{List};
     ghost use Rattle.tca_report.specs.Reports.{PacketReport};
     ghost use Rattle.tca_log.specs.Logs.{IsLog};
@@ -40,9 +40,9 @@ impl Model for Log {
     ghost invariant = { λ l. IsLog l.rows.rows l.index.rows l.disputed.rows };
 }
 
-impl Log {
+impl<A: Allocator + Copy> Log<A> {
     /// A log without reports. It takes no memory.
-    pub fn new(alloc: Global) -> Log
+    pub fn new(alloc: A) -> Log<A>
         ensures { result ≡ [] }
     {
         Log {
@@ -75,7 +75,7 @@ impl Log {
     }
 
     /// All reports, in order.
-    pub fn reports(&self) -> RowsIter<'_, Report>
+    pub fn reports(&self) -> RowsIter<'_, Report, A>
         ensures all { result ≡ self.now }
         ensures rises { IsStrictlySortedBy report_cmp self.now }
         ensures limit { length self.now ≤ 4194304 }
@@ -84,7 +84,7 @@ impl Log {
     }
 
     /// The reports whose identity has no other content, in order.
-    pub fn settled(&self) -> Settled<'_>
+    pub fn settled(&self) -> Settled<'_, A>
         ensures all { result ≡ undisputed self.now }
         ensures rises { IsStrictlySortedBy report_cmp (undisputed self.now) }
         ensures limit { length (undisputed self.now) ≤ 4194304 }
@@ -115,7 +115,7 @@ impl Log {
     }
 
     /// The same log once more.
-    pub fn copy(&self) -> Result<Log, AllocError>
+    pub fn copy(&self) -> Result<Log<A>, AllocError>
         ensures { IfOk result (λ c. c ≡ self.now) }
     {
         Ok(Log {

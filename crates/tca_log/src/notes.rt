@@ -5,18 +5,18 @@ ghost use Rattle.tca_log.specs.Logs.{indexed, noted, noted_all};
 
 use crate::by_identity::ByIdentity;
 use crate::rows::Rows;
-use std::alloc::{AllocError, Global};
+use std::alloc::{AllocError, Allocator};
 use std::marker::Model;
 use tca_report::{Identity, Report};
 
 /// The first contents of identities that were unknown, and the identities that become disputed.
 #[derive(Drop)]
-pub struct Notes {
-    pub fresh: Rows<ByIdentity>,
-    pub twice: Rows<Identity>,
+pub struct Notes<A: Allocator + Copy> {
+    pub fresh: Rows<ByIdentity, A>,
+    pub twice: Rows<Identity, A>,
 }
 
-impl Model for Notes {
+impl<A: Allocator + Copy> Model for Notes<A> {
     ghost use Rattle.tca_log.specs.Logs.{Noted};
 
     ghost Value = { Noted };
@@ -24,9 +24,9 @@ impl Model for Notes {
     ghost view = { λ n. record { fresh = n.fresh.rows; twice = n.twice.rows } };
 }
 
-impl Notes {
+impl<A: Allocator + Copy> Notes<A> {
     /// Nothing noted yet.
-    pub fn new(alloc: Global) -> Notes
+    pub(crate) fn new(alloc: A) -> Notes<A>
         ensures { result ≡ record { fresh = []; twice = [] } }
     {
         Notes {
@@ -36,10 +36,10 @@ impl Notes {
     }
 
     /// Notes one more report.
-    pub fn note(
+    pub(crate) fn note(
         &mut self,
-        index: &Rows<ByIdentity>,
-        disputed: &Rows<Identity>,
+        index: &Rows<ByIdentity, A>,
+        disputed: &Rows<Identity, A>,
         key: ByIdentity,
     ) -> Result<(), AllocError>
         requires few { length self.old.fresh < 4194304 }
@@ -61,12 +61,12 @@ impl Notes {
 }
 
 /// What all these add.
-pub fn note_all(
-    alloc: Global,
-    index: &Rows<ByIdentity>,
-    disputed: &Rows<Identity>,
+pub(crate) fn note_all<A: Allocator + Copy>(
+    alloc: A,
+    index: &Rows<ByIdentity, A>,
+    disputed: &Rows<Identity, A>,
     keys: &[ByIdentity],
-) -> Result<Notes, AllocError>
+) -> Result<Notes<A>, AllocError>
     requires { length keys.now ≤ 4194304 }
     ensures { IfOk result (λ n. n ≡ noted_all index.now.rows disputed.now.rows keys.now (record { fresh = []; twice = [] })) }
 {
@@ -78,7 +78,10 @@ pub fn note_all(
 }
 
 /// The reports in the order of their identities, so that those that are searched for lie side by side.
-pub fn by_identity(alloc: Global, reports: &Rows<Report>) -> Result<Vec<ByIdentity>, AllocError>
+pub(crate) fn by_identity<A: Allocator + Copy>(
+    alloc: A,
+    reports: &Rows<Report, A>,
+) -> Result<Vec<ByIdentity, A>, AllocError>
     ensures { IfOk result (λ keys. IsPermutation (map indexed reports.now.rows) keys.items) }
 {
     let mut keys = Vec::with_capacity(alloc, reports.len())?;

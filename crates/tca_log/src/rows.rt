@@ -7,7 +7,7 @@ ghost use Rattle.tca_log.specs.Chunks.{without, rank, tied, put_each, without_ea
 use crate::chunk::{CHUNK, Chunk};
 use crate::iter::RowsIter;
 use crate::locate::{count_of, from_row, place};
-use std::alloc::{AllocError, Global};
+use std::alloc::{AllocError, Allocator, Global};
 use std::marker::Model;
 
 /// The most rows of a container.
@@ -16,13 +16,13 @@ pub const LIMIT: usize = 4_194_304;
 /// Rows in strictly ascending order, at most 4,194,304. They lie in chunks of at most 256, so that putting
 /// one moves few others. `reserve` makes room for one row, and `put` and `withdraw` take no memory.
 #[derive(Drop)]
-pub struct Rows<K: Ord + Copy> {
-    chunks: Vec<Chunk<K>>,
-    spare: Option<Chunk<K>>,
+pub struct Rows<K: Ord + Copy, A: Allocator + Copy = Global> {
+    chunks: Vec<Chunk<K, A>, A>,
+    spare: Option<Chunk<K, A>>,
     count: usize,
 }
 
-impl<K: Ord + Copy> Model for Rows<K> {
+impl<K: Ord + Copy, A: Allocator + Copy> Model for Rows<K, A> {
     ghost use Rattle.std.specs.Prelude.{is_some, vec_capacity};
     ghost use Rattle.tca_log.specs.Chunks.{Ordered, joined, AreRows};
 
@@ -33,9 +33,9 @@ impl<K: Ord + Copy> Model for Rows<K> {
     ghost invariant = { λ s. AreRows K.cmp s.chunks.items s.spare s.count (vec_capacity s.chunks) };
 }
 
-impl<K: Ord + Copy> Rows<K> {
+impl<K: Ord + Copy, A: Allocator + Copy> Rows<K, A> {
     /// A container without rows. It takes no memory.
-    pub fn new(alloc: Global) -> Rows<K>
+    pub fn new(alloc: A) -> Rows<K, A>
         ensures { result ≡ record { rows = []; ready = false } }
     {
         Rows {
@@ -46,7 +46,7 @@ impl<K: Ord + Copy> Rows<K> {
     }
 
     /// Where its memory comes from.
-    pub(crate) fn allocator(&self) -> Global {
+    pub(crate) fn allocator(&self) -> A {
         *self.chunks.allocator()
     }
 
@@ -60,14 +60,16 @@ impl<K: Ord + Copy> Rows<K> {
     }
 
     /// The rows in order.
-    pub fn iter(&self) -> RowsIter<'_, K>
-        ensures { result ≡ self.now.rows }
+    pub fn iter(&self) -> RowsIter<'_, K, A>
+        ensures rows { result ≡ self.now.rows }
+        ensures limit { length self.now.rows ≤ 4194304 }
+        ensures rises { IsStrictlySortedBy K.cmp self.now.rows }
     {
         RowsIter::new(&[], &self.chunks)
     }
 
     /// The rows in order from one on, counted from 0.
-    pub fn iter_from(&self, row: usize) -> RowsIter<'_, K>
+    pub fn iter_from(&self, row: usize) -> RowsIter<'_, K, A>
         requires { row ≤ length self.now.rows }
         ensures { result ≡ drop row self.now.rows }
     {
@@ -140,7 +142,7 @@ impl<K: Ord + Copy> Rows<K> {
     }
 
     /// Puts all rows of another container, or none where memory is short.
-    pub fn put_all(&mut self, other: &Rows<K>) -> Result<(), AllocError>
+    pub(crate) fn put_all(&mut self, other: &Rows<K, A>) -> Result<(), AllocError>
         requires apart { AreApart K.cmp other.now.rows self.old.rows }
         requires few { length self.old.rows + length other.now.rows ≤ 4194304 }
         ensures ok { OnOk result (self.new.rows ≡ put_each K.cmp other.now.rows self.old.rows) }
@@ -160,7 +162,7 @@ impl<K: Ord + Copy> Rows<K> {
     }
 
     /// Takes away each row that ties with one of another container. It takes no memory.
-    pub fn withdraw_all(&mut self, other: &Rows<K>)
+    pub(crate) fn withdraw_all(&mut self, other: &Rows<K, A>)
         ensures { self.new.rows ≡ without_each K.cmp other.now.rows self.old.rows }
     {
         for key in other.iter() {
@@ -171,7 +173,7 @@ impl<K: Ord + Copy> Rows<K> {
     }
 
     /// How many rows tie with none of another container.
-    pub fn count_beyond(&self, held: &Rows<K>) -> usize
+    pub(crate) fn count_beyond(&self, held: &Rows<K, A>) -> usize
         ensures { result ≡ length (without_each K.cmp held.now.rows self.now.rows) }
     {
         let mut count = self.len();
@@ -184,10 +186,10 @@ impl<K: Ord + Copy> Rows<K> {
     }
 
     /// The rows that tie with none of another container.
-    pub fn difference(&self, held: &Rows<K>) -> Result<Rows<K>, AllocError>
+    pub(crate) fn difference(&self, alloc: A, held: &Rows<K, A>) -> Result<Rows<K, A>, AllocError>
         ensures { IfOk result (λ rest. rest.rows ≡ without_each K.cmp held.now.rows self.now.rows) }
     {
-        let mut rest = Rows::new(*self.chunks.allocator());
+        let mut rest = Rows::new(alloc);
         for key in self.iter() {
             if !held.contains(key) {
                 rest.reserve()?;
@@ -198,7 +200,7 @@ impl<K: Ord + Copy> Rows<K> {
     }
 
     /// The same rows once more.
-    pub fn copy(&self) -> Result<Rows<K>, AllocError>
+    pub(crate) fn copy(&self) -> Result<Rows<K, A>, AllocError>
         ensures { IfOk result (λ c. c.rows ≡ self.now.rows) }
     {
         let mut copy = Rows::new(*self.chunks.allocator());
@@ -208,7 +210,11 @@ impl<K: Ord + Copy> Rows<K> {
 }
 
 // Puts a row in its chunk, or splits the chunk where it is full.
-fn put_in<K: Ord + Copy>(chunks: &mut Vec<Chunk<K>>, spare: &mut Option<Chunk<K>>, key: K)
+fn put_in<K: Ord + Copy, A: Allocator>(
+    chunks: &mut Vec<Chunk<K, A>, A>,
+    spare: &mut Option<Chunk<K, A>>,
+    key: K,
+)
     requires chunks { AreChunks K.cmp chunks.old.items }
     requires spare { spare.old ≡ Some [] }
     requires room { vec_len chunks.old < vec_capacity chunks.old }
@@ -235,7 +241,7 @@ fn put_in<K: Ord + Copy>(chunks: &mut Vec<Chunk<K>>, spare: &mut Option<Chunk<K>
 }
 
 // Takes a row from its chunk, and the chunk away where it has no other.
-fn take_from<K: Ord + Copy>(chunks: &mut Vec<Chunk<K>>, key: &K)
+fn take_from<K: Ord + Copy, A: Allocator>(chunks: &mut Vec<Chunk<K, A>, A>, key: &K)
     requires chunks { AreChunks K.cmp chunks.old.items }
     requires some { 0 < vec_len chunks.old }
     ensures joined { joined chunks.new.items ≡ without K.cmp key.now (joined chunks.old.items) }

@@ -5,17 +5,18 @@ ghost use Rattle.tca_log.specs.Disputes.{settled_of};
 
 use crate::iter::RowsIter;
 use crate::rows::Rows;
+use std::alloc::{Allocator, Global};
 use std::marker::Model;
 use tca_report::{Identity, Report};
 
 /// The settled reports in order, borrowed from their log.
 #[derive(Drop)]
-pub struct Settled<'a> {
-    left: RowsIter<'a, Report>,
-    disputed: &'a Rows<Identity>,
+pub struct Settled<'a, A: Allocator + Copy = Global> {
+    left: RowsIter<'a, Report, A>,
+    disputed: &'a Rows<Identity, A>,
 }
 
-impl<'a> Model for Settled<'a> {
+impl<'a, A: Allocator + Copy> Model for Settled<'a, A> {
     ghost use Rattle.std.specs.Prelude.{List};
     ghost use Rattle.tca_report.specs.Reports.{PacketReport};
     ghost use Rattle.tca_log.specs.Disputes.{settled_of};
@@ -25,8 +26,8 @@ impl<'a> Model for Settled<'a> {
     ghost view = { λ s. settled_of s.disputed.now.rows s.left };
 }
 
-impl<'a> Settled<'a> {
-    pub(crate) fn new(rows: &'a Rows<Report>, disputed: &'a Rows<Identity>) -> Settled<'a>
+impl<'a, A: Allocator + Copy> Settled<'a, A> {
+    pub(crate) fn new(rows: &'a Rows<Report, A>, disputed: &'a Rows<Identity, A>) -> Settled<'a, A>
         ensures { result ≡ settled_of disputed.now.rows rows.now.rows }
     {
         Settled {
@@ -36,7 +37,7 @@ impl<'a> Settled<'a> {
     }
 }
 
-impl<'a> Iterator for Settled<'a> {
+impl<'a, A: Allocator + Copy> Iterator for Settled<'a, A> {
     type Item = &'a Report;
 
     ghost next_gives = { YieldsFirstRef (λ s. s) };

@@ -1,7 +1,9 @@
 use crate::rows::Rows;
 use crate::{Added, Log, LogFault};
-use std::alloc::{AllocError, Global};
+use linked_list_allocator::LocalHeap;
+use std::alloc::{AllocError, Allocator, Global};
 use std::test::Fail;
+use tca_join::{Join, JoinFault};
 use tca_report::{Content, Identity, Report};
 
 // The time of the first report of the worked rows.
@@ -78,7 +80,7 @@ fn contents_in(list: &[Report], identity: Identity) -> usize {
     list.iter().filter(|r| r.identity() == identity).count()
 }
 
-fn has_reports(log: &Log, list: &[Report]) -> bool {
+fn has_reports<A: Allocator + Copy>(log: &Log<A>, list: &[Report]) -> bool {
     let mut left = log.reports();
     for report in list {
         match left.next() {
@@ -93,7 +95,7 @@ fn has_reports(log: &Log, list: &[Report]) -> bool {
     left.next().is_none()
 }
 
-fn has_settled(log: &Log, list: &[Report]) -> bool {
+fn has_settled<A: Allocator + Copy>(log: &Log<A>, list: &[Report]) -> bool {
     let mut left = log.settled();
     for report in list {
         if contents_in(list, report.identity()) == 1 {
@@ -279,10 +281,16 @@ fn refuses(log: &mut Log, new: Report, old: Report) -> bool {
         && log.len() == LIMIT
 }
 
+// Through the trait alone.
+fn join_refused<J: Join>(value: &mut J, other: &J) -> Option<JoinFault> {
+    value.join_from(other).err()
+}
+
 fn refuses_union(alloc: Global, log: &mut Log, report: Report) -> bool {
     let mut other = Log::new(alloc);
     other.add(report) == Ok(Added::Fresh)
         && log.union(&other) == Err(LogFault::Full)
+        && join_refused(log, &other) == Some(JoinFault::Full)
         && log.len() == LIMIT
 }
 
@@ -294,6 +302,211 @@ fn a_full_log_refuses_what_is_new(rt: HostRuntime) -> Result<(), Fail> {
         assert!(rt; refuses(&mut log, new, old));
         assert!(rt; refuses_union(rt.alloc(), &mut log, new));
     }
+    Ok(())
+}
+
+// Through the trait alone.
+fn joined<J: Join>(first: &J, second: &J) -> Result<J, JoinFault> {
+    let mut value = first.copy()?;
+    value.join_from(second)?;
+    Ok(value)
+}
+
+fn has_all(log: &Log, list: &[Report]) -> bool {
+    has_reports(log, list) && has_settled(log, list)
+}
+
+// This many of a list, without some at its start.
+fn part(
+    alloc: Global,
+    list: &[Report],
+    without: usize,
+    count: usize,
+) -> Result<Vec<Report>, AllocError> {
+    let mut part = Vec::new(alloc);
+    for report in list.iter().skip(without).take(count) {
+        part.push(*report)?;
+    }
+    Ok(part)
+}
+
+fn joins_to(first: &Log, second: &Log, list: &[Report]) -> bool {
+    match joined(first, second) {
+        Ok(log) => has_all(&log, list),
+        Err(_) => false,
+    }
+}
+
+fn joins(alloc: Global) -> Result<bool, AllocError> {
+    let list = many(alloc)?;
+    let lower = part(alloc, &list, 0, 400)?;
+    let upper = part(alloc, &list, 200, 313)?;
+    let mut first = Log::new(alloc);
+    let mut second = Log::new(alloc);
+    let added = first.add_all(&lower) == Ok(400) && second.add_all(&upper) == Ok(313);
+    Ok(
+        added
+            && joins_to(&first, &second, &list)
+            && joins_to(&second, &first, &list)
+            && joins_to(&first, &first, &lower),
+    )
+}
+
+#[test]
+fn logs_join_to_their_union(rt: HostRuntime) -> Result<(), Fail> {
+    assert!(rt; joins(rt.alloc())?);
+    Ok(())
+}
+
+// No growth of a log takes less, so that heaps that differ by it refuse each in turn.
+const STEP: usize = 128;
+
+// What the sweeps below came to in a heap of some size.
+#[derive(Clone, Copy, Debug, PartialEq, Eq)]
+enum Step {
+    // The log of before was too large.
+    Before,
+    // The call was refused, the log is as before, and the heap then held this many octets.
+    Refused(usize),
+    // The call was refused otherwise, or was done wrongly.
+    Wrong,
+    Done,
+}
+
+// A log that had just these reports, without disputes, and was refused more.
+fn refused<A: Allocator + Copy>(
+    log: &Log<A>,
+    fault: LogFault,
+    list: &[Report],
+    octets: usize,
+) -> Step {
+    let as_before = has_reports(log, list) && has_settled(log, list) && log.disputed() == 0;
+    if as_before && fault == LogFault::Memory {
+        Step::Refused(octets)
+    } else {
+        Step::Wrong
+    }
+}
+
+// A log that got all of these, and has this many disputes.
+fn done<A: Allocator + Copy>(log: &Log<A>, list: &[Report], disputed: u32) -> Step {
+    if has_reports(log, list) && log.disputed() == disputed {
+        Step::Done
+    } else {
+        Step::Wrong
+    }
+}
+
+fn add_to<A: Allocator + Copy>(log: &mut Log<A>, list: &[Report]) -> Result<(), LogFault> {
+    for report in list {
+        log.add(*report)?;
+    }
+    Ok(())
+}
+
+// A second content for the only identity, until a growth is refused.
+fn dispute_step(small: &LocalHeap, first: Report, second: Report) -> Step {
+    let mut log = Log::new(small);
+    if log.add(first).is_err() {
+        return Step::Before;
+    }
+    match log.add(second) {
+        Ok(_) => done(&log, &[first, second], 1),
+        Err(fault) => refused(&log, fault, &[first], small.used()),
+    }
+}
+
+// What the heap held after each refusal, every amount once.
+fn kept(alloc: Global, steps: &[Step]) -> Result<Vec<usize>, AllocError> {
+    let mut kept = Vec::new(alloc);
+    for step in steps {
+        if let Step::Refused(octets) = *step {
+            if !kept.contains(&octets) {
+                kept.push(octets)?;
+            }
+        }
+    }
+    Ok(kept)
+}
+
+fn dispute_steps(alloc: Global, first: Report, second: Report) -> Result<Vec<Step>, AllocError> {
+    let mut met = Vec::new(alloc);
+    for size in 1..1024 {
+        let small = LocalHeap::new(alloc, STEP * size)?;
+        let step = dispute_step(&small, first, second);
+        met.push(step)?;
+        if step == Step::Done {
+            break;
+        }
+    }
+    Ok(met)
+}
+
+#[test]
+fn a_refused_dispute_leaves_the_log_as_it_was(rt: HostRuntime) -> Result<(), Fail> {
+    if let (Some(first), Some(second)) = (report(3, 50, 600), report(3, 60, 601)) {
+        let met = dispute_steps(rt.alloc(), first, second)?;
+        // Refused to the reports, to the disputed identities' list of chunks, and to a chunk of these.
+        assert_eq!(rt; kept(rt.alloc(), &met)?.len(), 3);
+        assert!(rt; met.contains(&Step::Done) && !met.contains(&Step::Wrong));
+    }
+    Ok(())
+}
+
+// The union with another log that has half of it, and as much besides, until a growth is refused.
+fn union_step<'a>(
+    small: &'a LocalHeap,
+    lower: &[Report],
+    other: &Log<&'a LocalHeap>,
+    list: &[Report],
+) -> Step {
+    let mut log = Log::new(small);
+    if add_to(&mut log, lower).is_err() {
+        return Step::Before;
+    }
+    match log.union(other) {
+        Ok(_) => done(&log, list, 213),
+        Err(fault) => refused(&log, fault, lower, small.used()),
+    }
+}
+
+fn union_within(
+    alloc: Global,
+    octets: usize,
+    lower: &[Report],
+    upper: &[Report],
+    list: &[Report],
+) -> Result<Step, AllocError> {
+    let small = LocalHeap::new(alloc, octets)?;
+    let ample = LocalHeap::new(alloc, 1 << 17)?;
+    let mut other = Log::new(&ample);
+    if add_to(&mut other, upper).is_err() {
+        return Ok(Step::Wrong);
+    }
+    Ok(union_step(&small, lower, &other, list))
+}
+
+fn union_steps(alloc: Global, list: &[Report]) -> Result<Vec<Step>, AllocError> {
+    let lower = part(alloc, list, 0, 200)?;
+    let upper = part(alloc, list, 100, 413)?;
+    let mut met = Vec::new(alloc);
+    for size in 240..1024 {
+        let step = union_within(alloc, STEP * size, &lower, &upper, list)?;
+        met.push(step)?;
+        if step == Step::Done {
+            break;
+        }
+    }
+    Ok(met)
+}
+
+#[test]
+fn a_refused_union_leaves_the_log_as_it_was(rt: HostRuntime) -> Result<(), Fail> {
+    let list = many(rt.alloc())?;
+    let met = union_steps(rt.alloc(), &list)?;
+    // Refused to what is needed for the call alone, to the reports, to the index, and to the disputed identities.
+    assert_eq!(rt; kept(rt.alloc(), &met)?.len(), 4);
+    assert!(rt; met.contains(&Step::Done) && !met.contains(&Step::Wrong));
     Ok(())
 }
 
@@ -311,7 +524,7 @@ fn exchanges(alloc: Global) -> Result<(usize, usize, usize), AllocError> {
             all.put(i);
         }
     }
-    let even = all.difference(&odd)?;
+    let even = all.difference(alloc, &odd)?;
     all.withdraw_all(&odd);
     Ok((even.len(), all.count_beyond(&odd), all.rank(&300)))
 }

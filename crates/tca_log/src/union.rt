@@ -1,5 +1,5 @@
 //! Many reports at once: all of them or none.
-ghost use Rattle.std.specs.Prelude.{◌≡◌, ◌+◌, ◌<◌, ◌≤◌, ◌++◌, length, IfOk, IfErr, OnOk, OnErr, IsOk};
+ghost use Rattle.std.specs.Prelude.{◌≡◌, ◌+◌, ◌<◌, ◌≤◌, ◌++◌, length, IfOk, IfErr, OnOk, OnErr, IsOk, nat_lt};
 ghost use Rattle.std.specs.List.Sorted.{IsStrictlySortedBy};
 ghost use Rattle.tca_join.specs.Sets.{in_order};
 ghost use Rattle.tca_report.specs.Reports.{report_cmp};
@@ -13,14 +13,14 @@ use crate::fault::LogFault;
 use crate::log::Log;
 use crate::notes::{Notes, by_identity, note_all};
 use crate::rows::{LIMIT, Rows};
-use std::alloc::AllocError;
+use std::alloc::{AllocError, Allocator};
 use tca_report::{Identity, Report};
 
-impl Log {
+impl<A: Allocator + Copy> Log<A> {
     /// Adds all reports of another log, and answers how many were new. `Full` comes exactly where both have
     /// more than 4,194,304 reports together, and `Memory` where a growth was refused; both leave the log as
     /// it was. Where nothing is new no memory is taken.
-    pub fn union(&mut self, other: &Log) -> Result<u32, LogFault>
+    pub fn union(&mut self, other: &Log<A>) -> Result<u32, LogFault>
         ensures ok { OnOk result (self.new ≡ in_order report_cmp (self.old ++ other.now)) }
         ensures count { IfOk result (λ n. n + length self.old ≡ length self.new) }
         ensures err { OnErr result (self.new ≡ self.old) }
@@ -34,14 +34,16 @@ impl Log {
         if new > LIMIT - self.rows.len() {
             return Err(LogFault::Full);
         }
-        let news = other.rows.difference(&self.rows)?;
+        let news = other.rows.difference(self.rows.allocator(), &self.rows)?;
         take_in(&mut self.rows, &mut self.index, &mut self.disputed, &news)?;
         Ok(new as u32)
     }
 
     /// Adds all reports of a list in any order, where some may stand more than once, and answers how many were
-    /// new. It sorts them first, so it is faster than adding one by one. `Full` comes only where the log would
-    /// have more than 4,194,304 reports, and `Memory` where a growth was refused; both leave the log as it was.
+    /// new. It sorts a copy of the list first, so it is faster than adding one by one. Where there is no memory
+    /// for the copy it answers `Memory`, since it can't know yet how many are new. After that `Full` comes
+    /// exactly where the log would have more than 4,194,304 reports, and `Memory` where a growth was refused.
+    /// Each refusal leaves the log as it was.
     pub fn add_all(&mut self, reports: &[Report]) -> Result<u32, LogFault>
         ensures ok { OnOk result (self.new ≡ in_order report_cmp (self.old ++ reports.now)) }
         ensures count { IfOk result (λ n. n + length self.old ≡ length self.new) }
@@ -53,42 +55,73 @@ impl Log {
         if reports.is_empty() {
             return Ok(0);
         }
-        let mut sorted = Vec::from_slice(alloc, reports)?;
-        sorted.sort_unstable();
-        let news = gathered(&self.rows, &sorted)?;
-        let new = news.len();
+        let sorted = set_of(alloc, reports)?;
+        if is_over(&self.rows, &sorted) {
+            return Err(LogFault::Full);
+        }
+        let news = news_of(alloc, &self.rows, &sorted)?;
         take_in(&mut self.rows, &mut self.index, &mut self.disputed, &news)?;
-        Ok(new as u32)
+        Ok(news.len() as u32)
     }
 }
 
-// Those of a list that are not among the rows, each once.
-fn gathered(rows: &Rows<Report>, reports: &[Report]) -> Result<Rows<Report>, LogFault>
-    ensures ok { IfOk result (λ news. news.rows ≡ without_each report_cmp rows.now.rows (in_order report_cmp reports.now)) }
-    ensures few { IfOk result (λ news. length rows.now.rows + length news.rows ≤ 4194304) }
-    ensures full { IfErr result (λ e. e ≡ LogFault.Full → 4194304 < length (in_order report_cmp (rows.now.rows ++ reports.now))) }
+// The reports of a list in order, each once.
+fn set_of<A: Allocator + Copy>(alloc: A, reports: &[Report]) -> Result<Vec<Report, A>, AllocError>
+    ensures { IfOk result (λ set. set.items ≡ in_order report_cmp reports.now) }
 {
-    let held = rows.len();
-    let mut news = Rows::new(rows.allocator());
+    let mut sorted = Vec::from_slice(alloc, reports)?;
+    sorted.sort_unstable();
+    sorted.dedup();
+    Ok(sorted)
+}
+
+// How many of a list are not among the rows.
+fn count_new<A: Allocator + Copy>(rows: &Rows<Report, A>, reports: &[Report]) -> usize
+    ensures { result ≡ length (without_each report_cmp rows.now.rows reports.now) }
+{
+    let mut count = 0;
     for report in reports {
-        if rows.contains(report) || news.contains(report) {
-            continue;
+        if !rows.contains(report) {
+            count += 1;
         }
-        if held + news.len() >= LIMIT {
-            return Err(LogFault::Full);
+    }
+    count
+}
+
+// Whether the rows are too many together with those of a list that are not among them.
+fn is_over<A: Allocator + Copy>(rows: &Rows<Report, A>, reports: &[Report]) -> bool
+    ensures { result ≡ nat_lt 4194304 (length rows.now.rows + length (without_each report_cmp rows.now.rows reports.now)) }
+{
+    let room = LIMIT - rows.len();
+    reports.len() > room && count_new(rows, reports) > room
+}
+
+// Those of a set that are not among the rows.
+fn news_of<A: Allocator + Copy>(
+    alloc: A,
+    rows: &Rows<Report, A>,
+    set: &[Report],
+) -> Result<Rows<Report, A>, AllocError>
+    requires rises { IsStrictlySortedBy report_cmp set.now }
+    requires few { length (without_each report_cmp rows.now.rows set.now) ≤ 4194304 }
+    ensures { IfOk result (λ news. news.rows ≡ without_each report_cmp rows.now.rows set.now) }
+{
+    let mut news = Rows::new(alloc);
+    for report in set {
+        if !rows.contains(report) {
+            news.reserve()?;
+            news.put(*report);
         }
-        news.reserve()?;
-        news.put(*report);
     }
     Ok(news)
 }
 
 // Puts reports that are new into a log's three parts.
-fn take_in(
-    rows: &mut Rows<Report>,
-    index: &mut Rows<ByIdentity>,
-    disputed: &mut Rows<Identity>,
-    news: &Rows<Report>,
+fn take_in<A: Allocator + Copy>(
+    rows: &mut Rows<Report, A>,
+    index: &mut Rows<ByIdentity, A>,
+    disputed: &mut Rows<Identity, A>,
+    news: &Rows<Report, A>,
 ) -> Result<(), AllocError>
     requires log { IsLog rows.old.rows index.old.rows disputed.old.rows }
     requires rises { IsStrictlySortedBy report_cmp news.now.rows }
@@ -110,10 +143,10 @@ fn take_in(
 }
 
 // Puts what is new into both, or into none.
-fn put_notes(
-    index: &mut Rows<ByIdentity>,
-    disputed: &mut Rows<Identity>,
-    notes: &Notes,
+fn put_notes<A: Allocator + Copy>(
+    index: &mut Rows<ByIdentity, A>,
+    disputed: &mut Rows<Identity, A>,
+    notes: &Notes<A>,
 ) -> Result<(), AllocError>
     requires apart { AreApart index_cmp notes.now.fresh index.old.rows }
     requires few { length index.old.rows + length notes.now.fresh ≤ 4194304 }

@@ -31,7 +31,7 @@ impl MeterFault {
 }
 
 /// Whether a rate or a burst size is in its range.
-pub fn in_range(value: u64) -> bool
+pub(crate) fn in_range(value: u64) -> bool
     ensures { result ≡ in_range value }
 {
     value <= 1_000_000_000_000

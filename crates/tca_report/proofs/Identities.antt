@@ -1,5 +1,5 @@
 -- The order of identities is total, and only equal identities tie.
-use Rattle.std.proofs.Common.{◌≡◌, ◌&&◌, ℕ, true, false, Bool, refl, sym, ap, ap₂, ◌∙◌, ◌==◌}
+use Rattle.std.proofs.Common.{◌≡◌, ◌&&◌, ℕ, refl, sym, ap, ◌∙◌}
 use Rattle.std.specs.Ordering.{nat_cmp, ordering_then, eq_by_cmp, is_eq}
 use Rattle.std.specs.Cmp.{IsTotalOrder, nat_cmp_total, unsigned_tied}
 use Rattle.std.specs.declared.cmp.Ordering.{Ordering}
@@ -8,7 +8,6 @@ use Rattle.std.proofs.lemmas.Cmp.{on_total, then_total}
 use Rattle.std.proofs.lemmas.Map.Lookups.{CmpEqualImpliesEq, exact_pairs, exact_unsigned}
 use Rattle.tca_report.specs.Reports.{PacketReport, same_identity}
 use Rattle.tca_report.specs.Identities.{identity_of, identity_cmp}
-use Rattle.tca_report.specs.declared.report.Identity.{Identity}
 
 pub identity_total : IsTotalOrder identity_cmp
 identity_total = then_total (on_total (λ i. i.domain) nat_cmp_total) (on_total (λ i. i.place) nat_cmp_total)

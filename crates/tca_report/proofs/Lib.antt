@@ -5,3 +5,9 @@ pub mod ExportHeader
 pub mod ExportLaws
 pub mod ReadingLoop
 pub mod WritingLemmas
+pub mod Finding
+pub mod Counting
+pub mod Hearing
+pub mod Taking
+pub mod Keeping
+pub mod Pieces

@@ -4,6 +4,10 @@ use Rattle.tca_report.specs.declared.octets.ReadFault.{ReadFault}
 use Rattle.tca_report.specs.declared.octets.ReadFault.TheVariants as read
 use Rattle.tca_report.specs.declared.export.ExportFault.{ExportFault}
 use Rattle.tca_report.specs.declared.export.ExportFault.TheVariants as export
+use Rattle.tca_report.specs.declared.extraction.NotReport.{NotReport}
+use Rattle.tca_report.specs.declared.extraction.NotReport.TheVariants as reason
+use Rattle.tca_report.specs.declared.inputs.InputFault.{InputFault}
+use Rattle.tca_report.specs.declared.inputs.InputFault.TheVariants as input
 
 abbrev pub read_number : ReadFault → ℕ
 read_number read.Read = 1
@@ -18,3 +22,18 @@ export_number export.Cut = 4
 export_number (export.Range n) = 5
 export_number (export.Order n) = 6
 export_number export.Memory = 7
+
+abbrev pub reason_number : NotReport → ℕ
+reason_number reason.Options = 1
+reason_number reason.NoTime = 2
+reason_number reason.NoSize = 3
+reason_number reason.BadTime = 4
+reason_number reason.BadSize = 5
+reason_number reason.BadDscp = 6
+reason_number reason.FieldLength = 7
+
+abbrev pub input_number : InputFault → ℕ
+input_number (input.Export fault) = 1
+input_number (input.Wire at fault) = 2
+input_number (input.Decode at fault) = 3
+input_number input.Memory = 4

@@ -4,3 +4,7 @@ pub mod ExportReading
 pub mod FaultNumbers
 pub mod Identities
 pub mod Reports
+pub mod Extract
+pub mod Inputs
+pub mod Gathering
+pub mod Progress

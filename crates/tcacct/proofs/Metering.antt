@@ -1,5 +1,5 @@
 -- Metering a list of reports one by one.
-use Rattle.std.proofs.Common.{◌≡◌, ◌∙◌, ℕ, ◌+◌, ◌*◌, ◌<◌, ◌≤◌, cond, eqb, List, [], ◌∷◌, length, get_or, set, refl, sym, ap, arith, inl, inr}
+use Rattle.std.proofs.Common.{◌≡◌, ℕ, ◌+◌, ◌*◌, ◌<◌, ◌≤◌, cond, eqb, List, [], ◌∷◌, length, get_or, set, refl, sym, arith, inl, inr}
 use Rattle.std.proofs.lemmas.Bool.Decides.{nat_tests}
 use Rattle.std.proofs.lemmas.Bool.{cases_eq, eq-eqb, ne_eqb}
 use Rattle.std.proofs.lemmas.Cmp.{ranked}
@@ -12,7 +12,6 @@ use Rattle.std.specs.declared.cmp.Ordering.{Ordering}
 use Rattle.std.specs.declared.cmp.Ordering.TheVariants.{Less, Equal, Greater}
 use Rattle.tca_report.specs.Reports.{PacketReport, report_cmp}
 use Rattle.tca_meters.specs.declared.colour.Colour.{Colour}
-use Rattle.tca_meters.specs.declared.colour.Colour.TheVariants.{Green}
 use Rattle.tca_meters.specs.Colours.{colour_number}
 use Rattle.tca_meters.specs.Packets.{Rule, coloured}
 use Rattle.tcacct.specs.Totals.{octets_in, packets_in, packet_of}
@@ -33,7 +32,7 @@ room_more xs n more k most left all h le room =
     omega (arith, room)
 
 module _ {S : Type 0} (rule : Rule S) (s : S) (last : ℕ) (r : PacketReport) (rest : List PacketReport) (k : ℕ) (c : Colour) (xs : List ℕ) (total : ℕ) (found : Colour × S)
-    (found-is : found ≡ rule.judged (rule.filled last r.time s) r.octets Green) (k-is : k ≡ colour_number found.0) (inside : k < length xs) where
+    (found-is : found ≡ rule.judged (rule.filled last r.time s) r.octets (packet_of r).pre) (k-is : k ≡ colour_number found.0) (inside : k < length xs) where
   -- one report more in the sums of octets
   pub octets_more : get_or xs (colour_number c) 0 + octets_in c (coloured rule packet_of s last (r ∷ rest)) ≡ total
       → get_or (set xs k (get_or xs k 0 + r.octets)) (colour_number c) 0 + octets_in c (coloured rule packet_of found.1 r.time rest) ≡ total
@@ -42,7 +41,7 @@ module _ {S : Type 0} (rule : Rule S) (s : S) (last : ℕ) (r : PacketReport) (r
       let f = λ (p : PacketReport × Colour). cond (eqb (colour_number p.1) (colour_number c)) p.0.octets 0 in
       let after = coloured rule packet_of found.1 r.time rest in
       let split : octets_in c (coloured rule packet_of s last (r ∷ rest)) ≡ cond (eqb k (colour_number c)) r.octets 0 + octets_in c after =
-      rw (k-is, found-is) (sum_by-cons f (r, (rule.judged (rule.filled last r.time s) r.octets Green).0) (coloured rule packet_of (rule.judged (rule.filled last r.time s) r.octets Green).1 r.time rest)) in
+      rw (k-is, found-is) (sum_by-cons f (r, (rule.judged (rule.filled last r.time s) r.octets (packet_of r).pre).0) (coloured rule packet_of (rule.judged (rule.filled last r.time s) r.octets (packet_of r).pre).1 r.time rest)) in
       omega (arith, grown xs k r.octets (colour_number c) inside, split, so_far)
 
   -- and in the counts of packets
@@ -50,10 +49,10 @@ module _ {S : Type 0} (rule : Rule S) (s : S) (last : ℕ) (r : PacketReport) (r
       → get_or (set xs k (get_or xs k 0 + 1)) (colour_number c) 0 + packets_in c (coloured rule packet_of found.1 r.time rest) ≡ total
   unfolding coloured
   packets_more so_far =
-      let f = λ (p : PacketReport × Colour). cond (eqb (colour_number p.1) (colour_number c)) 1 0 in
+      let f : PacketReport × Colour → ℕ = λ p. cond (eqb (colour_number p.1) (colour_number c)) 1 0 in
       let after = coloured rule packet_of found.1 r.time rest in
       let split : packets_in c (coloured rule packet_of s last (r ∷ rest)) ≡ cond (eqb k (colour_number c)) 1 0 + packets_in c after =
-      rw (k-is, found-is) (sum_by-cons f (r, (rule.judged (rule.filled last r.time s) r.octets Green).0) (coloured rule packet_of (rule.judged (rule.filled last r.time s) r.octets Green).1 r.time rest)) in
+      rw (k-is, found-is) (sum_by-cons f (r, (rule.judged (rule.filled last r.time s) r.octets (packet_of r).pre).0) (coloured rule packet_of (rule.judged (rule.filled last r.time s) r.octets (packet_of r).pre).1 r.time rest)) in
       omega (arith, grown xs k 1 (colour_number c) inside, split, so_far)
 
 -- once no report is left the sums are whole

@@ -1,6 +1,5 @@
 pub mod Commands
 pub mod Lines
-pub mod MeterSpecs
 pub mod Totals
 pub mod Texts
 pub mod Runs

@@ -1,5 +1,5 @@
 -- What the words of a command line ask for, by clap's meaning of the commands.
-use Rattle.std.specs.Prelude.{List, [], ◌∷◌, Option, Some, None, codes, map, option_and_then, option_map, if◌then◌else◌}
+use Rattle.std.specs.Prelude.{List, [], ◌∷◌, Option, None, codes, map, option_and_then, option_map, if◌then◌else◌}
 use Rattle.std.specs.Borrow.{Bor}
 use Rattle.std.specs.Str.{bytes_eq}
 use Rattle.clap.specs.Words.{Kinds, Row, Text, all_of, fault_of, first_of, subcommand_of}

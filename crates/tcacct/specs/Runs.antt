@@ -1,42 +1,62 @@
 -- What the inputs of a command hold together, and what they are refused for.
-use Rattle.std.specs.Prelude.{◌≡◌, ◌==◌, ℕ, ◌+◌, Bool, true, false, ◌||◌, ◌&&◌, List, [], ◌∷◌, ◌++◌, length, map, Option, Some, None, Result, Ok, Err, nat_lt, if◌then◌else◌}
+use Rattle.std.specs.Prelude.{◌≡◌, ◌==◌, ℕ, ◌+◌, Bool, true, false, ◌||◌, ◌&&◌, List, [], ◌∷◌, ◌++◌, length, Option, Some, Result, Ok, Err, nat_lt, if◌then◌else◌}
 use Rattle.std.specs.List.{flat_map}
 use Rattle.tca_join.specs.Sets.{in_order}
 use Rattle.tca_report.specs.Reports.{PacketReport, report_cmp}
-use Rattle.tca_report.specs.Export.{IsExportable, export, most_reports}
-use Rattle.tca_report.specs.ExportReading.{reading}
+use Rattle.tca_wire.specs.Faults.{wire_number}
+use Rattle.tca_templates.specs.Faults.{decode_number}
+use Rattle.tca_report.specs.Export.{most_reports}
 use Rattle.tca_report.specs.FaultNumbers.{export_number}
-use Rattle.tca_report.specs.declared.export.ExportFault.{ExportFault}
+use Rattle.tca_report.specs.Inputs.{Heard, input_of}
+use Rattle.tca_report.specs.declared.inputs.InputFault.{InputFault}
+use Rattle.tca_report.specs.declared.inputs.InputFault.TheVariants.{Export, Wire, Decode, Memory}
 use Rattle.tcacct.specs.declared.fault.RunFault.{RunFault}
 use Rattle.tcacct.specs.declared.fault.Family.{Family}
 use Rattle.tcacct.specs.declared.fault.Family.TheVariants as family
 
--- each input is the export of the list beside it
-unfoldable pub AreExports : List (List ℕ) → List (List PacketReport) → Type 0
-AreExports [] [] = Unit {0}
-AreExports (input ∷ inputs) (rs ∷ lists) = (input ≡ export rs) × IsExportable rs × AreExports inputs lists
-AreExports [] (rs ∷ lists) = ⊥
-AreExports (input ∷ inputs) [] = ⊥
+-- These are the reports that an input says, a log export or a capture, in its order.
+pub record Says (input : List ℕ) (rs : List PacketReport) : Type 0 where
+  pub heard : Heard
+  pub read : input_of input ≡ Ok heard
+  pub reports : rs ≡ heard.reports
+
+-- Each input says the list beside it.
+unfoldable pub AllSay : List (List ℕ) → List (List PacketReport) → Type 0
+AllSay [] [] = Unit {0}
+AllSay (input ∷ inputs) (rs ∷ lists) = Says input rs × AllSay inputs lists
+AllSay [] (rs ∷ lists) = ⊥
+AllSay (input ∷ inputs) [] = ⊥
 
 -- the reports of all lists, each once and in order
 abbrev pub union_of : List (List PacketReport) → List PacketReport
 union_of lists = in_order report_cmp (flat_map (λ rs. rs) lists)
 
--- the reports that the inputs spell together, each once and in order
+-- the reports that the inputs say together, each once and in order
 pub record IsUnion (inputs : List (List ℕ)) (rs : List PacketReport) : Type 0 where
   pub lists : List (List PacketReport)
-  pub exports : AreExports inputs lists
+  pub say : AllSay inputs lists
   pub whole : rs ≡ union_of lists
 
 abbrev pub refusal : Option ℕ → Family → ℕ → RunFault
 refusal input family number = record { input = input; family = family; number = number }
 
--- a set with the reports of input n, or the refusal of that input: it is no export, or the union would have too many reports
-abbrev pub with_input : ℕ → List PacketReport → Result (List PacketReport) ExportFault → Result (List PacketReport) RunFault
-with_input n held (Ok rs) =
+-- the refusal of input n by its fault: that of the export, or of the message
+abbrev pub input_refusal : ℕ → InputFault → RunFault
+input_refusal n (Export fault) = refusal (Some n) family.Export (export_number fault)
+input_refusal n (Wire at fault) = refusal (Some n) family.Wire (wire_number fault)
+input_refusal n (Decode at fault) = refusal (Some n) family.Decode (decode_number fault)
+input_refusal n Memory = refusal (Some n) family.Memory 1
+
+-- a set with these reports of input n, unless it would have too many
+abbrev pub with_reports : ℕ → List PacketReport → List PacketReport → Result (List PacketReport) RunFault
+with_reports n held rs =
     if nat_lt most_reports (length (in_order report_cmp (held ++ rs))) then Err (refusal (Some n) family.Log 1)
     else Ok (in_order report_cmp (held ++ rs))
-with_input n held (Err fault) = Err (refusal (Some n) family.Export (export_number fault))
+
+-- a set with the reports of input n, or the refusal of that input: it has a fault, or the union would have too many reports
+abbrev pub with_input : ℕ → List PacketReport → Result Heard InputFault → Result (List PacketReport) RunFault
+with_input n held (Ok h) = with_reports n held h.reports
+with_input n held (Err fault) = Err (input_refusal n fault)
 
 abbrev pub and_then : {A B F : Type 0} → Result A F → (A → Result B F) → Result B F
 and_then (Ok a) f = f a
@@ -45,10 +65,12 @@ and_then (Err e) f = Err e
 -- a set with the reports of all inputs, of which the first has number n, or the first refusal of one
 unfoldable pub gathered : ℕ → List PacketReport → List (List ℕ) → Result (List PacketReport) RunFault
 gathered n held [] = Ok held
-gathered n held (input ∷ inputs) = and_then (with_input n held (reading input)) (λ more. gathered (n + 1) more inputs)
+gathered n held (input ∷ inputs) = and_then (with_input n held (input_of input)) (λ more. gathered (n + 1) more inputs)
 
 abbrev pub is_family : Family → Family → Bool
 is_family family.Export family.Export = true
+is_family family.Wire family.Wire = true
+is_family family.Decode family.Decode = true
 is_family family.Log family.Log = true
 is_family family.Memory family.Memory = true
 is_family family.Write family.Write = true
@@ -56,9 +78,9 @@ is_family family.Spec family.Spec = true
 is_family family.Read family.Read = true
 is_family _ _ = false
 
--- want of memory: a family of its own, 7 among the faults of exports, 2 among those of logs
+-- want of memory: a family of its own, and 2 among the faults of logs
 abbrev pub wants_memory : RunFault → Bool
-wants_memory e = is_family e.family family.Memory || ((is_family e.family family.Export && (e.number == 7)) || (is_family e.family family.Log && (e.number == 2)))
+wants_memory e = is_family e.family family.Memory || (is_family e.family family.Log && (e.number == 2))
 
 -- a refusal is the one that was to come, unless memory ran out
 abbrev pub IsRefusedAs : {A : Type 0} → RunFault → Result A RunFault → Type 0

@@ -4,11 +4,12 @@ use Rattle.tca_report.specs.Reports.{PacketReport}
 use Rattle.tca_meters.specs.declared.colour.Colour.{Colour}
 use Rattle.tca_meters.specs.declared.colour.Colour.TheVariants.{Green}
 use Rattle.tca_meters.specs.Colours.{colour_number}
+use Rattle.tca_meters.specs.CodePoints.{precolour}
 use Rattle.tca_meters.specs.Packets.{Packet}
 
--- what a meter sees of a report: its time and its octets, and green as the colour that it had
+-- what a meter sees of a report: its time, its octets, and as the colour that it had the one of its code point, green where that has none
 abbrev pub packet_of : PacketReport → Packet
-packet_of r = record { time = r.time; octets = r.octets; pre = Green }
+packet_of r = record { time = r.time; octets = r.octets; pre = precolour r.dscp Green }
 
 -- the octets of the reports of a colour
 abbrev pub octets_in : Colour → List (PacketReport × Colour) → ℕ

@@ -6,7 +6,7 @@ ghost use Rattle.tcacct.specs.Commands.{many_words, one_word, combine_command, m
 use clap::{Arg, Command};
 use std::alloc::{AllocError, Global};
 
-const ABOUT: &str = "Usage accounting by three-colour meters (RFC 2697)";
+const ABOUT: &str = "Usage accounting by three-colour meters (RFC 2697, RFC 2698, RFC 4115)";
 
 const AFTER: &str = "Example: tcacct meter rfc2697:1000:2000:1000:blind reports.tcax
 
@@ -16,19 +16,28 @@ Exit status: 0 done, 1 refused (one line on standard error says what and where),
 const METER: &str = "Meters the undisputed reports of one or two inputs, and prints the octets and
 packets of each colour";
 
-const METER_AFTER: &str =
-    "SPEC is rfc2697:CIR:CBS:EBS:blind: the committed information rate in octets a
-second, the committed and the excess burst size in octets, each of 1 to 13 digits.
+const METER_AFTER: &str = "SPEC is a meter with its parameters, in one of three forms:
+  rfc2697:CIR:CBS:EBS:MODE          RFC 2697, for example rfc2697:1000:2000:1000:blind
+  rfc2698:PIR:PBS:CIR:CBS:MODE      RFC 2698, for example rfc2698:2000:2000:1000:1000:aware
+  rfc4115:CIR:CBS:EIR:EBS:FIT:MODE  RFC 4115, for example rfc4115:1000:1000:500:1000:exact:blind
+CIR, PIR and EIR are the committed, the peak and the excess rate in octets a second; CBS,
+PBS and EBS are the burst sizes of these rates in octets. Each has 1 to 13 digits and is at
+most 1000000000000. CBS or EBS is above 0; PBS and CBS of RFC 2698 both are, and its PIR is
+at least its CIR. FIT is exact where a packet may take all tokens of a bucket, and below
+where one has to be left. MODE is blind, or aware where the colour that a packet's code
+point gives it (RFC 2597) counts; a code point without colour is green.
 
-An input is a log export (a file that begins with TCAX). Reports that both inputs
-hold count once. Three lines are printed: a colour, its octets, its packets.
+An input is a log export (a file that begins with TCAX), or else a capture of IPFIX
+messages, one after the other. Reports that both inputs hold count once. Three lines are printed: a colour, its octets, its packets.
 
-Example: tcacct meter rfc2697:1000:2000:1000:blind monday.tcax tuesday.tcax";
+Example: tcacct meter rfc2698:2000:2000:1000:1000:blind monday.tcax tuesday.tcax";
 
 const COMBINE: &str = "Writes the union of the inputs' reports to OUT as one log export, and prints
 how many reports it holds";
 
-const COMBINE_AFTER: &str = "All inputs are read before OUT is made, so OUT may be one of them.
+const COMBINE_AFTER: &str =
+    "An input is a log export or a capture, as `tcacct meter --help` says. All inputs are
+read before OUT is made, so OUT may be one of them.
 
 Example: tcacct combine week.tcax monday.tcax tuesday.tcax";
 
@@ -75,7 +84,7 @@ fn combine<'a>(alloc: Global) -> Result<Command<'a>, AllocError>
 }
 
 /// The program's command line, for clap.
-pub fn program<'a>(alloc: Global) -> Result<Command<'a>, AllocError>
+pub(crate) fn program<'a>(alloc: Global) -> Result<Command<'a>, AllocError>
     ensures { IfOk result (λ c. app_of c ≡ program) }
 {
     let command = Command::new(alloc, "tcacct")

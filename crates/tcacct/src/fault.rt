@@ -1,22 +1,25 @@
 ghost use Rattle.std.specs.Prelude.{◌≡◌, Some, None};
-ghost use Rattle.tca_report.specs.FaultNumbers.{export_number};
 ghost use Rattle.tca_log.specs.Faults.{fault_number};
-ghost use Rattle.tcacct.specs.MeterSpecs.{spec_number};
-ghost use Rattle.tcacct.specs.Runs.{refusal};
+ghost use Rattle.tca_meters.specs.MeterSpecs.{spec_number};
+ghost use Rattle.tcacct.specs.Runs.{refusal, input_refusal};
 ghost use Rattle.tcacct.specs.declared.fault.Family.TheVariants as family;
 
-use crate::spec::SpecFault;
 use std::fmt;
 use tca_log::LogFault;
-use tca_report::ExportFault;
+use tca_meters::SpecFault;
+use tca_report::InputFault;
 
 /// Which kind of refusal a fault line names.
 #[derive(Clone, Copy, Debug, PartialEq, Eq)]
 pub enum Family {
     /// A file that can't be opened or read.
     Read,
-    /// An input that is no log export.
+    /// A log export with a fault.
     Export,
+    /// A capture with a fault in a message's header or in the lengths of its sets.
+    Wire,
+    /// A capture with a fault in a template or in a data record.
+    Decode,
     /// A meter's spec.
     Spec,
     /// A log that is full, or finds no memory.
@@ -32,6 +35,8 @@ impl fmt::Display for Family {
         f.write_str(match self {
             Family::Read => "read",
             Family::Export => "export",
+            Family::Wire => "wire",
+            Family::Decode => "decode",
             Family::Spec => "spec",
             Family::Log => "log",
             Family::Write => "write",
@@ -50,8 +55,8 @@ pub struct RunFault {
 }
 
 impl RunFault {
-    /// Want of memory that belongs to no input.
-    pub fn memory() -> RunFault
+    /// Want of memory that belongs to no other family and no input.
+    pub(crate) fn memory() -> RunFault
         ensures { result ≡ refusal None family.Memory 1 }
     {
         RunFault {
@@ -62,7 +67,7 @@ impl RunFault {
     }
 
     /// A write that failed.
-    pub fn write() -> RunFault
+    pub(crate) fn write() -> RunFault
         ensures { result ≡ refusal None family.Write 1 }
     {
         RunFault {
@@ -73,7 +78,7 @@ impl RunFault {
     }
 
     /// A spec that names no meter.
-    pub fn spec(fault: SpecFault) -> RunFault
+    pub(crate) fn spec(fault: SpecFault) -> RunFault
         ensures { result ≡ refusal None family.Spec (spec_number fault) }
     {
         RunFault {
@@ -83,19 +88,25 @@ impl RunFault {
         }
     }
 
-    /// An input that is no export.
-    pub fn export(input: u32, fault: ExportFault) -> RunFault
-        ensures { result ≡ refusal (Some input) family.Export (export_number fault) }
+    /// An input with a fault.
+    pub(crate) fn input(input: u32, fault: InputFault) -> RunFault
+        ensures { result ≡ input_refusal input fault }
     {
+        let (family, number) = match fault {
+            InputFault::Export(fault) => (Family::Export, fault.number()),
+            InputFault::Wire { fault, .. } => (Family::Wire, fault.number()),
+            InputFault::Decode { fault, .. } => (Family::Decode, fault.number()),
+            InputFault::Memory => (Family::Memory, 1),
+        };
         RunFault {
             input: Some(input),
-            family: Family::Export,
-            number: fault.number(),
+            family,
+            number,
         }
     }
 
     /// An input whose reports the log didn't take.
-    pub fn log(input: u32, fault: LogFault) -> RunFault
+    pub(crate) fn log(input: u32, fault: LogFault) -> RunFault
         ensures { result ≡ refusal (Some input) family.Log (fault_number fault) }
     {
         RunFault {

@@ -18,7 +18,10 @@ fn read_file<R: Files + AllocGlobal>(rt: &R, path: &str) -> Result<Vec<u8>, u8> 
 }
 
 /// The octets of the files, in order; the first one that can't be read refuses all.
-pub fn read_files<R: Files + AllocGlobal>(rt: &R, paths: &[&str]) -> Result<Vec<Vec<u8>>, RunFault>
+pub(crate) fn read_files<R: Files + AllocGlobal>(
+    rt: &R,
+    paths: &[&str],
+) -> Result<Vec<Vec<u8>>, RunFault>
     ensures { IfOk result (λ inputs. length inputs.items < 2 ^ 32) }
 {
     // The command line takes no more words than that.

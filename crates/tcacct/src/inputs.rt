@@ -2,29 +2,28 @@ ghost use Rattle.std.specs.Prelude.{◌≡◌, ◌<◌, ◌^◌, ◌++◌, List,
 ghost use Rattle.std.specs.List.Sorted.{IsStrictlySortedBy};
 ghost use Rattle.tca_join.specs.Sets.{in_order};
 ghost use Rattle.tca_report.specs.Reports.{PacketReport, report_cmp};
-ghost use Rattle.tca_report.specs.Export.{IsExportable, export};
-ghost use Rattle.tca_report.specs.ExportReading.{reading};
-ghost use Rattle.tcacct.specs.Runs.{IsRefusedAs, IsUnion, gathered, is_write, with_input};
+ghost use Rattle.tca_report.specs.Inputs.{input_of};
+ghost use Rattle.tcacct.specs.Runs.{IsRefusedAs, IsUnion, Says, gathered, is_write, with_input};
 
 use crate::fault::RunFault;
 use std::alloc::Global;
 use tca_log::Log;
-use tca_report::read_export;
+use tca_report::gather;
 
 // Adds the reports of input `n`.
 fn add_input(alloc: Global, n: u32, octets: &[u8], log: &mut Log) -> Result<(), RunFault>
-    ensures exact { MatchResult result (λ _. with_input n log.old (reading octets.now) ≡ Ok log.new)
-        (λ e. IsRefusedAs e (with_input n log.old (reading octets.now))) }
-    ensures found { OnOk result ((rs : List PacketReport) × IsExportable rs × (octets.now ≡ export rs)
+    ensures exact { MatchResult result (λ _. with_input n log.old (input_of octets.now) ≡ Ok log.new)
+        (λ e. IsRefusedAs e (with_input n log.old (input_of octets.now))) }
+    ensures found { OnOk result ((rs : List PacketReport) × Says octets.now rs
         × (log.new ≡ in_order report_cmp (log.old ++ rs))) }
     ensures no_write { IfErr result (λ e. is_write e ≡ false) }
     ensures rises { OnOk result (IsStrictlySortedBy report_cmp log.new) }
 {
-    let reports = match read_export(alloc, octets) {
-        Ok(reports) => reports,
-        Err(fault) => return Err(RunFault::export(n, fault)),
+    let gathered = match gather(alloc, octets) {
+        Ok(gathered) => gathered,
+        Err(fault) => return Err(RunFault::input(n, fault)),
     };
-    match log.add_all(&reports) {
+    match log.add_all(&gathered.reports) {
         Ok(_) => {
             let _reports = log.reports();
             Ok(())
@@ -34,7 +33,7 @@ fn add_input(alloc: Global, n: u32, octets: &[u8], log: &mut Log) -> Result<(), 
 }
 
 /// The union of the inputs' reports, each input gathered and added before the next is looked at. The
-/// first input that is no export, or whose reports the log doesn't take, refuses all.
+/// first input that has a fault, or whose reports the log doesn't take, refuses all.
 pub fn gather_all(alloc: Global, inputs: &[Vec<u8>]) -> Result<Log, RunFault>
     requires { length inputs.now < 2 ^ 32 }
     ensures found { IfOk result (λ log. IsUnion (map (λ v. v.items) inputs.now) log) }

@@ -11,7 +11,6 @@ mod files;
 mod inputs;
 mod line;
 mod meter;
-mod spec;
 mod sums;
 #[cfg(test)]
 mod tests;

@@ -7,7 +7,7 @@ ghost use Rattle.tca_meters.specs.Packets.{colours};
 ghost use Rattle.tcacct.specs.Totals.{octets_in, packets_in, packet_of};
 
 use tca_log::Settled;
-use tca_meters::{Colour, Meter};
+use tca_meters::{Colour, Meter, precolour};
 
 /// Octets and packets of each colour, by green, yellow, red.
 #[derive(Clone, Copy, Debug, PartialEq, Eq)]
@@ -16,8 +16,9 @@ pub struct Sums {
     pub packets: [u64; 3],
 }
 
-/// The sums of the reports, metered in their order from time 0 on.
-pub fn metered<M: Meter>(meter: &M, reports: Settled<'_>) -> Sums
+/// The sums of the reports, metered in their order from time 0 on, each with the precolour of its code
+/// point, green where that has none.
+pub(crate) fn metered<M: Meter>(meter: &M, reports: Settled<'_>) -> Sums
     requires rises { IsStrictlySortedBy report_cmp reports }
     requires few { length reports ≤ 4194304 }
     ensures octets { (c : Colour) → slice_index result.octets (colour_number c)
@@ -32,7 +33,11 @@ pub fn metered<M: Meter>(meter: &M, reports: Settled<'_>) -> Sums
     for report in reports {
         let content = report.content();
         let filled = meter.advance(state, last, content.time);
-        let (colour, next) = meter.offer(filled, content.octets, Colour::Green);
+        let (colour, next) = meter.offer(
+            filled,
+            content.octets,
+            precolour(content.dscp, Colour::Green),
+        );
         let at = colour.number();
         octets[at] += content.octets as u64;
         packets[at] += 1;

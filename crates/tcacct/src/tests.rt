@@ -22,19 +22,24 @@ const SECOND: Row = (100, 1, 1000);
 
 const THIRD: Row = (200, 2, 800);
 
-// An export of these rows, all of domain 7 and interface 1, spelled here by hand.
-fn export(alloc: Global, rows: &[Row]) -> Result<Vec<u8>, AllocError> {
+// An export of these rows, all of domain 7 and interface 1, with a code point for each, spelled here
+// by hand.
+fn export_with(alloc: Global, rows: &[Row], code_points: &[u8]) -> Result<Vec<u8>, AllocError> {
     let mut octets = Vec::from_slice(alloc, b"TCAX\x00\x01\x00\x00\x00")?;
     octets.push(u8::try_from(rows.len()).unwrap_or(0))?;
-    for (time, place, size) in rows {
+    for (n, (time, place, size)) in rows.iter().enumerate() {
         octets.extend_from_slice(&START.wrapping_add(*time).to_be_bytes())?;
         octets.extend_from_slice(&7u32.to_be_bytes())?;
         octets.extend_from_slice(&place.to_be_bytes())?;
         octets.extend_from_slice(&size.to_be_bytes())?;
-        octets.push(0)?;
+        octets.push(code_points.get(n).copied().unwrap_or(0))?;
         octets.extend_from_slice(&1u32.to_be_bytes())?;
     }
     Ok(octets)
+}
+
+fn export(alloc: Global, rows: &[Row]) -> Result<Vec<u8>, AllocError> {
+    export_with(alloc, rows, &[])
 }
 
 fn exports(alloc: Global, inputs: &[&[Row]]) -> Result<Vec<Vec<u8>>, AllocError> {
@@ -64,12 +69,16 @@ fn refusal(input: Option<u32>, family: Family, number: u8) -> RunFault {
     }
 }
 
+fn prints_by(alloc: Global, spec: &str, inputs: &[Vec<u8>], lines: &str) -> bool {
+    match metered(alloc, spec, inputs) {
+        Ok(text) => text.as_slice() == lines.as_bytes(),
+        Err(_) => false,
+    }
+}
+
 fn prints(alloc: Global, inputs: &[&[Row]], lines: &str) -> Result<bool, AllocError> {
     let inputs = exports(alloc, inputs)?;
-    match metered(alloc, SPEC, &inputs) {
-        Ok(text) => Ok(text.as_slice() == lines.as_bytes()),
-        Err(_) => Ok(false),
-    }
+    Ok(prints_by(alloc, SPEC, &inputs, lines))
 }
 
 #[test]
@@ -110,6 +119,78 @@ fn meters_no_disputed_content(rt: HostRuntime) -> Result<(), Fail> {
     Ok(())
 }
 
+// Whether a meter gives these lines for packets at one time, each of so many octets and with a code
+// point.
+fn gives(
+    alloc: Global,
+    spec: &str,
+    packets: &[(u32, u8)],
+    lines: &str,
+) -> Result<bool, AllocError> {
+    let mut rows = Vec::new(alloc);
+    let mut code_points = Vec::new(alloc);
+    for (place, (size, code_point)) in packets.iter().enumerate() {
+        rows.push((0, u32::try_from(place).unwrap_or(0), *size))?;
+        code_points.push(*code_point)?;
+    }
+    let mut inputs = Vec::new(alloc);
+    inputs.push(export_with(alloc, &rows, &code_points)?)?;
+    Ok(prints_by(alloc, spec, &inputs, lines))
+}
+
+#[test]
+fn meters_by_two_rates(rt: HostRuntime) -> Result<(), Fail> {
+    let alloc = rt.alloc();
+    let inputs = exports(alloc, &[&[(0, 0, 1500), (0, 1, 500), (1, 2, 3)]])?;
+    let lines = "green 500 1\nyellow 1500 1\nred 3 1\n";
+    assert!(rt; prints_by(alloc, "rfc2698:2000:2000:1000:1000:blind", &inputs, lines));
+    Ok(())
+}
+
+#[test]
+fn meters_by_an_excess_rate(rt: HostRuntime) -> Result<(), Fail> {
+    let alloc = rt.alloc();
+    let thousands = [(1000, 0), (1000, 0), (1000, 0)];
+    let exact = "green 1000 1\nyellow 1000 1\nred 1000 1\n";
+    let below = "green 0 0\nyellow 0 0\nred 3000 3\n";
+    assert!(rt;
+        gives(
+            alloc,
+            "rfc4115:1000:1000:1000:1000:exact:blind",
+            &thousands,
+            exact
+        )?
+    );
+    assert!(rt;
+        gives(
+            alloc,
+            "rfc4115:1000:1000:1000:1000:below:blind",
+            &thousands,
+            below
+        )?
+    );
+    Ok(())
+}
+
+#[test]
+fn meters_with_precolours(rt: HostRuntime) -> Result<(), Fail> {
+    let alloc = rt.alloc();
+    let aware = "rfc2697:1000:2000:1000:aware";
+    for (packet, lines) in [
+        ((100, 14), "green 0 0\nyellow 0 0\nred 100 1\n"),
+        ((1000, 12), "green 0 0\nyellow 1000 1\nred 0 0\n"),
+        ((2000, 46), "green 2000 1\nyellow 0 0\nred 0 0\n"),
+    ] {
+        assert!(rt; gives(alloc, aware, &[packet], lines)?);
+    }
+    let all = [(100, 14), (1000, 12), (2000, 46)];
+    let lines = "green 2000 1\nyellow 1000 1\nred 100 1\n";
+    assert!(rt; gives(alloc, aware, &all, lines)?);
+    let blind = "green 1100 2\nyellow 0 0\nred 2000 1\n";
+    assert!(rt; gives(alloc, SPEC, &all, blind)?);
+    Ok(())
+}
+
 fn is_refused(alloc: Global, spec: &str, number: u8) -> Result<bool, AllocError> {
     let inputs = exports(alloc, &[&[FIRST, SECOND, THIRD]])?;
     Ok(metered(alloc, spec, &inputs).err() == Some(refusal(None, Family::Spec, number)))
@@ -121,7 +202,10 @@ fn refuses_specs(rt: HostRuntime) -> Result<(), Fail> {
         ("rfc2697:1000:0:0:blind", 2),
         ("rfc2697:1000000000001:1:1:blind", 2),
         ("rfc2697:1000:2000:1000", 1),
-        ("rfc2697:1000:2000:1000:aware", 1),
+        ("rfc2698:999:2000:1000:1000:blind", 2),
+        ("rfc4115:1000:0:1000:0:exact:blind", 2),
+        ("rfc2697:1000:2000:1000:exact", 1),
+        ("rfc4115:1000:1000:1000:1000:blind", 1),
         ("rfc2697:9999999999999:1:1:blind", 2),
         ("rfc2697:00000000001000:1:1:blind", 1),
         ("rfc2697:+1000:1:1:blind", 1),
@@ -148,6 +232,97 @@ fn refuses_an_input_that_is_cut(rt: HostRuntime) -> Result<(), Fail> {
         cut_short(rt.alloc())?,
         Some(refusal(Some(1), Family::Export, 4))
     );
+    Ok(())
+}
+
+// One message: a template, and one record of 1500 octets at the start, place 5, code point 10.
+const TEMPLATE_AND_RECORD: [u8; 65] = [
+    0x00, 0x0a, 0x00, 0x41, 0x65, 0x53, 0xf1, 0x00, 0x00, 0x00, 0x00, 0x05, 0x00, 0x00, 0x00, 0x07,
+    0x00, 0x02, 0x00, 0x18, 0x01, 0x00, 0x00, 0x04, 0x01, 0x43, 0x00, 0x08, 0x00, 0xe0, 0x00, 0x08,
+    0x00, 0xc3, 0x00, 0x01, 0x00, 0x0a, 0x00, 0x04, 0x01, 0x00, 0x00, 0x19, 0x00, 0x00, 0x01, 0x8b,
+    0xcf, 0xe5, 0x68, 0x00, 0x00, 0x00, 0x00, 0x00, 0x00, 0x00, 0x05, 0xdc, 0x0a, 0x00, 0x00, 0x00,
+    0x01,
+];
+
+// What `meter` answers for these octets as its one input.
+fn meters(alloc: Global, octets: &[u8]) -> Result<Result<Vec<u8>, RunFault>, AllocError> {
+    let mut inputs = Vec::new(alloc);
+    inputs.push(Vec::from_slice(alloc, octets)?)?;
+    Ok(metered(alloc, SPEC, &inputs))
+}
+
+fn meters_to(alloc: Global, octets: &[u8], lines: &str) -> Result<bool, AllocError> {
+    match meters(alloc, octets)? {
+        Ok(text) => Ok(text.as_slice() == lines.as_bytes()),
+        Err(_) => Ok(false),
+    }
+}
+
+fn meters_with(alloc: Global, at: usize, octet: u8) -> Result<Option<RunFault>, AllocError> {
+    let mut octets = TEMPLATE_AND_RECORD;
+    if at < octets.len() {
+        octets[at] = octet;
+    }
+    Ok(meters(alloc, &octets)?.err())
+}
+
+#[test]
+fn meters_captures(rt: HostRuntime) -> Result<(), Fail> {
+    let alloc = rt.alloc();
+    assert!(rt;
+        meters_to(
+            alloc,
+            &TEMPLATE_AND_RECORD,
+            "green 1500 1\nyellow 0 0\nred 0 0\n"
+        )?
+    );
+    assert!(rt; meters_to(alloc, b"", "green 0 0\nyellow 0 0\nred 0 0\n")?);
+    let (cut, _) = TEMPLATE_AND_RECORD.split_at(64);
+    assert_eq!(rt;
+        meters(alloc, cut)?.err(),
+        Some(refusal(Some(0), Family::Wire, 1))
+    );
+    assert_eq!(rt;
+        meters_with(alloc, 1, 9)?,
+        Some(refusal(Some(0), Family::Wire, 2))
+    );
+    assert_eq!(rt;
+        meters_with(alloc, 20, 0)?,
+        Some(refusal(Some(0), Family::Decode, 1))
+    );
+    Ok(())
+}
+
+// Whether a capture combines to an export that combines to the same octets.
+fn combines_again(alloc: Global) -> Result<bool, AllocError> {
+    let mut inputs = Vec::new(alloc);
+    inputs.push(Vec::from_slice(alloc, &TEMPLATE_AND_RECORD)?)?;
+    let (mut first, mut second) = (Host::new(Vec::new(alloc)), Host::new(Vec::new(alloc)));
+    let mut out = Host::new(Vec::new(alloc));
+    if inputs.len() > 1 || run_combine(alloc, &inputs, &mut first, &mut out).is_err() {
+        return Ok(false);
+    }
+    let first = first.into_inner();
+    let mut exports = Vec::new(alloc);
+    exports.push(Vec::from_slice(alloc, &first)?)?;
+    if exports.len() > 1 || run_combine(alloc, &exports, &mut second, &mut out).is_err() {
+        return Ok(false);
+    }
+    let (second, out) = (second.into_inner(), out.into_inner());
+    Ok(
+        first.as_slice() == EXPORT_OF_RECORD
+            && second.as_slice() == EXPORT_OF_RECORD
+            && out.as_slice() == b"reports 1\nreports 1\n".as_slice(),
+    )
+}
+
+// The export of that one report.
+const EXPORT_OF_RECORD: &[u8] =
+    b"TCAX\x00\x01\x00\x00\x00\x01\x00\x00\x01\x8b\xcf\xe5\x68\x00\x00\x00\x00\x07\x00\x00\x00\x05\x00\x00\x05\xdc\x0a\x00\x00\x00\x01";
+
+#[test]
+fn combines_a_capture_to_its_export(rt: HostRuntime) -> Result<(), Fail> {
+    assert!(rt; combines_again(rt.alloc())?);
     Ok(())
 }
 
@@ -258,6 +433,8 @@ fn names_families(rt: HostRuntime) -> Result<(), Fail> {
     for (family, name) in [
         (Family::Read, "read"),
         (Family::Export, "export"),
+        (Family::Wire, "wire"),
+        (Family::Decode, "decode"),
         (Family::Spec, "spec"),
         (Family::Log, "log"),
         (Family::Write, "write"),

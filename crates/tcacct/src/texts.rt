@@ -11,7 +11,7 @@ fn colour_line(alloc: Global, name: &str, octets: u64, packets: u64) -> Result<S
 }
 
 /// A line for each colour: its name, its octets, its packets.
-pub fn meter_lines(alloc: Global, sums: &Sums) -> Result<String, AllocError>
+pub(crate) fn meter_lines(alloc: Global, sums: &Sums) -> Result<String, AllocError>
     ensures { IfOk result (λ text. string_bytes text ≡ meter_text sums.now.octets sums.now.packets) }
 {
     let mut text = colour_line(alloc, "green", sums.octets[0], sums.packets[0])?;
@@ -21,7 +21,7 @@ pub fn meter_lines(alloc: Global, sums: &Sums) -> Result<String, AllocError>
 }
 
 /// How many reports a log has.
-pub fn combine_line(alloc: Global, reports: u32) -> Result<String, AllocError>
+pub(crate) fn combine_line(alloc: Global, reports: u32) -> Result<String, AllocError>
     ensures { IfOk result (λ text. string_bytes text ≡ combine_text reports) }
 {
     format!(in alloc; "reports {reports}\n")

@@ -6,5 +6,5 @@ use Rattle.tca_log.proofs.Logs.{index_total}
 use Rattle.tca_log.proofs.index.enter.Goals as goal
 
 pub put-requires-clause-new : goal.put-requires-clause-new
-put-requires-clause-new c =
+put-requires-clause-new g c =
     rw c.in_ok-reserve.ensures.rows (has_tied index_cmp index_total (indexed c.args.report) c.args.index.now.rows ∙ ap is_some (sym c.get.ensures ∙ sym c.copied.ensures ∙ c.in_default.is))

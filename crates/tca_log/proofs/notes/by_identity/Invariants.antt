@@ -3,4 +3,4 @@ use Rattle.tca_log.specs.Logs.{indexed}
 use Rattle.tca_log.proofs.notes.by_identity.Given as goal
 
 abbrev pub invariant-loop-report : goal.invariant-loop-report
-invariant-loop-report l = l.keys.items ++ map indexed l.report-iterator ≡ map indexed l.reports.rows
+invariant-loop-report g l = l.keys.items ++ map indexed l.report-iterator ≡ map indexed l.reports.rows

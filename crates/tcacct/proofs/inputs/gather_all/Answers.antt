@@ -1,4 +1,4 @@
-use Rattle.std.proofs.Common.{◌≡◌, ◌∙◌, ◌≤◌, [], ◌∷◌, length, map, drop, sym, subst, arith, rules}
+use Rattle.std.proofs.Common.{sym, subst}
 use Rattle.std.proofs.Math.ListN.{drop_of_length-le}
 use Rattle.tcacct.proofs.Gathering.{goes_on, refused, all_in, cut_here}
 use Rattle.tcacct.proofs.GatheredLaws.{IsUnionWith, in_front, no_input, as_union}
@@ -15,7 +15,7 @@ loop-n-preserved c =
     record {
       exact = goes_on (λ v. v.items) c.args.inputs.now l.n l.log _ l.invariant.exact input c.add_input.new.log c.loop-n-test.true c.index-inputs-n.is (rw c.deref.ensures.value at c.in_default.ensures.exact);
       union = λ rs all. l.invariant.union rs (subst (λ z. IsUnionWith l.log z rs) (sym (cut_here (λ v. v.items) c.args.inputs.now l.n l.log _ l.invariant.exact input c.loop-n-test.true c.index-inputs-n.is))
-          (in_front l.log told.0 c.add_input.new.log rs input.items _ told.1 told.2 told.3 all));
+          (in_front l.log told.0 c.add_input.new.log rs input.items _ told.1 told.2 all));
       rises = c.in_default.ensures.rises;
     }
 

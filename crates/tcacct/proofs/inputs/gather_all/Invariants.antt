@@ -1,4 +1,4 @@
-use Rattle.std.proofs.Common.{◌≡◌, ◌≤◌, ℕ, List, [], length, map, drop}
+use Rattle.std.proofs.Common.{◌≡◌, List, [], map, drop}
 use Rattle.std.specs.List.Sorted.{IsStrictlySortedBy}
 use Rattle.tca_report.specs.Reports.{PacketReport, report_cmp}
 use Rattle.tcacct.specs.Runs.{gathered}

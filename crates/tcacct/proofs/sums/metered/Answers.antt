@@ -1,8 +1,8 @@
-use Rattle.std.proofs.Common.{◌≡◌, ◌∙◌, ◌+◌, ◌*◌, ◌<◌, ◌≤◌, ◌∷◌, ℕ, length, get_or, sym, ap, arith, rules}
+use Rattle.std.proofs.Common.{◌≡◌, ◌∙◌, ◌+◌, ◌*◌, ◌<◌, ◌≤◌, length, get_or, ap, arith, rules}
 use Rattle.tca_meters.specs.declared.colour.Colour.TheVariants.{Green}
 use Rattle.tca_meters.specs.Colours.{colour_number}
-use Rattle.tca_meters.specs.Packets.{coloured}
-use Rattle.tcacct.specs.Totals.{octets_in, packets_in, packet_of}
+use Rattle.tca_meters.specs.CodePoints.{precolour}
+use Rattle.tcacct.specs.Totals.{packet_of}
 use Rattle.tcacct.proofs.Metering.{octets_more, packets_more, room_more, rest_later, whole}
 use Rattle.tcacct.proofs.sums.metered.Goals as goal
 
@@ -17,7 +17,8 @@ loop-report-preserved g c =
     let k = c.number-at.result in
     let told = c.content-content.ensures.value in
     let rises = rest_later r rest (rw cut at l.invariant.rises) in
-    let found-is : found ≡ rule.judged (rule.filled l.last r.time l.state) r.octets Green = rw (c.advance-filled.ensures, told) at c.offer-colour.ensures in
+    let pre-is : c.precolour.result ≡ precolour r.dscp Green = c.precolour.ensures ∙ ap (λ content. precolour content.dscp Green) told in
+    let found-is : found ≡ rule.judged (rule.filled l.last r.time l.state) r.octets (packet_of r).pre = rw (c.advance-filled.ensures, pre-is, told) at c.offer-colour.ensures in
     let k-is : k ≡ colour_number found.0 = c.number-at.ensures.number in
     let in_octets : k < length l.octets = omega (arith, c.number-at.ensures.below, l.invariant.octet_len) in
     let in_packets : k < length l.packets = omega (arith, c.number-at.ensures.below, l.invariant.packet_len) in

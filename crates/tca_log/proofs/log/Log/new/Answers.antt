@@ -2,4 +2,4 @@ use Rattle.tca_log.proofs.Logs.{nothing}
 use Rattle.tca_log.proofs.log.Log.new.Goals as goal
 
 pub invariant_of-result : goal.invariant_of-result
-invariant_of-result c = rw (c.new.ensures, c.new-2.ensures, c.new-3.ensures) nothing
+invariant_of-result g c = rw (c.new.ensures, c.new-2.ensures, c.new-3.ensures) nothing

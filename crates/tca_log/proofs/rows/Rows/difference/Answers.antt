@@ -7,8 +7,8 @@ use Rattle.tca_log.proofs.rows.Rows.difference.Goals as goal
 pub loop-key-init : goal.loop-key-init
 loop-key-init g c =
     let all : c.into_iter-key-iterator.result ≡ c.args.self.now.rows = cc in
-    let rises : IsStrictlySortedBy g.K.Ord.cmp c.args.self.now.rows = rw (← c.self.view_is) c.self.invariant.chunks.rises in
-    let limit : length c.args.self.now.rows ≤ 4194304 = rw (← c.self.view_is) c.self.invariant.limit in
+    let rises : IsStrictlySortedBy g.K.Ord.cmp c.args.self.now.rows = c.iter-key-items.ensures.rises in
+    let limit : length c.args.self.now.rows ≤ 4194304 = c.iter-key-items.ensures.limit in
     rw (all, c.new-rest.ensures) (putting_none g.K.Ord.cmp g.met.K.Ord.total (without_each g.K.Ord.cmp c.args.held.now.rows c.args.self.now.rows) [] (beyond_rises g.K.Ord.cmp g.met.K.Ord.total c.args.held.now.rows c.args.self.now.rows rises) (apart_none g.K.Ord.cmp g.met.K.Ord.total (without_each g.K.Ord.cmp c.args.held.now.rows c.args.self.now.rows)) (omega (arith, beyond_shorter g.K.Ord.cmp g.met.K.Ord.total c.args.held.now.rows c.args.self.now.rows, limit)))
 
 pub put-requires-clause-new : goal.put-requires-clause-new
@@ -32,7 +32,7 @@ loop-key-preserved g c =
 
 pub returns : goal.returns
 returns g c =
-    let rises : IsStrictlySortedBy g.K.Ord.cmp c.args.self.now.rows = rw (← c.self.view_is) c.self.invariant.chunks.rises in
+    let rises : IsStrictlySortedBy g.K.Ord.cmp c.args.self.now.rows = c.iter-key-items.ensures.rises in
     let now = subst (λ l. ArePutting g.K.Ord.cmp (without_each g.K.Ord.cmp c.args.held.now.rows c.args.self.now.rows) [] c.loop-key.rest.rows l) (ap (without_each g.K.Ord.cmp c.args.held.now.rows) c.in-None.ensures.steps.0 ∙ beyond_none g.K.Ord.cmp g.met.K.Ord.total c.args.held.now.rows) c.loop-key.invariant in
     putting_all g.K.Ord.cmp g.met.K.Ord.total (without_each g.K.Ord.cmp c.args.held.now.rows c.args.self.now.rows) [] c.loop-key.rest.rows now
     ∙ put_each_none g.K.Ord.cmp g.met.K.Ord.total (without_each g.K.Ord.cmp c.args.held.now.rows c.args.self.now.rows) (beyond_rises g.K.Ord.cmp g.met.K.Ord.total c.args.held.now.rows c.args.self.now.rows rises)

@@ -1,0 +1,11 @@
+use Rattle.std.proofs.Common.{◌+◌, ◌-◌, length, sym, ◌∙◌, arith, le-ltb}
+use Rattle.tca_report.specs.Reports.{report_cmp}
+use Rattle.tca_report.proofs.Order.{report_total}
+use Rattle.tca_log.specs.Chunks.{without_each}
+use Rattle.tca_log.proofs.Each.{beyond_shorter}
+use Rattle.tca_log.proofs.union.is_over.Goals as goal
+
+pub returns-else-reports-room : goal.returns-else-reports-room
+returns-else-reports-room g c =
+    le-ltb (4194304 - c.len-room.result) (length c.args.reports.now) c.if-reports-room.false
+    ∙ sym (le-ltb 4194304 (length c.args.rows.now.rows + length (without_each report_cmp c.args.rows.now.rows c.args.reports.now)) (omega (arith, beyond_shorter report_cmp report_total c.args.rows.now.rows c.args.reports.now)))

@@ -1,0 +1,42 @@
+use Rattle.std.proofs.Common.{◌+◌, [], drop, subst, sym, ◌∙◌, arith}
+use Rattle.tca_report.specs.Reports.{report_cmp}
+use Rattle.tca_report.proofs.Order.{report_total}
+use Rattle.tca_log.specs.Chunks.{without_each}
+use Rattle.tca_log.proofs.Each.{ArePutting, putting_none, putting_new, putting_more, putting_all, beyond_rises, apart_none, put_each_none}
+use Rattle.tca_log.proofs.Gathering.{new_next, held_next, none_left}
+use Rattle.tca_log.proofs.union.news_of.Goals as goal
+use Rattle.tca_log.proofs.union.news_of.Goals.{then-not-contains+in_ok-reserve, else-not-contains}
+
+pub loop-report-init : goal.loop-report-init
+loop-report-init g c =
+    rw c.new-news.ensures (putting_none report_cmp report_total (without_each report_cmp c.args.rows.now.rows c.args.set.now) [] (beyond_rises report_cmp report_total c.args.rows.now.rows c.args.set.now c.requires.rises) (apart_none report_cmp report_total (without_each report_cmp c.args.rows.now.rows c.args.set.now)) (omega (arith, c.requires.few)))
+
+pub put-requires-clause-new : goal.put-requires-clause-new
+put-requires-clause-new g c =
+    let step = new_next c.args.rows.now.rows c.args.set.now c.loop-report.report-index c.report-item.result (omega arith) c.report-item.is (sym c.contains.ensures ∙ c.if-not-contains.true) in
+    let now = subst (λ l. ArePutting report_cmp (without_each report_cmp c.args.rows.now.rows c.args.set.now) [] c.loop-report.news.rows l) step c.loop-report.invariant in
+    rw c.in_ok-reserve.ensures.rows ((putting_new report_cmp report_total (without_each report_cmp c.args.rows.now.rows c.args.set.now) [] c.loop-report.news.rows c.report-item.result (without_each report_cmp c.args.rows.now.rows (drop (c.loop-report.report-index + 1) c.args.set.now)) now).0)
+
+pub put-requires-clause-few : goal.put-requires-clause-few
+put-requires-clause-few g c =
+    let step = new_next c.args.rows.now.rows c.args.set.now c.loop-report.report-index c.report-item.result (omega arith) c.report-item.is (sym c.contains.ensures ∙ c.if-not-contains.true) in
+    let now = subst (λ l. ArePutting report_cmp (without_each report_cmp c.args.rows.now.rows c.args.set.now) [] c.loop-report.news.rows l) step c.loop-report.invariant in
+    rw c.in_ok-reserve.ensures.rows ((putting_new report_cmp report_total (without_each report_cmp c.args.rows.now.rows c.args.set.now) [] c.loop-report.news.rows c.report-item.result (without_each report_cmp c.args.rows.now.rows (drop (c.loop-report.report-index + 1) c.args.set.now)) now).1)
+
+pub loop-report-preserved : goal.loop-report-preserved
+loop-report-preserved g c =
+    elim c.if-not-contains.branch [
+      | then-not-contains+in_ok-reserve w ↦
+          let step = new_next c.args.rows.now.rows c.args.set.now c.loop-report.report-index c.report-item.result (omega arith) c.report-item.is (sym c.contains.ensures ∙ w.if-not-contains.true) in
+          let now = subst (λ l. ArePutting report_cmp (without_each report_cmp c.args.rows.now.rows c.args.set.now) [] c.loop-report.news.rows l) step c.loop-report.invariant in
+          rw (w.news-is, w.put.ensures, w.in_ok-reserve.ensures.rows) (putting_more report_cmp report_total (without_each report_cmp c.args.rows.now.rows c.args.set.now) [] c.loop-report.news.rows c.report-item.result (without_each report_cmp c.args.rows.now.rows (drop (c.loop-report.report-index + 1) c.args.set.now)) now)
+      | else-not-contains w ↦
+          let step = held_next c.args.rows.now.rows c.args.set.now c.loop-report.report-index c.report-item.result (omega arith) c.report-item.is (sym c.contains.ensures ∙ w.if-not-contains.false) in
+          rw w.news-is (subst (λ l. ArePutting report_cmp (without_each report_cmp c.args.rows.now.rows c.args.set.now) [] c.loop-report.news.rows l) step c.loop-report.invariant)
+    ]
+
+pub returns : goal.returns
+returns g c =
+    let now = subst (λ l. ArePutting report_cmp (without_each report_cmp c.args.rows.now.rows c.args.set.now) [] c.loop-report.news.rows l) (none_left c.args.rows.now.rows c.args.set.now c.loop-report.report-index (omega arith)) c.loop-report.invariant in
+    putting_all report_cmp report_total (without_each report_cmp c.args.rows.now.rows c.args.set.now) [] c.loop-report.news.rows now
+    ∙ put_each_none report_cmp report_total (without_each report_cmp c.args.rows.now.rows c.args.set.now) (beyond_rises report_cmp report_total c.args.rows.now.rows c.args.set.now c.requires.rises)

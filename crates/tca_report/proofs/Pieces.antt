@@ -1,0 +1,87 @@
+-- Reading a capture piece by piece.
+use Rattle.std.proofs.Common.{◌≡◌, ℕ, ◌+◌, ◌≤◌, List, [], ◌∷◌, ◌++◌, length, Some, None, Result, Ok, Err, refl, sym, ap, ap₂, subst, ◌∙◌, arith}
+use Rattle.std.specs.List.{concat}
+use Rattle.std.proofs.lemmas.List.{length-append}
+use Rattle.std.proofs.lemmas.List.Folds.{concat-append}
+use Rattle.tca_wire.specs.Frames.{Framing, Holds, Failed, Feeds, IsStream, fault_of, ending}
+use Rattle.tca_wire.specs.declared.fault.WireFault.{WireFault}
+use Rattle.tca_wire.specs.declared.fault.WireFault.TheVariants.{Short}
+use Rattle.tca_wire.proofs.Framings.{joined}
+use Rattle.tca_report.specs.Reports.{PacketReport}
+use Rattle.tca_report.specs.Inputs.{Heard, nothing, all_heard, ended, capture_of}
+use Rattle.tca_report.specs.Gathering.{said}
+use Rattle.tca_report.specs.Progress.{Keeps, HasRead}
+use Rattle.tca_report.specs.declared.inputs.InputFault.{InputFault}
+use Rattle.tca_report.specs.declared.inputs.InputFault.TheVariants.{Wire}
+use Rattle.tca_report.specs.declared.inputs.Notes.{Notes}
+use Rattle.tca_report.specs.declared.capture.Progress.{Progress}
+use Rattle.tca_report.proofs.Hearing.{all_on, capture_ends, capture_stops, capture_fails}
+
+same_fault : (a b : WireFault) → Some a ≡ Some b → a ≡ b
+same_fault a b e = cc
+
+module _ (octets piece : List ℕ) (framer after : Framing) (p : Progress) (ms : List (List ℕ)) (r : HasRead octets framer p) (feeds : Feeds framer piece ms after) where
+  fed : IsStream (octets ++ piece) (r.messages ++ ms) after
+  fed = joined octets piece r.held r.messages ms after r.stream (subst (λ f. Feeds f piece ms after) r.holds feeds)
+
+  far : length (concat (r.messages ++ ms)) ≡ p.at + length (concat ms)
+  far = omega (arith, r.at, ap length (concat-append r.messages ms), length-append (concat r.messages) (concat ms))
+
+  pub within_piece : p.at + length (concat ms) ≤ length octets + length piece
+  within_piece = omega (arith, far, ap length fed.whole, length-append octets piece, length-append (concat (r.messages ++ ms)) fed.rest)
+
+  heard_on : (given : Result Heard InputFault) → all_heard p.at r.said ms ≡ given → all_heard 0 nothing (r.messages ++ ms) ≡ given
+  heard_on given e =
+      let here : 0 + length (concat r.messages) ≡ p.at = omega (arith, r.at) in
+      all_on 0 nothing r.messages ms r.said r.heard ∙ ap (λ n. all_heard n r.said ms) here ∙ e
+
+  pub read_on : (q : Progress) (now : Heard) → fault_of after ≡ None → all_heard p.at r.said ms ≡ Ok now → Keeps q now → q.at ≡ p.at + length (concat ms) → HasRead (octets ++ piece) after q
+  read_on q now well e keeps at = go after well fed
+    where
+      go : (x : Framing) → fault_of x ≡ None → IsStream (octets ++ piece) (r.messages ++ ms) x → HasRead (octets ++ piece) x q
+      go (Holds held) none stream = record {
+        messages = r.messages ++ ms;
+        held = held;
+        said = now;
+        stream = stream;
+        holds = refl;
+        heard = heard_on (Ok now) e;
+        keeps = keeps;
+        at = at ∙ sym far;
+      }
+      go (Failed fault) none stream = absurd cc
+
+  pub stops_here : (behind : List ℕ) (fault : InputFault) → all_heard p.at r.said ms ≡ Err fault → capture_of ((octets ++ piece) ++ behind) ≡ Err fault
+  stops_here behind fault e = capture_stops (octets ++ piece) behind (r.messages ++ ms) after fault fed (heard_on (Err fault) e)
+
+  pub fails_here : (behind : List ℕ) (fault : WireFault) (now : Heard) → fault_of after ≡ Some fault → all_heard p.at r.said ms ≡ Ok now
+      → capture_of ((octets ++ piece) ++ behind) ≡ Err (Wire (p.at + length (concat ms)) fault)
+  fails_here behind fault now bad e = go after bad fed
+    where
+      go : (x : Framing) → fault_of x ≡ Some fault → IsStream (octets ++ piece) (r.messages ++ ms) x → capture_of ((octets ++ piece) ++ behind) ≡ Err (Wire (p.at + length (concat ms)) fault)
+      go (Holds held) some stream = absurd cc
+      go (Failed other) some stream =
+          capture_fails (octets ++ piece) behind (r.messages ++ ms) other now stream (heard_on (Ok now) e)
+          ∙ ap₂ (λ (n : ℕ) (f : WireFault). Err (Wire n f)) far (same_fault other fault some)
+
+ends_well : (at : ℕ) (held : List ℕ) (h : Heard) → ending (Holds held) ≡ Ok tt → ended at (Holds held) h ≡ Ok h
+ends_well at [] h e = refl
+ends_well at (b ∷ bs) h e = absurd cc
+
+ends_badly : (at : ℕ) (held : List ℕ) (h : Heard) (fault : WireFault) → ending (Holds held) ≡ Err fault → ended at (Holds held) h ≡ Err (Wire at fault)
+ends_badly at [] h fault e = absurd cc
+ends_badly at (b ∷ bs) h fault e = let same : Short ≡ fault = cc in ap (λ (f : WireFault). Err (Wire at f)) same
+
+-- a capture that ends behind a message
+pub all_said : (octets : List ℕ) (framer : Framing) (p : Progress) → HasRead octets framer p → ending framer ≡ Ok tt → said (capture_of octets) ≡ Ok (p.reports.items, p.notes)
+all_said octets framer p r e =
+    let well = ends_well (length (concat r.messages)) r.held r.said (ap ending (sym r.holds) ∙ e) in
+    ap said (capture_ends octets r.messages (Holds r.held) r.said r.stream r.heard ∙ well)
+    ∙ ap₂ (λ (reports : List PacketReport) (notes : Notes). Ok (reports, notes)) (sym r.keeps.reports) (sym r.keeps.notes)
+
+-- a capture that ends within one
+pub cut_at : (octets : List ℕ) (framer : Framing) (p : Progress) (fault : WireFault) → HasRead octets framer p → ending framer ≡ Err fault → capture_of octets ≡ Err (Wire p.at fault)
+cut_at octets framer p fault r e =
+    capture_ends octets r.messages (Holds r.held) r.said r.stream r.heard
+    ∙ ends_badly (length (concat r.messages)) r.held r.said fault (ap ending (sym r.holds) ∙ e)
+    ∙ ap (λ (n : ℕ). Err (Wire n fault)) (sym r.at)

@@ -1,0 +1,13 @@
+pub mod Choices
+pub mod Specs
+pub mod Fields
+pub mod Records
+pub mod Stored
+pub mod Changes
+pub mod Sets
+pub mod Copies
+pub mod Placing
+pub mod PartLaws
+pub mod TemplateSetLaws
+pub mod DataSetLaws
+pub mod SessionLaws

@@ -1,0 +1,76 @@
+-- The steps of reading specifiers.
+use Rattle.std.proofs.Common.{◌≡◌, ℕ, zero, suc, ◌+◌, ◌-◌, ◌≤◌, cond, List, [], ◌∷◌, ◌++◌, length, drop, Option, Some, None, Result, Ok, Err, refl, sym, ap, ◌∙◌, arith, inl, inr}
+use Rattle.std.specs.Prelude.{nat_lt}
+use Rattle.std.proofs.lemmas.Bool.Decides.{nat_tests}
+use Rattle.std.proofs.lemmas.List.{length-drop, length-append}
+use Rattle.byteorder.specs.Endian.{big_number}
+use Rattle.tca_templates.specs.declared.template.FieldSpec.{FieldSpec}
+use Rattle.tca_templates.specs.declared.fault.DecodeFault.{DecodeFault}
+use Rattle.tca_templates.specs.Specifiers.{spec_at, specs_on}
+use Rattle.tca_templates.proofs.Choices.{chosen, passed, same_some}
+
+pub spec_size : (octets : List ℕ) (x : FieldSpec × ℕ) → spec_at octets ≡ Some x → x.1 ≤ length octets
+spec_size octets x e =
+    let short : FieldSpec × ℕ = (record { element = big_number 2 octets; enterprise = None; length = big_number 2 (drop 2 octets) }, 4) in
+    let long : FieldSpec × ℕ = (record { element = big_number 2 octets - 32768; enterprise = Some (big_number 4 (drop 4 octets)); length = big_number 2 (drop 2 octets) }, 8) in
+    let a = passed (nat_lt (length octets) 4) _ x e in
+    elim (chosen (nat_lt (big_number 2 octets) 32768) (Some short) (cond (nat_lt (length octets) 8) None (Some long)) (Some x) a.1) [
+      | inl w ↦ let k : 4 ≡ x.1 = ap (λ (p : FieldSpec × ℕ). p.1) (same_some short x w.1) in grind (arith, nat_tests, a.0, k)
+      | inr w ↦
+          let b = passed (nat_lt (length octets) 8) (Some long) x w.1 in
+          let k : 8 ≡ x.1 = ap (λ (p : FieldSpec × ℕ). p.1) (same_some long x b.1) in grind (arith, nat_tests, b.0, k)
+    ]
+
+pub specs_next : (cut : DecodeFault) (specs : List FieldSpec) (used n : ℕ) (octets : List ℕ) (x : FieldSpec × ℕ) → spec_at octets ≡ Some x
+    → specs_on cut specs used (suc n) octets ≡ specs_on cut (specs ++ x.0 ∷ []) (used + x.1) n (drop x.1 octets)
+unfolding specs_on
+specs_next cut specs used n octets x e =
+    let F : Option (FieldSpec × ℕ) → Result (List FieldSpec × ℕ) DecodeFault = λ o. elim o [
+      | None ↦ Err cut
+      | Some x ↦ specs_on cut (specs ++ x.0 ∷ []) (used + x.1) n (drop x.1 octets)
+    ] in
+    ap F e
+
+pub specs_cut : (cut : DecodeFault) (specs : List FieldSpec) (used n : ℕ) (octets : List ℕ) → spec_at octets ≡ None → specs_on cut specs used (suc n) octets ≡ Err cut
+unfolding specs_on
+specs_cut cut specs used n octets e =
+    let F : Option (FieldSpec × ℕ) → Result (List FieldSpec × ℕ) DecodeFault = λ o. elim o [
+      | None ↦ Err cut
+      | Some x ↦ specs_on cut (specs ++ x.0 ∷ []) (used + x.1) n (drop x.1 octets)
+    ] in
+    ap F e
+
+pub specs_done : (cut : DecodeFault) (specs : List FieldSpec) (used : ℕ) (octets : List ℕ) → specs_on cut specs used 0 octets ≡ Ok (specs, used)
+unfolding specs_on
+specs_done cut specs used octets = refl
+
+-- what reading specifiers tells
+pub record AreRead (specs : List FieldSpec) (used n : ℕ) (octets : List ℕ) (x : List FieldSpec × ℕ) : Type 0 where
+  pub more : used ≤ x.1
+  pub within : x.1 ≤ used + length octets
+  pub count : length x.0 ≡ length specs + n
+
+pub specs_told : (cut : DecodeFault) (specs : List FieldSpec) (used count : ℕ) (octets : List ℕ) (x : List FieldSpec × ℕ)
+    → specs_on cut specs used count octets ≡ Ok x → AreRead specs used count octets x
+specs_told cut specs used zero octets x e =
+    let done : List FieldSpec × ℕ = (specs, used) in
+    let given : Result (List FieldSpec × ℕ) DecodeFault = Ok done in
+    let same : given ≡ Ok x = sym (specs_done cut specs used octets) ∙ e in
+    let k : done ≡ x = cc in
+    let l : length specs ≡ length x.0 = ap (λ (p : List FieldSpec × ℕ). length p.0) k in
+    let u : used ≡ x.1 = ap (λ (p : List FieldSpec × ℕ). p.1) k in
+    record { more = omega arith; within = omega arith; count = omega arith }
+specs_told cut specs used (suc count) octets x e =
+    go (λ more u rest h. specs_told cut more u count rest x h) (spec_at octets) refl
+  where
+    go : ((more : List FieldSpec) (u : ℕ) (rest : List ℕ) → specs_on cut more u count rest ≡ Ok x → AreRead more u count rest x)
+        → (o : Option (FieldSpec × ℕ)) → spec_at octets ≡ o → AreRead specs used (suc count) octets x
+    go told None o = let bad : Err cut ≡ Ok x = sym (specs_cut cut specs used count octets o) ∙ e in absurd cc
+    go told (Some y) o =
+        let r = told (specs ++ y.0 ∷ []) (used + y.1) (drop y.1 octets) (sym (specs_next cut specs used count octets y o) ∙ e) in
+        let s = spec_size octets y o in
+        record {
+          more = omega (arith, r.more);
+          within = omega (arith, r.within, s, length-drop y.1 octets);
+          count = omega (arith, r.count, length-append specs (y.0 ∷ []));
+        }

@@ -1,0 +1,11 @@
+pub mod Templates
+pub mod Specifiers
+pub mod Records
+pub mod Reading
+pub mod Fields
+pub mod Outcomes
+pub mod Faults
+pub mod Parts
+pub mod TemplateSets
+pub mod DataSets
+pub mod Sessions

@@ -1,0 +1,44 @@
+-- What a message is in a session: its sets take effect in their order (RFC 7011, section 3.1).
+use Rattle.std.specs.Prelude.{◌≡◌, ◌≢◌, ℕ, ◌+◌, ◌≤◌, ◌<◌, true, false, List, [], ◌∷◌, Some, None}
+use Rattle.tca_wire.specs.declared.message.Header.{Header}
+use Rattle.tca_wire.specs.declared.message.SetSpan.{SetSpan}
+use Rattle.tca_templates.specs.Templates.{Templates, TemplateView, known}
+use Rattle.tca_templates.specs.Records.{FieldView}
+use Rattle.tca_templates.specs.Reading.{Seen, body_of, before}
+use Rattle.tca_templates.specs.TemplateSets.{IsTemplateSet}
+use Rattle.tca_templates.specs.DataSets.{IsDataSet, placed_behind}
+
+-- One set, and what has come of the message before it and with it.
+pub data IsSet (h : Header) (octets : List ℕ) (seen after : Seen) (s : SetSpan) : Type 0 where
+  -- A template set, of identifier 2.
+  TemplateSet : s.id ≡ 2 → (ts : Templates) → IsTemplateSet h.domain false seen.templates ts (body_of octets s)
+      → after ≡ record seen { templates = ts } → IsSet h octets seen after s
+  -- An options template set, of identifier 3.
+  OptionsTemplateSet : s.id ≡ 3 → (ts : Templates) → IsTemplateSet h.domain true seen.templates ts (body_of octets s)
+      → after ≡ record seen { templates = ts } → IsSet h octets seen after s
+  -- The other identifiers below 256 are skipped and counted.
+  Skipped : s.id < 256 → s.id ≢ 2 → s.id ≢ 3 → after ≡ record seen { skipped = seen.skipped + 1 } → IsSet h octets seen after s
+  -- A data set of a template that is known by then.
+  DataSet : 256 ≤ s.id → seen.unplaced ≡ None → (t : TemplateView) → known (h.domain, s.id) seen.templates ≡ Some t
+      → (records : List (List FieldView)) → IsDataSet t records (body_of octets s)
+      → after ≡ record seen { records = placed_behind h t.options seen.records records } → IsSet h octets seen after s
+  -- The first data set of a template that isn't known: how many records it has isn't known, so no record from here on has a place.
+  Unplaced : 256 ≤ s.id → seen.unplaced ≡ None → known (h.domain, s.id) seen.templates ≡ None
+      → after ≡ record seen { unplaced = Some s.id } → IsSet h octets seen after s
+  -- Any data set behind it.
+  Unread : 256 ≤ s.id → (id : ℕ) → seen.unplaced ≡ Some id → after ≡ seen → IsSet h octets seen after s
+
+-- What comes of these sets, one after the other.
+pub record Then (h : Header) (octets : List ℕ) (seen : Seen) (s : SetSpan) (Others : Seen → Type 0) : Type 0 where
+  pub next : Seen
+  pub first : IsSet h octets seen next s
+  pub others : Others next
+
+abbrev pub AreSets : Header → List ℕ → Seen → List SetSpan → Seen → Type 0
+AreSets h octets seen [] after = after ≡ seen
+AreSets h octets seen (s ∷ ss) after = Then h octets seen s (λ next. AreSets h octets next ss after)
+
+-- A message of this header and these sets, read when these templates are known: its records in their order, the first data set
+-- that has no known template, how many sets were skipped, and the templates after it.
+abbrev pub IsReading : Templates → Header → List ℕ → List SetSpan → Seen → Type 0
+IsReading ts h octets sets after = AreSets h octets (before ts) sets after

@@ -1,0 +1,34 @@
+//! The templates of a transport session, and the data records that they describe (RFC 7011).
+//!
+//! A message is refused as a whole or read as a whole. Reading a record takes no memory of its own: its fields
+//! stay in the octets of the message, in two lists that serve for one message after another. Only `read` copies
+//! them; and where a message has template sets it first copies the templates, so that a refusal changes nothing.
+//! Templates are found by a hash of their domain and ID. All that a stranger's messages can make a decoder keep
+//! is 4,096 templates of 512 fields each.
+//!
+//! - `decoder`: a session; `reading`: the sets of one message;
+//! - `template`, `specifiers`, `store`: what a template says, the records that define and withdraw templates, and
+//!   the templates that are known; `draft`: a copy of them; `iter`: all of them in order;
+//! - `record`, `outcome`: the records of data sets, in the message's octets and as values of their own;
+//! - `fault`: what can be wrong.
+#![tactic(auto)]
+
+mod decoder;
+mod draft;
+mod fault;
+mod iter;
+mod outcome;
+mod reading;
+mod record;
+mod specifiers;
+mod store;
+mod template;
+
+pub use decoder::Decoder;
+pub use fault::DecodeFault;
+pub use iter::TemplatesIter;
+pub use outcome::{FieldValue, Outcome, PlacedFields};
+pub use record::{Field, Row};
+
+#[cfg(test)]
+mod tests;

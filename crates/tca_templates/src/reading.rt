@@ -1,0 +1,117 @@
+//! The sets of a message, one after the other.
+ghost use Rattle.std.specs.Prelude.{◌≡◌, ◌<◌, ◌≤◌, ◌+◌, ◌^◌, [], length, OnOk, IfOk, true, false};
+ghost use Rattle.std.specs.List.{list_any};
+ghost use Rattle.tca_wire.specs.Walks.{Gives};
+ghost use Rattle.tca_templates.specs.Reading.{body_of, set_of, read_of};
+ghost use Rattle.tca_templates.specs.Fields.{seen_of, counted, templates_of, is_template_set};
+
+use crate::fault::DecodeFault;
+use crate::record::{Field, Row, read_records};
+use crate::store::{Store, find, read_templates};
+use std::alloc::Global;
+use tca_wire::{Message, SetSpan};
+
+/// What has come of a message beside its records.
+#[derive(Clone, Copy)]
+struct Aside {
+    /// The first set of an unknown template.
+    unplaced: Option<u16>,
+    /// How many sets were skipped.
+    skipped: u32,
+}
+
+/// The octets of a set, behind its header.
+fn set_body<'a>(octets: &'a [u8], set: SetSpan) -> &'a [u8]
+    requires least { 4 ≤ set.length }
+    requires within { set.at + set.length ≤ length octets.now }
+    ensures { result.now ≡ body_of octets.now set }
+{
+    let (whole, _) = octets.split_at(set.at as usize + set.length as usize);
+    let (_, body) = whole.split_at(set.at as usize + 4);
+    body
+}
+
+/// Goes over one set.
+fn read_set<'a>(
+    alloc: Global,
+    templates: &mut Store,
+    message: &Message<'a>,
+    set: SetSpan,
+    aside: Aside,
+    rows: &mut Vec<Row>,
+    fields: &mut Vec<Field<'a>>,
+) -> Result<Aside, DecodeFault>
+    requires least { 4 ≤ set.length }
+    requires within { set.at + set.length ≤ length message.now.octets.now }
+    requires short { length message.now.octets.now < 2 ^ 16 }
+    requires few { length rows.old.items ≤ set.at }
+    requires counted { counted rows.old.items ≡ length fields.old.items }
+    requires skipped { aside.skipped + 1 < 2 ^ 32 }
+    ensures exact { Gives DecodeFault.Memory
+        (λ x. seen_of message.now.header.domain templates.new.entries rows.new.items fields.new.items x.unplaced x.skipped) result
+        (set_of message.now.header message.now.octets.now
+        (seen_of message.now.header.domain templates.old.entries rows.old.items fields.old.items aside.unplaced aside.skipped) set) }
+    ensures few { OnOk result (length rows.new.items ≤ set.at + set.length) }
+    ensures counted { OnOk result (counted rows.new.items ≡ length fields.new.items) }
+    ensures skipped { IfOk result (λ x. x.skipped ≤ aside.skipped + 1) }
+    ensures kept { is_template_set set ≡ false → templates_of templates.new.entries ≡ templates_of templates.old.entries }
+{
+    let header = message.header;
+    let at = set.at + 4;
+    let body = set_body(message.octets, set);
+    if set.id == 2 {
+        read_templates(alloc, templates, header.domain, false, at, body)?;
+        return Ok(aside);
+    }
+    if set.id == 3 {
+        read_templates(alloc, templates, header.domain, true, at, body)?;
+        return Ok(aside);
+    }
+    if set.id < 256 {
+        return Ok(Aside {
+            unplaced: aside.unplaced,
+            skipped: aside.skipped + 1,
+        });
+    }
+    if aside.unplaced.is_some() {
+        return Ok(aside);
+    }
+    let Some(template) = find(templates, header.domain, set.id) else {
+        return Ok(Aside {
+            unplaced: Some(set.id),
+            skipped: aside.skipped,
+        });
+    };
+    read_records(header, template, at, body, rows, fields)?;
+    Ok(aside)
+}
+
+/// Goes over the sets of a message, adds its records, and answers the first set of an unknown template and how
+/// many sets were skipped. An `Err` leaves the templates half changed where a template set is there.
+pub(crate) fn read_sets<'a>(
+    alloc: Global,
+    templates: &mut Store,
+    message: &Message<'a>,
+    rows: &mut Vec<Row>,
+    fields: &mut Vec<Field<'a>>,
+) -> Result<(Option<u16>, u32), DecodeFault>
+    requires rows { rows.old.items ≡ [] }
+    requires fields { fields.old.items ≡ [] }
+    ensures exact { Gives DecodeFault.Memory
+        (λ x. seen_of message.now.header.domain templates.new.entries rows.new.items fields.new.items x.0 x.1) result
+        (read_of (templates_of templates.old.entries) message.now.header message.now.octets.now message.now.sets.items) }
+    ensures counted { OnOk result (counted rows.new.items ≡ length fields.new.items) }
+    ensures few { OnOk result (length rows.new.items ≤ message.now.header.length) }
+    ensures skipped { IfOk result (λ x. x.1 ≤ message.now.header.length) }
+    ensures kept { list_any is_template_set message.now.sets.items ≡ false
+        → templates_of templates.new.entries ≡ templates_of templates.old.entries }
+{
+    let mut aside = Aside {
+        unplaced: None,
+        skipped: 0,
+    };
+    for set in &message.sets {
+        aside = read_set(alloc, templates, message, *set, aside, rows, fields)?;
+    }
+    Ok((aside.unplaced, aside.skipped))
+}

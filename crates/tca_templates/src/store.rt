@@ -1,0 +1,104 @@
+//! The templates that are known, and the sets that change them.
+ghost use Rattle.std.specs.Prelude.{◌≡◌, ◌<◌, ◌≤◌, ◌+◌, ◌^◌, [], length, OnOk, OnErr, IfOk, IfErr};
+ghost use Rattle.std.specs.Option.{option_map};
+ghost use Rattle.tca_wire.specs.Walks.{Gives, walk};
+ghost use Rattle.tca_templates.specs.Templates.{known, define, withdraw, withdraw_all};
+ghost use Rattle.tca_templates.specs.Specifiers.{changed, template_front};
+ghost use Rattle.tca_templates.specs.Fields.{change_view, template_of, templates_of, IsOfKind};
+
+use crate::fault::DecodeFault;
+use crate::specifiers::{Change, read_change};
+use crate::template::Template;
+use indexmap::IndexMap;
+use std::alloc::Global;
+
+/// The templates of a session by observation domain and ID, in the order in which they were first seen.
+pub(crate) type Store = IndexMap<(u32, u16), Template>;
+
+/// The most templates of a session, over all domains.
+const MOST_TEMPLATES: usize = 4096;
+
+/// The template of an ID.
+pub(crate) fn find(templates: &Store, domain: u32, id: u16) -> Option<&Template>
+    ensures { option_map (λ t. template_of t.now) result ≡ known (domain, id) (templates_of templates.now.entries) }
+{
+    templates.get(&(domain, id))
+}
+
+/// Defines an ID. A known one keeps its place, and a new one goes last.
+fn define(
+    templates: &mut Store,
+    domain: u32,
+    id: u16,
+    template: Template,
+) -> Result<(), DecodeFault>
+    ensures ok { OnOk result (templates_of templates.new.entries ≡ define (domain, id) (template_of template) (templates_of templates.old.entries)) }
+    ensures err { IfErr result (λ e. e ≡ DecodeFault.Memory) }
+{
+    templates.insert((domain, id), template)?;
+    Ok(())
+}
+
+/// Withdraws an ID of whichever kind; nothing happens where it isn't known.
+fn withdraw(templates: &mut Store, domain: u32, id: u16)
+    ensures { templates_of templates.new.entries ≡ withdraw (domain, id) (templates_of templates.old.entries) }
+{
+    templates.shift_remove(&(domain, id));
+}
+
+/// Withdraws all templates of a domain and kind.
+fn withdraw_all(templates: &mut Store, domain: u32, options: bool)
+    ensures { templates_of templates.new.entries ≡ withdraw_all domain options (templates_of templates.old.entries) }
+{
+    templates.retain(|key, template| !(key.0 == domain && template.options == options));
+}
+
+/// Does what a template record of a set of this kind says.
+fn apply(
+    templates: &mut Store,
+    domain: u32,
+    options: bool,
+    change: Change,
+) -> Result<(), DecodeFault>
+    requires { IsOfKind options change }
+    ensures { Gives DecodeFault.Memory (λ _. templates_of templates.new.entries) result (changed domain options (templates_of templates.old.entries) (change_view change)) }
+{
+    match change {
+        Change::AllGone => withdraw_all(templates, domain, options),
+        Change::Gone(id) => withdraw(templates, domain, id),
+        Change::New(id, template) => {
+            let is_new = find(templates, domain, id).is_none();
+            if is_new && templates.len() >= MOST_TEMPLATES {
+                return Err(DecodeFault::TooMany);
+            }
+            define(templates, domain, id, template)?;
+        }
+    }
+    Ok(())
+}
+
+/// Goes over the records of a template set; `at` is where its octets begin in the message. Fewer than four octets
+/// are padding.
+pub(crate) fn read_templates(
+    alloc: Global,
+    templates: &mut Store,
+    domain: u32,
+    options: bool,
+    at: u16,
+    octets: &[u8],
+) -> Result<(), DecodeFault>
+    requires { at + length octets.now < 2 ^ 16 }
+    ensures { Gives DecodeFault.Memory (λ _. templates_of templates.new.entries) result
+        (walk (template_front domain options) (templates_of templates.old.entries) at octets.now) }
+{
+    let mut at = at;
+    let mut rest = octets;
+    while rest.len() >= 4 {
+        let (change, size) = read_change(alloc, options, at, rest)?;
+        apply(templates, domain, options, change)?;
+        at += size as u16;
+        let (_, behind) = rest.split_at(size);
+        rest = behind;
+    }
+    Ok(())
+}

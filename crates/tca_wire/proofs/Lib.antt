@@ -1,0 +1,5 @@
+pub mod Walking
+pub mod Sets
+pub mod Tiles
+pub mod Framings
+pub mod FramesOf

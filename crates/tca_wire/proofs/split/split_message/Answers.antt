@@ -1,0 +1,20 @@
+use Rattle.std.proofs.Common.{List, subst}
+use Rattle.std.specs.Prelude.{Result}
+use Rattle.tca_wire.specs.Walks.{Gives}
+use Rattle.tca_wire.specs.Messages.{IsMessage, message_of}
+use Rattle.tca_wire.specs.declared.message.Header.{Header}
+use Rattle.tca_wire.specs.declared.message.SetSpan.{SetSpan}
+use Rattle.tca_wire.specs.declared.fault.WireFault.{WireFault}
+use Rattle.tca_wire.specs.declared.fault.WireFault.TheVariants.{Memory}
+use Rattle.tca_wire.proofs.Walking.{gives_ok}
+use Rattle.tca_wire.proofs.Tiles.{message_found, message_only}
+use Rattle.tca_wire.proofs.split.split_message.Goals as goal
+
+pub returns-clause-found : goal.returns-clause-found
+returns-clause-found c =
+    gives_ok Memory (λ m. (m.header, m.sets.items)) (λ (x : Header × List SetSpan). IsMessage c.args.octets.now x.0 x.1) c.split.result (message_of c.args.octets.now)
+    (λ x e. message_found c.args.octets.now x.0 x.1 e) c.split.ensures.exact
+
+pub returns-clause-only : goal.returns-clause-only
+returns-clause-only c = λ header sets m.
+    subst (λ (given : Result (Header × List SetSpan) WireFault). Gives Memory (λ m. (m.header, m.sets.items)) c.split.result given) (message_only c.args.octets.now header sets m) c.split.ensures.exact

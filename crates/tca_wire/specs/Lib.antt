@@ -1,0 +1,4 @@
+pub mod Walks
+pub mod Messages
+pub mod Frames
+pub mod Faults
