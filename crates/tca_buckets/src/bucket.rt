@@ -1,3 +1,4 @@
+//! One bucket of tokens, and two of which the second gets what the first has no room for.
 ghost use Rattle.std.specs.Prelude.{◌≡◌, ◌≤◌};
 ghost use Rattle.tca_buckets.specs.Buckets.{bucket_of, full_bucket, fits, after_spending, repeated, gain, spill};
 

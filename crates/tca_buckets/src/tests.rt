@@ -1,3 +1,4 @@
+//! Intervals and buckets, by numbers that were found by hand.
 use super::*;
 use std::test::*;
 

@@ -1,3 +1,4 @@
+//! The tokens of a rate that arrive in an interval.
 ghost use Rattle.std.specs.Prelude.{◌≡◌, ◌<◌, ◌≤◌, ◌^◌};
 ghost use Rattle.tca_buckets.specs.Tokens.{due};
 

@@ -1,6 +1,6 @@
--- What follows of every join: it associates both ways, and is the least upper bound.
+-- What follows of every join: it associates both ways, being below is an order, and the join is the least upper bound.
 use Rattle.std.specs.Prelude.{ℕ, Bool, Option}
-use Rattle.tca_join.specs.Joins.{Joins, IsJoin, AssociatesBack, IsAbove, IsLeast}
+use Rattle.tca_join.specs.Joins.{Joins, IsJoin, AssociatesBack, IsAbove, IsLeast, IsTransitive, IsAntisymmetric}
 
 module _ {V : Type 0} {proper : V → Type 0} {clash : V → V → Option ℕ} {full : V → V → Bool} {same : V → V → Type 0} {joined : V → V → V} (laws : IsJoin proper clash full same joined) where
   -- the two have a join
@@ -55,3 +55,20 @@ module _ {V : Type 0} {proper : V → Type 0} {clash : V → V → Option ℕ} {
 
   pub above_both : IsAbove proper clash full same joined
   above_both a b p q ab = (above_left a b p q ab, above_right a b p q ab)
+
+  pub transitive : IsTransitive proper clash full same joined
+  transitive a b c p q r ab bc =
+      let p-ab : proper (joined a b) = laws.stays a b p q ab.0 in
+      let p-bc : proper (joined b c) = laws.stays b c q r bc.0 in
+      let ab-c = laws.alike b c (joined a b) c q r p-ab r (laws.back (joined a b) b ab.1) (laws.itself c) bc.0 in
+      let all = laws.associates a b c p q r ab.0 ab-c.0 in
+      let ac = laws.alike a (joined b c) a c p p-bc p r (laws.itself a) bc.1 all.1 in
+      let left : same (joined (joined a b) c) c = laws.through (joined (joined a b) c) (joined b c) c (laws.back (joined b c) (joined (joined a b) c) ab-c.1) bc.1 in
+      let right : same (joined a (joined b c)) c = laws.through (joined a (joined b c)) (joined (joined a b) c) c (laws.back (joined (joined a b) c) (joined a (joined b c)) all.2) left in
+      (ac.0, laws.through (joined a c) (joined a (joined b c)) c (laws.back (joined a (joined b c)) (joined a c) ac.1) right)
+
+  pub antisymmetric : IsAntisymmetric proper clash full same joined
+  antisymmetric a b p q ab ba =
+      let turned = laws.commutes a b p q ab.0 in
+      let to-both : same a (joined a b) = laws.through a (joined b a) (joined a b) (laws.back (joined b a) a ba.1) (laws.back (joined a b) (joined b a) turned.1) in
+      laws.through a (joined a b) b to-both ab.1

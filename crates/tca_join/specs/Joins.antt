@@ -47,3 +47,11 @@ module _ {V : Type 0} (proper : V → Type 0) (clash : V → V → Option ℕ) (
   -- two values below a third have a join, and it is below the third
   abbrev pub IsLeast : Type 0
   IsLeast = (a b c : V) → proper a → proper b → proper c → IsBelow a c → IsBelow b c → Joins clash full a b × IsBelow (joined a b) c
+
+  -- a value below a second one, which is below a third, is below the third
+  abbrev pub IsTransitive : Type 0
+  IsTransitive = (a b c : V) → proper a → proper b → proper c → IsBelow a b → IsBelow b c → IsBelow a c
+
+  -- two values, each below the other, count as one
+  abbrev pub IsAntisymmetric : Type 0
+  IsAntisymmetric = (a b : V) → proper a → proper b → IsBelow a b → IsBelow b a → same a b

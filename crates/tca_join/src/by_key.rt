@@ -1,3 +1,4 @@
+//! Values under numbers, and their join key by key.
 ghost use Rattle.std.specs.Prelude.{◌++◌, ◌∷◌, ◌≡◌, None, Some, Ok, [], false, IsSome, IsOk, OnOk, OnErr, IfErr, IfOk, option_copied};
 ghost use Rattle.std.specs.Option.{option_copied_mut};
 ghost use Rattle.std.specs.Borrow.{sem};
@@ -216,7 +217,8 @@ impl<V: Join, A: Allocator + Clone> Join for ByKey<V, A> {
         }
     }
 
-    /// Takes time and memory in proportion to the number of keys of both, since a refusal at a late key leaves the map as before. Where the other map has no keys there is nothing to do and no refusal.
+    /// Takes time and memory in proportion to the number of keys of both, since a refusal at a late key leaves the map
+    /// as before. Where the other map has no keys there is nothing to do and no refusal.
     fn join_from(&mut self, other: &ByKey<V, A>) -> Result<(), JoinFault>
         ensures compatible { OnOk result (clash_key V.clash self.old other.now ≡ None) }
         ensures within { OnOk result (map_full V.full self.old other.now ≡ false) }

@@ -1,3 +1,4 @@
+//! Items in a row, of which the longer chain is kept.
 ghost use Rattle.std.specs.Prelude.{◌≡◌, ◌+◌, ◌<◌, ◌≤◌, None, [], ◌∷◌, ◌++◌, true, false, length, slice_get, OnOk, OnErr, IfErr, IfOk, IsOk, MatchOption};
 ghost use Rattle.tca_join.specs.Chains.{chain, IsChain, differ_at, chain_clash, chain_full, chain_joined, IsSameChain};
 ghost use Rattle.tca_join.specs.ChainLaws.{chain_laws};
@@ -9,7 +10,8 @@ use crate::join::Join;
 use std::alloc::{AllocError, Allocator, Global};
 use std::marker::Model;
 
-/// Items in the order in which they came, at most 4,194,304. Of two chains, one of which begins with the other, the longer is kept.
+/// Items in the order in which they came, at most 4,194,304. Of two chains, one of which begins with the other, the
+/// longer is kept.
 ///
 /// Contracts see the items, and whether room for one more was reserved.
 #[derive(Drop)]

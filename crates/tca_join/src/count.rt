@@ -1,3 +1,4 @@
+//! A count, of which the greater is kept.
 ghost use Rattle.std.specs.Prelude.{◌≡◌, max, IsOk, Ok};
 ghost use Rattle.tca_join.specs.Counts.{IsCount, count_clash, count_full};
 ghost use Rattle.tca_join.specs.CountLaws.{count_laws};

@@ -1,3 +1,4 @@
+//! Why two values were not joined.
 ghost use Rattle.std.specs.Prelude.{◌≡◌};
 ghost use Rattle.tca_join.specs.Faults.{fault_number};
 
@@ -7,7 +8,8 @@ use thiserror::Error;
 /// Why two values were not joined. Both are then as before.
 #[derive(Clone, Copy, Debug, PartialEq, Eq, Error)]
 pub enum JoinFault {
-    /// They have no join. `key` is the least key of maps at which they have none, or the first place, counted from 0, at which chains differ.
+    /// They have no join. `key` is the least key of maps at which they have none, or the first place, counted from 0,
+    /// at which chains differ.
     #[error("the values have no join: they clash at {key}")]
     Clash { key: u32 },
     /// They have a join, and it is above a limit.

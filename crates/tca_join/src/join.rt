@@ -1,5 +1,6 @@
+//! What a join is, and its laws.
 ghost use Rattle.std.specs.Prelude.{◌≡◌, ℕ, Bool, false, Option, None, IfOk, IfErr, OnOk, OnErr};
-ghost use Rattle.tca_join.specs.Joins.{IsJoin, Commutes, Associates, AssociatesBack, IsIdempotent, IsAbove, IsLeast};
+ghost use Rattle.tca_join.specs.Joins.{IsJoin, Commutes, Associates, AssociatesBack, IsIdempotent, IsAbove, IsLeast, IsTransitive, IsAntisymmetric};
 ghost use Rattle.tca_join.specs.Faults.{IsJoinFault};
 
 use crate::fault::JoinFault;
@@ -7,7 +8,8 @@ use std::alloc::AllocError;
 
 /// Values of which some two have a join, their least upper bound.
 ///
-/// Two values have one where they don't clash and their join is within each limit. The laws hold up to `same`, and [`join_laws`] states them.
+/// Two values have one where they don't clash and their join is within each limit. The laws hold up to `same`, and
+/// [`join_laws`] states them.
 pub trait Join: Drop + Sized {
     /// Holds of each value of the type.
     ghost proper: { Self → Type 0 };
@@ -30,7 +32,8 @@ pub trait Join: Drop + Sized {
 
     /// Makes this the join of the two.
     ///
-    /// `Clash` comes exactly where the two have no join, and `Full` where they have one that is above a limit, want of memory apart. On each refusal the value is as before.
+    /// `Clash` comes exactly where the two have no join, and `Full` where they have one that is above a limit, want of
+    /// memory apart. On each refusal the value is as before.
     fn join_from(&mut self, other: &Self) -> Result<(), JoinFault>
         ensures compatible { OnOk result (clash self.old other.now ≡ None) }
         ensures within { OnOk result (full self.old other.now ≡ false) }
@@ -46,7 +49,8 @@ pub trait Join: Drop + Sized {
     ghost laws: { IsJoin proper clash full same joined };
 }
 
-/// The laws of each join, as a contract: the order of values doesn't matter, each way to join three is defined exactly where the other is, and the join is the least upper bound.
+/// The laws of each join, as a contract: the order of values doesn't matter, each way to join three is defined exactly
+/// where the other is, being below is an order, and the join is the least upper bound in it.
 pub fn join_laws<J: Join>()
     ensures commutes { Commutes J.proper J.clash J.full J.same J.joined }
     ensures associates { Associates J.proper J.clash J.full J.same J.joined }
@@ -54,4 +58,6 @@ pub fn join_laws<J: Join>()
     ensures idempotent { IsIdempotent J.proper J.clash J.full J.same J.joined }
     ensures above { IsAbove J.proper J.clash J.full J.same J.joined }
     ensures least { IsLeast J.proper J.clash J.full J.same J.joined }
+    ensures transitive { IsTransitive J.proper J.clash J.full J.same J.joined }
+    ensures antisymmetric { IsAntisymmetric J.proper J.clash J.full J.same J.joined }
 {}

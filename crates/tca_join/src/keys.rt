@@ -1,3 +1,4 @@
+//! The keys of a map.
 ghost use Rattle.std.specs.Prelude.{◌≡◌};
 ghost use Rattle.std.specs.Iterator.{YieldsFirst, item_count};
 ghost use Rattle.tca_join.specs.Maps.{keys_of};

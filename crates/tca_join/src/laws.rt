@@ -1,9 +1,11 @@
+//! What the words of sets, chains and maps come to, as contracts.
 ghost use Rattle.std.specs.declared.cmp.Ordering.{Ordering};
 ghost use Rattle.tca_join.specs.Chains.{ClashIsFirst, CompatibleIsPrefix, TakesLonger, KeepsLonger};
 ghost use Rattle.tca_join.specs.Maps.{IsOnlyMap, SetsOneKey, JoinsKeyByKey, CompatibleAtEach, ClashIsLeast, FitsAtEach, FullAtSome};
 ghost use Rattle.tca_join.specs.SetLaws.{IsExact, IsASet, IsOnly, UnionCommutes, UnionAssociates, UnionAgain, UnionAbove, UnionLeast};
 
-/// The laws of finite sets as strictly rising lists, as a contract, for each total order that ties no two members: the list is the only one with its members, and the union is the least upper bound.
+/// The laws of finite sets as strictly rising lists, as a contract, for each total order that ties no two members: the
+/// list is the only one with its members, and the union is the least upper bound.
 pub fn set_laws<T>()
     ensures ordered { (R : T → T → Ordering) → IsExact R → IsASet R }
     ensures only { (R : T → T → Ordering) → IsExact R → IsOnly R }
@@ -14,7 +16,8 @@ pub fn set_laws<T>()
     ensures union_least { (R : T → T → Ordering) → IsExact R → UnionLeast R }
 {}
 
-/// What the words of a chain's contracts come to, as a contract: two chains clash at the first place at which both have an item and these differ, else one begins with the other, and their join is the longer.
+/// What the words of a chain's contracts come to, as a contract: two chains clash at the first place at which both
+/// have an item and these differ, else one begins with the other, and their join is the longer.
 pub fn chain_words<T: Eq>()
     ensures clash { ClashIsFirst T.eq }
     ensures compatible { CompatibleIsPrefix T.eq }
@@ -22,7 +25,8 @@ pub fn chain_words<T: Eq>()
     ensures keeps { KeepsLonger T.eq }
 {}
 
-/// What the words of a map's contracts come to, as a contract: what is at each key says which map it is; setting changes one key; a join is made key by key; and two maps clash at the least key at which their values do.
+/// What the words of a map's contracts come to, as a contract: what is at each key says which map it is; setting
+/// changes one key; a join is made key by key; and two maps clash at the least key at which their values do.
 pub fn map_words<V>()
     ensures only { IsOnlyMap V }
     ensures sets { SetsOneKey V }

@@ -1,10 +1,16 @@
 //! Finite sets, and values that join.
 //!
-//! A [`Join`] is a type of values of which some two have a least upper bound: `join_from` makes a value that bound, or answers why there is none and changes nothing.
-//! [`MaxOf`] is a count of which the greater is kept; a [`Chain`] is a list of which the longer is kept, where one begins with the other; [`ByKey`] joins values under numbers key by key.
+//! A [`Join`] is a type of values of which some two have a least upper bound: `join_from` makes a value that bound, or
+//! answers why there is none and changes nothing. [`MaxOf`] is a count of which the greater is kept; a [`Chain`] is a
+//! list of which the longer is kept, where one begins with the other; [`ByKey`] joins values under numbers key by key.
 //! A join takes time and memory in proportion to the lengths of the two values.
 //!
-//! `specs/Sets.antt` says what a finite set is for all crates above: the one list that has each member once and rises strictly. [`set_laws`] states the laws of such lists.
+//! `specs/Sets.antt` says what a finite set is for all crates above: the one list that has each member once and rises
+//! strictly. [`set_laws`] states the laws of such lists.
+//!
+//! - `join`: what a join is; `fault`: why two values were not joined;
+//! - `count`, `chain`, `by_key`: the types of values that join; `keys`: the keys of a map;
+//! - `laws`: what the words of sets, chains and maps come to.
 #![tactic(auto)]
 
 mod by_key;

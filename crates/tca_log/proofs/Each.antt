@@ -1,5 +1,6 @@
 -- Many members that are put or taken away.
 use Rattle.std.proofs.Common.{◌≡◌, ◌+◌, ◌<◌, ◌≤◌, Bool, true, false, not, ◌&&◌, ◌||◌, cond, List, [], ◌∷◌, ◌++◌, length, filter, refl, sym, ap, ◌∙◌, arith, append_assoc}
+use Rattle.std.proofs.lemmas.Bool.{false≢true}
 use Rattle.std.specs.List.{AllByRecursion}
 use Rattle.std.specs.List.Sorted.{IsStrictlySortedBy}
 use Rattle.std.specs.Ordering.{eq_by_cmp, is_eq, ordering_reverse}
@@ -188,6 +189,12 @@ module _ {K : Type 0} (R : K → K → Ordering) (o : IsTotalOrder R) where
 
   pub putting_new : (all was now : List K) (k : K) (left : List K) → ArePutting R all was now (k ∷ left) → (has R now k ≡ false) × (length now < 4194304)
   putting_new all was now k left p = (p.apart.0, omega (arith, p.few))
+
+  -- where one is left to put, there are some
+  pub putting_some : (all was now : List K) (k : K) (left : List K) → ArePutting R all was now (k ∷ left) → 0 < length all
+  unfolding has
+  putting_some [] was now k left p = absurd (false≢true p.members.0)
+  putting_some (x ∷ xs) was now k left p = omega arith
 
   pub putting_all : (all was now : List K) → ArePutting R all was now [] → now ≡ put_each R all was
   unfolding put_each

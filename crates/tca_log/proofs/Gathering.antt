@@ -1,20 +1,19 @@
 -- A list of reports that is gathered into a set.
-use Rattle.std.proofs.Common.{◌≡◌, ℕ, suc, ◌+◌, ◌<◌, ◌≤◌, ◌==◌, Bool, true, false, ◌&&◌, ◌||◌, cond, List, [], ◌∷◌, ◌++◌, length, get_or, drop, refl, sym, ap, ◌∙◌, arith, add-one}
+use Rattle.std.proofs.Common.{◌≡◌, ℕ, suc, ◌+◌, ◌<◌, ◌≤◌, ◌==◌, Bool, true, false, ◌&&◌, ◌||◌, cond, List, [], ◌∷◌, ◌++◌, length, get_or, drop, refl, sym, ap, ◌∙◌, add-one}
 use Rattle.std.proofs.Math.Seq.{drop-cons}
 use Rattle.std.proofs.Math.ListN.{drop_of_length-le}
 use Rattle.std.specs.List.{list_any, dedup, dedup_from}
-use Rattle.std.specs.List.Sorted.{IsStrictlySortedBy, IsPermutation, IsSorted}
+use Rattle.std.specs.List.Sorted.{IsPermutation, IsSorted}
 use Rattle.std.specs.Ordering.{nat_cmp, ordering_then, eq_by_cmp, is_eq}
 use Rattle.std.specs.Cmp.{IsTotalOrder, Equal-is, unsigned_tied}
 use Rattle.std.specs.declared.cmp.Ordering.{Ordering}
 use Rattle.std.specs.declared.cmp.Ordering.TheVariants.{Less, Equal, Greater}
-use Rattle.std.proofs.lemmas.List.{append-nil}
 use Rattle.std.proofs.lemmas.List.Kept.{IsStrictlySortedBy-dedup}
 use Rattle.std.proofs.lemmas.List.Sorted.{list_any-IsPermutation}
 use Rattle.std.proofs.lemmas.Map.Lookups.{CmpEqualImpliesEq}
 use Rattle.tca_join.specs.Sets.{has, in_order}
 use Rattle.tca_join.proofs.Sets.{has-append, has-in_order, rises_in_order, only_one, or_again}
-use Rattle.tca_join.proofs.Merge.{in_order_alike, in_order_of_rising}
+use Rattle.tca_join.proofs.Merge.{in_order_alike}
 use Rattle.tca_log.specs.Chunks.{without_each}
 use Rattle.tca_log.proofs.Each.{beyond_new, beyond_held, beyond_none}
 use Rattle.tca_report.specs.Reports.{PacketReport, report_cmp}
@@ -68,10 +67,6 @@ union_set rows reports = in_order_alike report_cmp report_total report_exact (ro
 -- the next of a list
 pub next_of : (xs : List PacketReport) (i : ℕ) (x : PacketReport) → i < length xs → x ≡ get_or xs i x → drop i xs ≡ x ∷ drop (i + 1) xs
 next_of xs i x h is = rw add-one (drop-cons xs i x h ∙ ap (λ (y : PacketReport). y ∷ drop (suc i) xs) (sym is))
-
-pub union_none : (rows reports : List PacketReport) → IsStrictlySortedBy report_cmp rows → length reports ≡ 0 → rows ≡ in_order report_cmp (rows ++ reports)
-union_none rows [] s h = sym (ap (in_order report_cmp) (append-nil rows) ∙ in_order_of_rising report_cmp report_total report_exact rows s)
-union_none rows (r ∷ reports) s h = absurd (omega arith)
 
 -- what is left to look at, after one more of the list
 module _ (rows all : List PacketReport) (i : ℕ) (x : PacketReport) (h : i < length all) (is : x ≡ get_or all i x) where

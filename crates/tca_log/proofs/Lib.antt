@@ -1,8 +1,10 @@
+pub mod Arriving
 pub mod Contents
 pub mod Each
 pub mod Gathering
 pub mod Logs
 pub mod Noting
+pub mod Packing
 pub mod Parts
 pub mod Places
 pub mod Ranks

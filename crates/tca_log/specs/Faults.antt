@@ -14,7 +14,11 @@ abbrev pub IsAddRefused : LogFault → List PacketReport → Type 0
 IsAddRefused Full rs = length rs ≡ 4194304
 IsAddRefused Memory rs = length rs < 4194304
 
+-- full exactly where so many reports are above the limit
+abbrev pub IsRefusedBy : LogFault → ℕ → Type 0
+IsRefusedBy Full count = 4194304 < count
+IsRefusedBy Memory count = count ≤ 4194304
+
 -- full exactly where the union is above the limit
 abbrev pub IsUnionRefused : LogFault → List PacketReport → Type 0
-IsUnionRefused Full all = 4194304 < length all
-IsUnionRefused Memory all = length all ≤ 4194304
+IsUnionRefused fault all = IsRefusedBy fault (length all)

@@ -3,3 +3,4 @@ pub mod Disputes
 pub mod Faults
 pub mod Logs
 pub mod LogJoin
+pub mod Arrivals

@@ -1,4 +1,5 @@
 //! A report in the order of identities.
+ghost use Rattle.std.specs.Prelude.{◌≡◌, ◌+◌, ◌*◌, ◌<◌};
 ghost use Rattle.std.specs.Ordering.{is_eq};
 ghost use Rattle.std.specs.Cmp;
 ghost use Rattle.std.specs.Cmp.{eq_by_cmp_equiv, partial_order_from_agreeing_total, partial_equiv_from_equiv};
@@ -51,6 +52,15 @@ impl Ord for ByIdentity {
     ghost matches_eq = { λ _ _. refl };
 
     fn cmp(&self, other: &ByIdentity) -> Ordering {
-        self.report.identity().cmp(&other.report.identity())
+        one_number(&self.report).cmp(&one_number(&other.report))
     }
+}
+
+// A report's identity as one number, in the order of identities: most of what sorting costs is comparing.
+fn one_number(report: &Report) -> u64
+    ensures value { result ≡ report.now.domain * 4294967296 + report.now.place }
+    ensures below { report.now.place < 4294967296 }
+{
+    let identity = report.identity();
+    identity.domain as u64 * 4_294_967_296 + identity.place as u64
 }

@@ -28,7 +28,7 @@ mod union;
 pub use answer::Added;
 pub use fault::LogFault;
 pub use iter::RowsIter;
-pub use log::Log;
+pub use log::{Log, same_reports_make_one_log};
 pub use settled::Settled;
 
 #[cfg(test)]

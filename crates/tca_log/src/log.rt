@@ -1,8 +1,9 @@
 //! The log itself.
-ghost use Rattle.std.specs.Prelude.{◌≡◌, ℕ, ◌+◌, ◌<◌, ◌≤◌, false, [], length, IfOk, IfErr, OnOk, OnErr};
+ghost use Rattle.std.specs.Prelude.{◌≡◌, List, ℕ, ◌+◌, ◌<◌, ◌≤◌, false, [], length, IfOk, IfErr, OnOk, OnErr};
 ghost use Rattle.std.specs.List.Sorted.{IsStrictlySortedBy};
-ghost use Rattle.tca_join.specs.Sets.{has, put};
-ghost use Rattle.tca_report.specs.Reports.{report_cmp};
+ghost use Rattle.tca_join.specs.Sets.{has, in_order};
+ghost use Rattle.tca_report.specs.Reports.{PacketReport, report_cmp};
+ghost use Rattle.tca_log.specs.Arrivals.{Arrival, One, after, after_all, all_given};
 ghost use Rattle.tca_log.specs.Disputes.{added, undisputed, disputed};
 ghost use Rattle.tca_log.specs.Faults.{IsAddRefused};
 
@@ -97,7 +98,7 @@ impl<A: Allocator + Copy> Log<A> {
     /// growth was refused; both leave the log as it was.
     pub fn add(&mut self, report: Report) -> Result<Added, LogFault>
         ensures answer { IfOk result (λ a. a ≡ added self.old report) }
-        ensures ok { OnOk result (self.new ≡ put report_cmp report self.old) }
+        ensures ok { OnOk result (self.new ≡ after (One report) self.old) }
         ensures err { OnErr result (self.new ≡ self.old) }
         ensures new { OnErr result (has report_cmp self.old report ≡ false) }
         ensures fault { IfErr result (λ e. IsAddRefused e self.old) }
@@ -125,3 +126,11 @@ impl<A: Allocator + Copy> Log<A> {
         })
     }
 }
+
+/// The law of arrivals, of the calls `add`, `union` and `add_all` that were not refused, in any order and with any repeats: a
+/// log holds the set of all reports that were given to it, and where two logs were given the same reports they are equal.
+pub fn same_reports_make_one_log()
+    ensures set { (arrivals : List Arrival) → after_all arrivals [] ≡ in_order report_cmp (all_given arrivals) }
+    ensures same { (a b : List Arrival) → ((r : PacketReport) → has report_cmp (all_given a) r ≡ has report_cmp (all_given b) r)
+        → after_all a [] ≡ after_all b [] }
+{}

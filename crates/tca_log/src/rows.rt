@@ -161,6 +161,21 @@ impl<K: Ord + Copy, A: Allocator + Copy> Rows<K, A> {
         Ok(())
     }
 
+    /// Puts all rows of another container, or none where memory is short. Where this one has no rows it becomes the
+    /// other, which costs nothing.
+    pub(crate) fn take_all(&mut self, other: Rows<K, A>) -> Result<(), AllocError>
+        requires apart { AreApart K.cmp other.rows self.old.rows }
+        requires few { length self.old.rows + length other.rows ≤ 4194304 }
+        ensures ok { OnOk result (self.new.rows ≡ put_each K.cmp other.rows self.old.rows) }
+        ensures err { OnErr result (self.new.rows ≡ self.old.rows) }
+    {
+        if self.len() == 0 && other.len() > 0 {
+            *self = other;
+            return Ok(());
+        }
+        self.put_all(&other)
+    }
+
     /// Takes away each row that ties with one of another container. It takes no memory.
     pub(crate) fn withdraw_all(&mut self, other: &Rows<K, A>)
         ensures { self.new.rows ≡ without_each K.cmp other.now.rows self.old.rows }

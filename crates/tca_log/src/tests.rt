@@ -153,9 +153,15 @@ fn unites_each(alloc: Global, order: &[Report], list: &[Report]) -> bool {
     has_reports(&log, list)
 }
 
-fn adds_all(alloc: Global, order: &[Report], list: &[Report], new: u32) -> bool {
+fn adds_all(
+    alloc: Global,
+    order: &[Report],
+    list: &[Report],
+    new: u32,
+) -> Result<bool, AllocError> {
     let mut log = Log::new(alloc);
-    log.add_all(order) == Ok(new) && has_reports(&log, list) && has_settled(&log, list)
+    let added = log.add_all(Vec::from_slice(alloc, order)?) == Ok(new);
+    Ok(added && has_reports(&log, list) && has_settled(&log, list))
 }
 
 // Whether an order of the first reports, each twice, gives one log by all three calls.
@@ -165,7 +171,7 @@ fn is_one_log(alloc: Global, code: usize) -> Result<bool, AllocError> {
     in_turn(&mut rows(alloc, 3)?, code, &mut order)?;
     let united = unites_each(alloc, &order, list);
     in_turn(&mut rows(alloc, 3)?, code, &mut order)?;
-    Ok(united && adds_all(alloc, &order, list, 3) && agrees(alloc, &order, 0)?)
+    Ok(united && adds_all(alloc, &order, list, 3)? && agrees(alloc, &order, 0)?)
 }
 
 fn agrees_in_turn(
@@ -210,7 +216,7 @@ fn answers_late(log: &mut Log, late: Report, second: Report, third: Report) -> b
 fn copies(alloc: Global) -> Result<bool, AllocError> {
     let list = rows(alloc, 6)?;
     let mut log = Log::new(alloc);
-    let added = log.add_all(&list) == Ok(6);
+    let added = log.add_all(Vec::from_slice(alloc, &list)?) == Ok(6);
     let mut sorted = list;
     sorted.sort_unstable();
     let copy = log.copy()?;
@@ -256,7 +262,7 @@ fn chunks_do_not_show(rt: HostRuntime) -> Result<(), Fail> {
     let order = alternating(rt.alloc(), &list)?;
     assert!(rt; agrees(rt.alloc(), &list, 213)?);
     assert!(rt; agrees(rt.alloc(), &order, 213)?);
-    assert!(rt; adds_all(rt.alloc(), &order, &list, 513));
+    assert!(rt; adds_all(rt.alloc(), &order, &list, 513)?);
     list.reverse();
     assert!(rt; agrees(rt.alloc(), &list, 213)?);
     Ok(())
@@ -273,12 +279,11 @@ fn fill(log: &mut Log) -> bool {
     log.len() == LIMIT
 }
 
-fn refuses(log: &mut Log, new: Report, old: Report) -> bool {
-    log.add(new) == Err(LogFault::Full)
-        && log.add(old) == Ok(Added::Repeat)
-        && log.add_all(&[new]) == Err(LogFault::Full)
-        && log.add_all(&[old]) == Ok(0)
-        && log.len() == LIMIT
+fn refuses(alloc: Global, log: &mut Log, new: Report, old: Report) -> Result<bool, AllocError> {
+    let alone = log.add(new) == Err(LogFault::Full) && log.add(old) == Ok(Added::Repeat);
+    let new = log.add_all(Vec::from_slice(alloc, &[new])?);
+    let old = log.add_all(Vec::from_slice(alloc, &[old])?);
+    Ok(alone && new == Err(LogFault::Full) && old == Ok(0) && log.len() == LIMIT)
 }
 
 // Through the trait alone.
@@ -299,7 +304,7 @@ fn a_full_log_refuses_what_is_new(rt: HostRuntime) -> Result<(), Fail> {
     let mut log = Log::new(rt.alloc());
     assert!(rt; fill(&mut log));
     if let (Some(new), Some(old)) = (report(9, LIMIT, 40), report(9, 9, 40)) {
-        assert!(rt; refuses(&mut log, new, old));
+        assert!(rt; refuses(rt.alloc(), &mut log, new, old)?);
         assert!(rt; refuses_union(rt.alloc(), &mut log, new));
     }
     Ok(())
@@ -343,7 +348,8 @@ fn joins(alloc: Global) -> Result<bool, AllocError> {
     let upper = part(alloc, &list, 200, 313)?;
     let mut first = Log::new(alloc);
     let mut second = Log::new(alloc);
-    let added = first.add_all(&lower) == Ok(400) && second.add_all(&upper) == Ok(313);
+    let added = first.add_all(Vec::from_slice(alloc, &lower)?) == Ok(400)
+        && second.add_all(upper) == Ok(313);
     Ok(
         added
             && joins_to(&first, &second, &list)
@@ -358,8 +364,9 @@ fn logs_join_to_their_union(rt: HostRuntime) -> Result<(), Fail> {
     Ok(())
 }
 
-// No growth of a log takes less, so that heaps that differ by it refuse each in turn.
-const STEP: usize = 128;
+// No growth in the sweeps below takes less, so that heaps that differ by it refuse each in turn. The least is that of
+// the order by identity of three reports.
+const STEP: usize = 96;
 
 // What the sweeps below came to in a heap of some size.
 #[derive(Clone, Copy, Debug, PartialEq, Eq)]
@@ -416,12 +423,12 @@ fn dispute_step(small: &LocalHeap, first: Report, second: Report) -> Step {
     }
 }
 
-// What the heap held after each refusal, every amount once.
+// What the heap held after each refusal, once for heaps in a row that then held the same.
 fn kept(alloc: Global, steps: &[Step]) -> Result<Vec<usize>, AllocError> {
     let mut kept = Vec::new(alloc);
     for step in steps {
         if let Step::Refused(octets) = *step {
-            if !kept.contains(&octets) {
+            if kept.last() != Some(&octets) {
                 kept.push(octets)?;
             }
         }
@@ -453,45 +460,76 @@ fn a_refused_dispute_leaves_the_log_as_it_was(rt: HostRuntime) -> Result<(), Fai
     Ok(())
 }
 
-// The union with another log that has half of it, and as much besides, until a growth is refused.
-fn union_step<'a>(
-    small: &'a LocalHeap,
-    lower: &[Report],
-    other: &Log<&'a LocalHeap>,
-    list: &[Report],
-) -> Step {
-    let mut log = Log::new(small);
-    if add_to(&mut log, lower).is_err() {
-        return Step::Before;
-    }
-    match log.union(other) {
-        Ok(_) => done(&log, list, 213),
-        Err(fault) => refused(&log, fault, lower, small.used()),
-    }
+// The calls that take many reports.
+#[derive(Clone, Copy)]
+enum Call {
+    Union,
+    AddAll,
 }
 
-fn union_within(
+// 256 reports, which fill a chunk, then two whose identities lie between theirs, and a second content of the first.
+fn chunk_and_three(alloc: Global) -> Result<Vec<Report>, AllocError> {
+    let mut list = Vec::new(alloc);
+    for i in 0..259 {
+        let place = match i {
+            256 => 1,
+            257 => 3,
+            258 => 0,
+            _ => 2 * i,
+        };
+        if let Some(report) = report(place, i, 40) {
+            list.push(report)?;
+        }
+    }
+    Ok(list)
+}
+
+// A call that takes more into a log in a small heap, where what it takes is in another one.
+fn call_step<'a>(
+    (small, ample): (&'a LocalHeap, &'a LocalHeap),
+    call: Call,
+    (lower, more): (&[Report], &[Report]),
+    list: &[Report],
+) -> Result<Step, AllocError> {
+    let given = Vec::from_slice(ample, more)?;
+    let mut other = Log::new(ample);
+    if add_to(&mut other, more).is_err() {
+        return Ok(Step::Wrong);
+    }
+    let mut log = Log::new(small);
+    if add_to(&mut log, lower).is_err() {
+        return Ok(Step::Before);
+    }
+    let answer = match call {
+        Call::Union => log.union(&other),
+        Call::AddAll => log.add_all(given),
+    };
+    Ok(match answer {
+        Ok(_) => done(&log, list, 1),
+        Err(fault) => refused(&log, fault, lower, small.used()),
+    })
+}
+
+fn call_within(
     alloc: Global,
     octets: usize,
-    lower: &[Report],
-    upper: &[Report],
+    call: Call,
+    parts: (&[Report], &[Report]),
     list: &[Report],
 ) -> Result<Step, AllocError> {
     let small = LocalHeap::new(alloc, octets)?;
     let ample = LocalHeap::new(alloc, 1 << 17)?;
-    let mut other = Log::new(&ample);
-    if add_to(&mut other, upper).is_err() {
-        return Ok(Step::Wrong);
-    }
-    Ok(union_step(&small, lower, &other, list))
+    call_step((&small, &ample), call, parts, list)
 }
 
-fn union_steps(alloc: Global, list: &[Report]) -> Result<Vec<Step>, AllocError> {
-    let lower = part(alloc, list, 0, 200)?;
-    let upper = part(alloc, list, 100, 413)?;
+// The last reports, some of which the log has, each twice and out of order, in larger and larger heaps.
+fn call_steps(alloc: Global, call: Call) -> Result<Vec<Step>, AllocError> {
+    let list = chunk_and_three(alloc)?;
+    let lower = part(alloc, &list, 0, 256)?;
+    let more = alternating(alloc, &part(alloc, &list, 200, 59)?)?;
     let mut met = Vec::new(alloc);
-    for size in 240..1024 {
-        let step = union_within(alloc, STEP * size, &lower, &upper, list)?;
+    for size in 320..1024 {
+        let step = call_within(alloc, STEP * size, call, (&lower, &more), &list)?;
         met.push(step)?;
         if step == Step::Done {
             break;
@@ -500,13 +538,28 @@ fn union_steps(alloc: Global, list: &[Report]) -> Result<Vec<Step>, AllocError> 
     Ok(met)
 }
 
+// Whether each growth was refused in turn. The call's own come first: the new reports, their order by identity, the
+// new identities and the newly disputed. They are freed again, so they leave the same. Then come a chunk of the
+// reports, the disputed identities' list of chunks, a chunk of these, and a chunk of the index, at whose refusal the
+// chunk of the disputed is freed again, so that it leaves what that chunk's own left; the lists of chunks of the reports
+// and of the index have room. Three new reports are so few that their order, which is freed before, makes no room for any.
+fn refuses_each_growth(alloc: Global, call: Call) -> Result<bool, AllocError> {
+    let met = call_steps(alloc, call)?;
+    let from_the_first = met.first() == Some(&Step::Before);
+    let to_the_last = met.last() == Some(&Step::Done);
+    let refusals = kept(alloc, &met)?.len();
+    Ok(from_the_first && to_the_last && refusals == 4 && !met.contains(&Step::Wrong))
+}
+
 #[test]
 fn a_refused_union_leaves_the_log_as_it_was(rt: HostRuntime) -> Result<(), Fail> {
-    let list = many(rt.alloc())?;
-    let met = union_steps(rt.alloc(), &list)?;
-    // Refused to what is needed for the call alone, to the reports, to the index, and to the disputed identities.
-    assert_eq!(rt; kept(rt.alloc(), &met)?.len(), 4);
-    assert!(rt; met.contains(&Step::Done) && !met.contains(&Step::Wrong));
+    assert!(rt; refuses_each_growth(rt.alloc(), Call::Union)?);
+    Ok(())
+}
+
+#[test]
+fn a_refused_list_leaves_the_log_as_it_was(rt: HostRuntime) -> Result<(), Fail> {
+    assert!(rt; refuses_each_growth(rt.alloc(), Call::AddAll)?);
     Ok(())
 }
 

@@ -1,12 +1,15 @@
 //! Many reports at once: all of them or none.
-ghost use Rattle.std.specs.Prelude.{◌≡◌, ◌+◌, ◌<◌, ◌≤◌, ◌++◌, length, IfOk, IfErr, OnOk, OnErr, IsOk, nat_lt};
+ghost use Rattle.std.specs.Prelude.{◌≡◌, ◌+◌, ◌<◌, ◌≤◌, ◌++◌, [], List, map, length, IfOk, IfErr, OnOk, OnErr, IsOk, false, nat_lt};
 ghost use Rattle.std.specs.List.Sorted.{IsStrictlySortedBy};
 ghost use Rattle.tca_join.specs.Sets.{in_order};
 ghost use Rattle.tca_report.specs.Reports.{report_cmp};
 ghost use Rattle.tca_report.specs.Identities.{identity_cmp};
+ghost use Rattle.tca_log.specs.Arrivals.{Many, after};
 ghost use Rattle.tca_log.specs.Chunks.{put_each, without_each, AreApart};
-ghost use Rattle.tca_log.specs.Faults.{IsUnionRefused};
-ghost use Rattle.tca_log.specs.Logs.{index_cmp, IsLog};
+ghost use Rattle.tca_log.specs.Faults.{IsUnionRefused, IsRefusedBy};
+ghost use Rattle.tca_log.specs.Logs.{index_cmp, indexed, noted_all, IsLog};
+ghost use Rattle.tca_log.specs.declared.by_identity.ByIdentity.{ByIdentity};
+ghost use Rattle.std.specs.List.Sorted.{IsPermutation};
 
 use crate::by_identity::ByIdentity;
 use crate::fault::LogFault;
@@ -21,7 +24,7 @@ impl<A: Allocator + Copy> Log<A> {
     /// more than 4,194,304 reports together, and `Memory` where a growth was refused; both leave the log as
     /// it was. Where nothing is new no memory is taken.
     pub fn union(&mut self, other: &Log<A>) -> Result<u32, LogFault>
-        ensures ok { OnOk result (self.new ≡ in_order report_cmp (self.old ++ other.now)) }
+        ensures ok { OnOk result (self.new ≡ after (Many other.now) self.old) }
         ensures count { IfOk result (λ n. n + length self.old ≡ length self.new) }
         ensures err { OnErr result (self.new ≡ self.old) }
         ensures fault { IfErr result (λ e. IsUnionRefused e (in_order report_cmp (self.old ++ other.now))) }
@@ -35,44 +38,58 @@ impl<A: Allocator + Copy> Log<A> {
             return Err(LogFault::Full);
         }
         let news = other.rows.difference(self.rows.allocator(), &self.rows)?;
-        take_in(&mut self.rows, &mut self.index, &mut self.disputed, &news)?;
+        take_in(&mut self.rows, &mut self.index, &mut self.disputed, news)?;
         Ok(new as u32)
     }
 
     /// Adds all reports of a list in any order, where some may stand more than once, and answers how many were
-    /// new. It sorts a copy of the list first, so it is faster than adding one by one. Where there is no memory
-    /// for the copy it answers `Memory`, since it can't know yet how many are new. After that `Full` comes
-    /// exactly where the log would have more than 4,194,304 reports, and `Memory` where a growth was refused.
-    /// Each refusal leaves the log as it was.
-    pub fn add_all(&mut self, reports: &[Report]) -> Result<u32, LogFault>
-        ensures ok { OnOk result (self.new ≡ in_order report_cmp (self.old ++ reports.now)) }
+    /// new. It sorts the list first, so it is faster than adding one by one. `Full` comes exactly where the log
+    /// would have more than 4,194,304 reports, and `Memory` where a growth was refused; both leave the log as it
+    /// was. Where nothing is new no memory is taken. The list is dropped.
+    pub fn add_all(&mut self, reports: Vec<Report, A>) -> Result<u32, LogFault>
+        ensures ok { OnOk result (self.new ≡ after (Many reports.items) self.old) }
         ensures count { IfOk result (λ n. n + length self.old ≡ length self.new) }
         ensures err { OnErr result (self.new ≡ self.old) }
-        ensures full { IfErr result (λ e. e ≡ LogFault.Full → 4194304 < length (in_order report_cmp (self.old ++ reports.now))) }
-        ensures nothing { length reports.now ≡ 0 → IsOk result }
+        ensures fault { IfErr result (λ e. IsUnionRefused e (in_order report_cmp (self.old ++ reports.items))) }
+        ensures nothing { in_order report_cmp (self.old ++ reports.items) ≡ self.old → IsOk result }
     {
-        let alloc = self.rows.allocator();
-        if reports.is_empty() {
+        let news = news_in(self.rows.allocator(), &self.rows, reports)?;
+        let new = news.len();
+        if new == 0 {
             return Ok(0);
         }
-        let sorted = set_of(alloc, reports)?;
-        if is_over(&self.rows, &sorted) {
-            return Err(LogFault::Full);
-        }
-        let news = news_of(alloc, &self.rows, &sorted)?;
-        take_in(&mut self.rows, &mut self.index, &mut self.disputed, &news)?;
-        Ok(news.len() as u32)
+        take_in(&mut self.rows, &mut self.index, &mut self.disputed, news)?;
+        Ok(new as u32)
     }
 }
 
 // The reports of a list in order, each once.
-fn set_of<A: Allocator + Copy>(alloc: A, reports: &[Report]) -> Result<Vec<Report, A>, AllocError>
-    ensures { IfOk result (λ set. set.items ≡ in_order report_cmp reports.now) }
+fn set_of<A: Allocator + Copy>(reports: Vec<Report, A>) -> Vec<Report, A>
+    ensures { result.items ≡ in_order report_cmp reports.items }
 {
-    let mut sorted = Vec::from_slice(alloc, reports)?;
-    sorted.sort_unstable();
-    sorted.dedup();
-    Ok(sorted)
+    let mut set = reports;
+    set.sort_unstable();
+    set.dedup();
+    set
+}
+
+// Those of a list that are not among the rows, unless both are too many together.
+fn news_in<A: Allocator + Copy>(
+    alloc: A,
+    rows: &Rows<Report, A>,
+    reports: Vec<Report, A>,
+) -> Result<Rows<Report, A>, LogFault>
+    ensures news { IfOk result (λ news. news.rows ≡ without_each report_cmp rows.now.rows (in_order report_cmp reports.items)) }
+    ensures few { OnOk result (length rows.now.rows + length (without_each report_cmp rows.now.rows (in_order report_cmp reports.items)) ≤ 4194304) }
+    ensures fault { IfErr result (λ e. IsRefusedBy e (length rows.now.rows + length (without_each report_cmp rows.now.rows (in_order report_cmp reports.items)))) }
+    ensures nothing { length (without_each report_cmp rows.now.rows (in_order report_cmp reports.items)) ≡ 0 → IsOk result }
+{
+    let set = set_of(reports);
+    if is_over(rows, &set) {
+        return Err(LogFault::Full);
+    }
+    let news = news_of(alloc, rows, &set)?;
+    Ok(news)
 }
 
 // How many of a list are not among the rows.
@@ -90,7 +107,8 @@ fn count_new<A: Allocator + Copy>(rows: &Rows<Report, A>, reports: &[Report]) ->
 
 // Whether the rows are too many together with those of a list that are not among them.
 fn is_over<A: Allocator + Copy>(rows: &Rows<Report, A>, reports: &[Report]) -> bool
-    ensures { result ≡ nat_lt 4194304 (length rows.now.rows + length (without_each report_cmp rows.now.rows reports.now)) }
+    ensures over { result ≡ nat_lt 4194304 (length rows.now.rows + length (without_each report_cmp rows.now.rows reports.now)) }
+    ensures nothing { length (without_each report_cmp rows.now.rows reports.now) ≡ 0 → result ≡ false }
 {
     let room = LIMIT - rows.len();
     reports.len() > room && count_new(rows, reports) > room
@@ -104,7 +122,8 @@ fn news_of<A: Allocator + Copy>(
 ) -> Result<Rows<Report, A>, AllocError>
     requires rises { IsStrictlySortedBy report_cmp set.now }
     requires few { length (without_each report_cmp rows.now.rows set.now) ≤ 4194304 }
-    ensures { IfOk result (λ news. news.rows ≡ without_each report_cmp rows.now.rows set.now) }
+    ensures news { IfOk result (λ news. news.rows ≡ without_each report_cmp rows.now.rows set.now) }
+    ensures nothing { length (without_each report_cmp rows.now.rows set.now) ≡ 0 → IsOk result }
 {
     let mut news = Rows::new(alloc);
     for report in set {
@@ -116,27 +135,44 @@ fn news_of<A: Allocator + Copy>(
     Ok(news)
 }
 
-// Puts reports that are new into a log's three parts.
+// What reports that are new add to a log's index and to its disputed identities.
+fn notes_of<A: Allocator + Copy>(
+    index: &Rows<ByIdentity, A>,
+    disputed: &Rows<Identity, A>,
+    news: &Rows<Report, A>,
+) -> Result<Notes<A>, AllocError>
+    requires few { length news.now.rows ≤ 4194304 }
+    ensures { IfOk result (λ n. (keys : List ByIdentity) × IsPermutation (map indexed news.now.rows) keys
+        × (n ≡ noted_all index.now.rows disputed.now.rows keys (record { fresh = []; twice = [] }))) }
+{
+    let keys = by_identity(news.allocator(), news)?;
+    note_all(news.allocator(), index, disputed, &keys)
+}
+
+// Puts reports that are new into a log's three parts. A log without reports takes them as they are.
 fn take_in<A: Allocator + Copy>(
     rows: &mut Rows<Report, A>,
     index: &mut Rows<ByIdentity, A>,
     disputed: &mut Rows<Identity, A>,
-    news: &Rows<Report, A>,
+    news: Rows<Report, A>,
 ) -> Result<(), AllocError>
     requires log { IsLog rows.old.rows index.old.rows disputed.old.rows }
-    requires rises { IsStrictlySortedBy report_cmp news.now.rows }
-    requires apart { AreApart report_cmp news.now.rows rows.old.rows }
-    requires few { length rows.old.rows + length news.now.rows ≤ 4194304 }
-    ensures ok { OnOk result (rows.new.rows ≡ put_each report_cmp news.now.rows rows.old.rows) }
+    requires rises { IsStrictlySortedBy report_cmp news.rows }
+    requires apart { AreApart report_cmp news.rows rows.old.rows }
+    requires few { length rows.old.rows + length news.rows ≤ 4194304 }
+    ensures ok { OnOk result (rows.new.rows ≡ put_each report_cmp news.rows rows.old.rows) }
     ensures err { OnErr result (rows.new.rows ≡ rows.old.rows) }
     ensures log { IsLog rows.new.rows index.new.rows disputed.new.rows }
 {
-    let alloc = news.allocator();
-    let keys = by_identity(alloc, news)?;
-    let notes = note_all(alloc, index, disputed, &keys)?;
-    rows.put_all(news)?;
-    if let Err(refused) = put_notes(index, disputed, &notes) {
-        rows.withdraw_all(news);
+    let notes = notes_of(index, disputed, &news)?;
+    if rows.len() == 0 {
+        put_notes(index, disputed, notes)?;
+        *rows = news;
+        return Ok(());
+    }
+    rows.put_all(&news)?;
+    if let Err(refused) = put_notes(index, disputed, notes) {
+        rows.withdraw_all(&news);
         return Err(refused);
     }
     Ok(())
@@ -146,20 +182,21 @@ fn take_in<A: Allocator + Copy>(
 fn put_notes<A: Allocator + Copy>(
     index: &mut Rows<ByIdentity, A>,
     disputed: &mut Rows<Identity, A>,
-    notes: &Notes<A>,
+    notes: Notes<A>,
 ) -> Result<(), AllocError>
-    requires apart { AreApart index_cmp notes.now.fresh index.old.rows }
-    requires few { length index.old.rows + length notes.now.fresh ≤ 4194304 }
-    requires apart_disputed { AreApart identity_cmp notes.now.twice disputed.old.rows }
-    requires few_disputed { length disputed.old.rows + length notes.now.twice ≤ 4194304 }
-    ensures index { OnOk result (index.new.rows ≡ put_each index_cmp notes.now.fresh index.old.rows) }
-    ensures disputed { OnOk result (disputed.new.rows ≡ put_each identity_cmp notes.now.twice disputed.old.rows) }
+    requires apart { AreApart index_cmp notes.fresh index.old.rows }
+    requires few { length index.old.rows + length notes.fresh ≤ 4194304 }
+    requires apart_disputed { AreApart identity_cmp notes.twice disputed.old.rows }
+    requires few_disputed { length disputed.old.rows + length notes.twice ≤ 4194304 }
+    ensures index { OnOk result (index.new.rows ≡ put_each index_cmp notes.fresh index.old.rows) }
+    ensures disputed { OnOk result (disputed.new.rows ≡ put_each identity_cmp notes.twice disputed.old.rows) }
     ensures err { OnErr result (index.new.rows ≡ index.old.rows) }
     ensures err_disputed { OnErr result (disputed.new.rows ≡ disputed.old.rows) }
 {
-    index.put_all(&notes.fresh)?;
-    if let Err(refused) = disputed.put_all(&notes.twice) {
-        index.withdraw_all(&notes.fresh);
+    let Notes { fresh, twice } = notes;
+    disputed.put_all(&twice)?;
+    if let Err(refused) = index.take_all(fresh) {
+        disputed.withdraw_all(&twice);
         return Err(refused);
     }
     Ok(())

@@ -1,3 +1,4 @@
+//! One meter of the three kinds.
 use crate::colour::Colour;
 use crate::levels::Levels;
 use crate::meter::Meter;

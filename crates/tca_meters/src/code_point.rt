@@ -1,3 +1,4 @@
+//! The colour that a code point gives a packet before it is metered (RFC 2597).
 ghost use Rattle.std.specs.Prelude.{◌≡◌};
 ghost use Rattle.tca_meters.specs.CodePoints.{precolour};
 

@@ -1,3 +1,9 @@
+//! The three colours and their order.
+ghost use Rattle.std.specs.Prelude.{◌≡◌, ◌<◌};
+ghost use Rattle.std.specs.Ordering.{nat_cmp};
+ghost use Rattle.tca_meters.specs.Colours.{colour_number};
+ghost use Rattle.tca_meters.specs.declared.colour.Colour.{Colour};
+
 /// The colour of a packet, from better to worse.
 #[derive(Clone, Copy, Debug, PartialEq, Eq, PartialOrd, Ord)]
 pub enum Colour {
@@ -7,9 +13,6 @@ pub enum Colour {
 }
 
 impl Colour {
-    ghost use Rattle.std.specs.Prelude.{◌≡◌, ◌<◌};
-    ghost use Rattle.tca_meters.specs.Colours.{colour_number};
-
     /// 0, 1 and 2 for green, yellow and red: the place of a colour's sums in an array.
     pub fn number(self) -> usize
         ensures number { result ≡ colour_number self }
@@ -22,3 +25,8 @@ impl Colour {
         }
     }
 }
+
+/// The law of the order of colours: green before yellow before red, from better to worse.
+pub fn colours_worsen()
+    ensures { (a b : Colour) → ⟦<Colour as Ord>⟧.cmp a b ≡ nat_cmp (colour_number a) (colour_number b) }
+{}

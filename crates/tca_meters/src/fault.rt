@@ -1,3 +1,4 @@
+//! Why parameters make no meter, and the range of rates and sizes.
 ghost use Rattle.std.specs.Prelude.{◌≡◌};
 ghost use Rattle.tca_meters.specs.Faults.{fault_number, in_range};
 

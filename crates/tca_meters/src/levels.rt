@@ -1,3 +1,4 @@
+//! A meter's state: the levels of its two buckets.
 ghost use Rattle.std.specs.Prelude.{◌≡◌};
 ghost use Rattle.tca_meters.specs.Levels.{full_levels, filled_apart, committed_or_excess};
 

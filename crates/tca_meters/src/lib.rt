@@ -22,7 +22,7 @@ mod trtcm;
 
 pub use any_meter::AnyMeter;
 pub use code_point::precolour;
-pub use colour::Colour;
+pub use colour::{Colour, colours_worsen};
 pub use fault::MeterFault;
 pub use levels::Levels;
 pub use meter::Meter;

@@ -1,3 +1,4 @@
+//! What a meter is: the trait and its laws.
 ghost use Rattle.std.specs.Prelude.{◌≡◌, ◌<◌, ◌≤◌, ◌^◌, Bool};
 ghost use Rattle.tca_meters.specs.Packets.{Rule};
 ghost use Rattle.tca_meters.specs.Laws.{IsAdditive, KeepsSizes, NeverBetters, IgnoresPrecolours, RedKeeps};

@@ -1,3 +1,4 @@
+//! The meter of RFC 4115.
 ghost use Rattle.std.specs.Prelude.{◌≡◌};
 ghost use Rattle.tca_meters.specs.Rfc4115.{IsExcessRate, excess_rate};
 

@@ -1,3 +1,4 @@
+//! The meter of RFC 2697.
 ghost use Rattle.std.specs.Prelude.{◌≡◌};
 ghost use Rattle.tca_meters.specs.SrTcm.{IsSingleRate, single_rate};
 

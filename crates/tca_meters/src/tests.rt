@@ -1,3 +1,4 @@
+//! Meters on packets whose colours are known.
 mod slow;
 mod specs;
 
@@ -211,6 +212,7 @@ fn faults_say_why(rt: HostRuntime) -> Result<(), Fail> {
     ];
     assert_eq!(rt; numbers, [0, 1, 2]);
     assert!(rt; Colour::Green < Colour::Yellow && Colour::Yellow < Colour::Red);
+    colours_worsen();
     Ok(())
 }
 

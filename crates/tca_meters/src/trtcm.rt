@@ -1,3 +1,4 @@
+//! The meter of RFC 2698.
 ghost use Rattle.std.specs.Prelude.{◌≡◌};
 ghost use Rattle.tca_meters.specs.TrTcm.{IsPeakRate, peak_rate};
 

@@ -1,11 +1,11 @@
 -- Reading a capture piece by piece.
-use Rattle.std.proofs.Common.{◌≡◌, ℕ, ◌+◌, ◌≤◌, List, [], ◌∷◌, ◌++◌, length, Some, None, Result, Ok, Err, refl, sym, ap, ap₂, subst, ◌∙◌, arith}
+use Rattle.std.proofs.Common.{◌≡◌, ◌≢◌, ℕ, ◌+◌, ◌≤◌, List, [], ◌∷◌, ◌++◌, length, Some, None, Result, Ok, Err, refl, sym, ap, ap₂, subst, ◌∙◌, arith}
 use Rattle.std.specs.List.{concat}
 use Rattle.std.proofs.lemmas.List.{length-append}
 use Rattle.std.proofs.lemmas.List.Folds.{concat-append}
 use Rattle.tca_wire.specs.Frames.{Framing, Holds, Failed, Feeds, IsStream, fault_of, ending}
 use Rattle.tca_wire.specs.declared.fault.WireFault.{WireFault}
-use Rattle.tca_wire.specs.declared.fault.WireFault.TheVariants.{Short}
+use Rattle.tca_wire.specs.declared.fault.WireFault.TheVariants.{Short, Memory}
 use Rattle.tca_wire.proofs.Framings.{joined}
 use Rattle.tca_report.specs.Reports.{PacketReport}
 use Rattle.tca_report.specs.Inputs.{Heard, nothing, all_heard, ended, capture_of}
@@ -71,6 +71,16 @@ ends_well at (b ∷ bs) h e = absurd cc
 ends_badly : (at : ℕ) (held : List ℕ) (h : Heard) (fault : WireFault) → ending (Holds held) ≡ Err fault → ended at (Holds held) h ≡ Err (Wire at fault)
 ends_badly at [] h fault e = absurd cc
 ends_badly at (b ∷ bs) h fault e = let same : Short ≡ fault = cc in ap (λ (f : WireFault). Err (Wire at f)) same
+
+cut_alone : (held : List ℕ) (fault : WireFault) → ending (Holds held) ≡ Err fault → fault ≡ Short
+cut_alone [] fault e = absurd cc
+cut_alone (b ∷ bs) fault e = cc
+
+-- a capture's end takes no memory
+pub no_memory_at_end : (octets : List ℕ) (framer : Framing) (p : Progress) (fault : WireFault) → HasRead octets framer p → ending framer ≡ Err fault → fault ≢ Memory
+no_memory_at_end octets framer p fault r e =
+    let cut = cut_alone r.held fault (ap ending (sym r.holds) ∙ e) in
+    λ m. cc
 
 -- a capture that ends behind a message
 pub all_said : (octets : List ℕ) (framer : Framing) (p : Progress) → HasRead octets framer p → ending framer ≡ Ok tt → said (capture_of octets) ≡ Ok (p.reports.items, p.notes)

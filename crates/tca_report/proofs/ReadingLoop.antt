@@ -2,6 +2,7 @@
 use Rattle.std.proofs.Common.{◌≡◌, ℕ, suc, ◌-◌, ◌+◌, ◌≤◌, ◌<◌, true, false, cond, List, [], ◌∷◌, ◌++◌, Option, Some, None, Result, Ok, Err, refl, sym, ap, ◌∙◌, append_assoc, arith, length, drop}
 use Rattle.std.proofs.lemmas.List.{length-drop}
 use Rattle.std.proofs.lemmas.List.{append-nil}
+use Rattle.std.specs.Prelude.{IsOkAnd}
 use Rattle.tca_report.specs.declared.export.ExportFault.{ExportFault}
 use Rattle.tca_report.specs.declared.export.ExportFault.TheVariants.{Range, Order}
 use Rattle.tca_report.specs.Reports.{PacketReport, in_range, ranged}
@@ -11,6 +12,15 @@ use Rattle.tca_report.specs.ExportReading.{record_at, above, with_first, records
 abbrev pub with_front : List PacketReport → Result (List PacketReport) ExportFault → Result (List PacketReport) ExportFault
 with_front front (Ok rs) = Ok (front ++ rs)
 with_front front (Err e) = Err e
+
+-- nothing was read before
+pub none_before : (read : Result (List PacketReport) ExportFault) → with_front [] read ≡ read
+none_before (Ok rs) = refl
+none_before (Err e) = refl
+
+-- a whole list has so many reports
+pub counted_whole : (front : List PacketReport) (count : ℕ) (read : Result (List PacketReport) ExportFault) → read ≡ Ok front → length front ≡ count → IsOkAnd read (λ rs. length rs ≡ count)
+counted_whole front count read e n = rw e n
 
 regroup : (front : List PacketReport) (r : PacketReport) (read : Result (List PacketReport) ExportFault) → with_front front (with_first r read) ≡ with_front (front ++ r ∷ []) read
 regroup front r (Ok rs) = ap (λ (l : List PacketReport). Ok l) (sym (append_assoc front (r ∷ []) rs))

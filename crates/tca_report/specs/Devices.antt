@@ -2,7 +2,7 @@
 use Rattle.std.specs.Prelude.{◌≡◌, ◌⊎◌, ◌≤◌, ◌+◌, ◌-◌, ◌^◌, ℕ, List, length, Option, Result, Ok, Err}
 use Rattle.std.specs.Io.KnownBytes.{Consumes}
 
--- the count at which each call fails
+-- the highest count of failed calls, at which each call fails
 abbrev pub most_failures : ℕ
 most_failures = 2 ^ 64 - 1
 

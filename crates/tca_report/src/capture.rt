@@ -1,5 +1,5 @@
 //! Captures: messages one after the other, as a file of RFC 5655 has them.
-ghost use Rattle.std.specs.Prelude.{◌≡◌, ◌≢◌, ◌<◌, ◌≤◌, ◌+◌, ◌^◌, ◌++◌, ◌∷◌, [], List, ℕ, length, map, OnOk, IfErr, Err};
+ghost use Rattle.std.specs.Prelude.{◌≡◌, ◌≢◌, ◌<◌, ◌≤◌, ◌+◌, ◌^◌, ◌++◌, ◌∷◌, [], List, ℕ, length, map, OnOk, IfErr, IsErrOf, Err};
 ghost use Rattle.std.specs.List.{concat};
 ghost use Rattle.tca_wire.specs.Walks.{Gives};
 ghost use Rattle.tca_wire.specs.Frames.{octets_of, Holds};
@@ -197,6 +197,7 @@ impl Progress {
 /// Reads a capture piece by piece.
 pub(crate) fn read_capture(alloc: Global, octets: &[u8]) -> Result<Gathered, InputFault>
     ensures exact { Gives InputFault.Memory gathered result (said (capture_of octets.now)) }
+    ensures memory { IsErrOf result InputFault.Memory → 0 < length octets.now }
 {
     let mut progress = Progress::new(alloc);
     let mut framer = Framer::new(alloc);

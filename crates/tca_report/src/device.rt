@@ -1,7 +1,7 @@
 //! What octets come from and go to, with a count of the calls that failed.
-ghost use Rattle.std.specs.Prelude.{◌≡◌, ◌<◌, ◌≤◌, ℕ, List, Option, IfOk, length};
+ghost use Rattle.std.specs.Prelude.{◌≡◌, ◌<◌, ◌≤◌, ℕ, List, Option, IfOk, OnOk, length};
 ghost use Rattle.std.specs.Io.KnownBytes.{ReadConsumes, WriteAppends};
-ghost use Rattle.tca_report.specs.Devices.{CountsFailure, Hosted};
+ghost use Rattle.tca_report.specs.Devices.{CountsFailure, Hosted, most_failures};
 
 use std::io;
 use std::marker::Model;
@@ -19,7 +19,8 @@ pub trait Read {
     fn read(&mut self, into: &mut [u8]) -> io::Result<usize>
         ensures bound { IfOk result (λ n. n ≤ length into.new) }
         ensures octets { ReadConsumes (left self.old) (left self.new) result into.new }
-        ensures count { CountsFailure result (failures self.old) (failures self.new) };
+        ensures count { CountsFailure result (failures self.old) (failures self.new) }
+        ensures alive { OnOk result (failures self.old < most_failures) };
 }
 
 /// What octets go to: std's `write`, with a count of the calls that failed.
@@ -36,7 +37,8 @@ pub trait Write {
         ensures some { IfOk result (λ n. 0 < n) }
         ensures bound { IfOk result (λ n. n ≤ length octets.now) }
         ensures octets { WriteAppends (written self.old) (written self.new) result octets.now }
-        ensures count { CountsFailure result (failures self.old) (failures self.new) };
+        ensures count { CountsFailure result (failures self.old) (failures self.new) }
+        ensures alive { OnOk result (failures self.old < most_failures) };
 }
 
 /// A reader or a writer of std, with the count of its failures. A call of the device that fails is

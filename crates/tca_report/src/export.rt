@@ -4,7 +4,6 @@ ghost use Rattle.tca_report.specs.Export.{IsExportable, export};
 ghost use Rattle.tca_report.specs.FaultNumbers.{export_number};
 ghost use Rattle.tca_report.specs.Reports.{PacketReport};
 
-use std::alloc::AllocError;
 use thiserror::Error;
 
 /// How many reports one export may have.
@@ -50,17 +49,6 @@ impl ExportFault {
             ExportFault::Order { .. } => 6,
             ExportFault::Memory => 7,
         }
-    }
-}
-
-impl From<AllocError> for ExportFault {
-    ghost use Rattle.std.specs.Prelude.{◌≡◌};
-    ghost use Rattle.tca_report.specs.declared.export.ExportFault.TheVariants.{Memory};
-
-    ghost from_gives = { λ _ e. e ≡ Memory };
-
-    fn from(_e: AllocError) -> ExportFault {
-        ExportFault::Memory
     }
 }
 

@@ -103,6 +103,31 @@ fn read_records(count: u32, octets: &[u8], into: &mut Vec<Report>) -> Result<(),
     Ok(())
 }
 
+/// The first fault among so many records, or want of memory where they have none. It takes no
+/// memory, and is asked only where memory lacks.
+#[cold]
+fn refused(count: u32, octets: &[u8]) -> ExportFault
+    requires whole { 25 * count ≤ length octets.now }
+    ensures fault { result ≢ Memory → records_at count 0 None octets.now ≡ Err result }
+    ensures memory { result ≡ Memory → IsOkAnd (records_at count 0 None octets.now) (λ rs. length rs ≡ count) }
+{
+    let mut last: Option<Report> = None;
+    let mut rest = octets;
+    for n in 0..count {
+        let (found, after) = report_at(rest);
+        let Some(report) = found else {
+            return ExportFault::Range { n };
+        };
+        let rises = follows(last, &report);
+        if !rises {
+            return ExportFault::Order { n };
+        }
+        last = Some(report);
+        rest = after;
+    }
+    ExportFault::Memory
+}
+
 /// How many reports follow the header, or the first thing that is wrong before them.
 #[tactic(auto, unfolding(crate::specs::ExportReading::count_of))]
 fn header_count(octets: &[u8]) -> Result<u32, ExportFault>
@@ -140,11 +165,14 @@ fn header_count(octets: &[u8]) -> Result<u32, ExportFault>
 /// The reports of an export, or its first fault.
 fn read_whole(alloc: Global, octets: &[u8]) -> Result<Vec<Report>, ExportFault>
     ensures exact { Gives (λ v. v.items) result (reading octets.now) }
-    ensures memory { IsErrOf result Memory → IsOkAnd (count_of octets.now) (λ n. 0 < n) }
+    ensures memory { IsErrOf result Memory → IsOkAnd (reading octets.now) (λ rs. 0 < length rs) }
 {
     let count = header_count(octets)?;
-    let mut reports = Vec::with_capacity(alloc, count as usize)?;
-    read_records(count, &octets[10..], &mut reports)?;
+    let records = &octets[10..];
+    let Ok(mut reports) = Vec::with_capacity(alloc, count as usize) else {
+        return Err(refused(count, records));
+    };
+    read_records(count, records, &mut reports)?;
     Ok(reports)
 }
 
@@ -152,16 +180,16 @@ fn read_whole(alloc: Global, octets: &[u8]) -> Result<Vec<Report>, ExportFault>
 ///
 /// The first fault from the left is answered, in this order: fewer than 4 octets `Cut`; `Magic`;
 /// fewer than 10 octets `Cut`; `Version`; more than 4,194,304 reports `Count`; fewer octets than
-/// the count needs `Cut`; more `Count`; then `Memory` for the list; then report by report `Range`
-/// and `Order`.
+/// the count needs `Cut`; more `Count`; then report by report `Range` and `Order`; and last
+/// `Memory` for the list.
 pub fn read_export(alloc: Global, octets: &[u8]) -> Result<Vec<Report>, ExportFault>
     ensures found { IfOk result (λ v. IsExportable v.items × (octets.now ≡ export v.items)) }
     ensures only { (rs : List PacketReport) → IsExportable rs → octets.now ≡ export rs
         → MatchResult result (λ v. v.items ≡ rs) (λ e. e ≡ Memory) }
     ensures exact { Gives (λ v. v.items) result (reading octets.now) }
 
-    // Memory is wanted once, for the whole list, where it isn't empty.
-    ensures memory { IsErrOf result Memory → IsOkAnd (count_of octets.now) (λ n. 0 < n) }
+    // Memory is wanted for the whole list alone, where it isn't empty and has no fault.
+    ensures memory { IsErrOf result Memory → IsOkAnd (reading octets.now) (λ rs. 0 < length rs) }
 {
     read_whole(alloc, octets)
 }

@@ -196,9 +196,8 @@ fn read_section(value: &[u8]) -> Option<(u32, u8)>
     }
     if value[0] / 16 == 6 && value.len() >= 6 {
         let octets = 40 + u32::from(BigEndian::read_u16(&value[4..]));
-        let class = (u32::from(value[0]) * 256 + u32::from(value[1])) / 64
-            - u32::from(value[0]) / 16 * 64;
-        return Some((octets, class as u8));
+        let class = BigEndian::read_u16(value) / 16 % 256;
+        return Some((octets, (class / 4) as u8));
     }
     None
 }

@@ -1,5 +1,5 @@
 //! Inputs: log exports and captures.
-ghost use Rattle.std.specs.Prelude.{◌≡◌};
+ghost use Rattle.std.specs.Prelude.{◌≡◌, ◌<◌, ◌≤◌, IsErrOf, IsTrue, length};
 ghost use Rattle.tca_wire.specs.Walks.{Gives};
 ghost use Rattle.tca_report.specs.FaultNumbers.{input_number};
 ghost use Rattle.tca_report.specs.Inputs.{input_of, is_export, nothing};
@@ -92,7 +92,8 @@ impl Notes {
 
 /// Whether the first four octets are `TCAX`.
 fn has_magic(octets: &[u8]) -> bool
-    ensures { result ≡ is_export octets.now }
+    ensures exact { result ≡ is_export octets.now }
+    ensures long { IsTrue result → 4 ≤ length octets.now }
 {
     octets.len() >= 4
         && octets[0] == b'T'
@@ -112,6 +113,9 @@ fn has_magic(octets: &[u8]) -> bool
 /// capture without messages.
 pub fn gather(alloc: Global, octets: &[u8]) -> Result<Gathered, InputFault>
     ensures exact { Gives InputFault.Memory gathered result (said (input_of octets.now)) }
+
+    // An input without octets takes no memory.
+    ensures memory { IsErrOf result InputFault.Memory → 0 < length octets.now }
 {
     if !has_magic(octets) {
         return read_capture(alloc, octets);

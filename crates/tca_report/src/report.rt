@@ -3,6 +3,8 @@ ghost use Rattle.std.specs.Prelude.{◌≡◌};
 ghost use Rattle.std.specs.Cmp.{IsTotalOrder};
 ghost use Rattle.std.specs.declared.cmp.Ordering.TheVariants.{Equal};
 ghost use Rattle.tca_report.specs.Reports.{PacketReport, InRange, reported, ranged, report_cmp};
+ghost use Rattle.tca_report.specs.Identities.{identity_cmp};
+ghost use Rattle.tca_report.specs.declared.report.Identity.{Identity};
 
 use std::marker::Model;
 
@@ -15,7 +17,7 @@ pub struct Identity {
 }
 
 /// What a report tells of its packet.
-#[derive(Clone, Copy, Debug, PartialEq, Eq, PartialOrd, Ord)]
+#[derive(Clone, Copy, Debug, PartialEq, Eq)]
 pub struct Content {
     /// Milliseconds from 1970 UTC, below 2^48.
     pub time: u64,
@@ -98,8 +100,11 @@ impl Report {
     }
 }
 
-/// The law of the order: it is total, and only equal reports tie.
+/// The law of the order: `cmp` of reports and that of identities are the orders of the definitions,
+/// and that of reports is total, and only equal reports tie.
 pub fn order_is_total()
+    ensures reports { (a b : PacketReport) → ⟦<Report as Ord>⟧.cmp a b ≡ report_cmp a b }
+    ensures identities { (a b : Identity) → ⟦<Identity as Ord>⟧.cmp a b ≡ identity_cmp a b }
     ensures total { IsTotalOrder report_cmp }
     ensures exact { (a b : PacketReport) → report_cmp a b ≡ Equal → a ≡ b }
 {}

@@ -1,6 +1,7 @@
 -- The steps of reading a template set.
-use Rattle.std.proofs.Common.{◌≡◌, ℕ, ◌+◌, ◌<◌, ◌≤◌, Bool, true, false, cond, List, [], length, drop, Result, Ok, Err, refl, ap, ◌∙◌, arith, inl, inr}
+use Rattle.std.proofs.Common.{◌≡◌, ℕ, ◌+◌, ◌<◌, ◌≤◌, Bool, true, false, cond, List, [], length, drop, Result, Ok, Err, refl, sym, ap, subst, ◌∙◌, arith, inl, inr}
 use Rattle.std.specs.Prelude.{nat_lt, ◌==◌, ◌&&◌, ◌||◌}
+use Rattle.std.specs.Result.{IsOk}
 use Rattle.std.proofs.lemmas.Bool.Decides.{nat_tests}
 use Rattle.std.proofs.lemmas.List.{length-drop}
 use Rattle.byteorder.specs.Endian.{big_number}
@@ -11,6 +12,7 @@ use Rattle.tca_templates.specs.declared.fault.DecodeFault.{DecodeFault}
 use Rattle.tca_templates.specs.declared.fault.DecodeFault.TheVariants.{TemplateId, TemplateCut, Scope, EmptyTemplate, TooMany}
 use Rattle.tca_templates.specs.Templates.{Templates, shortest_of}
 use Rattle.tca_templates.specs.Specifiers.{ChangeView, AllGone, Gone, New, set_id, head_of, specs_on, defined, behind_head, change_at, changed, onward, after_change, template_front}
+use Rattle.tca_templates.specs.Fields.{IsSound}
 use Rattle.tca_templates.proofs.Choices.{chosen, refused, same_ok}
 use Rattle.tca_templates.proofs.Specs.{specs_told}
 
@@ -83,12 +85,21 @@ module _ (domain : ℕ) (options : Bool) where
       let l : nat_lt (length octets) 4 ≡ true = grind (arith, nat_tests) in
       walk_ends (template_front domain options) change_advances ts at octets (ap (λ b. cond b Ends (after_change domain options ts (change_at options at octets))) l)
 
-  front_more : (ts : Templates) (at : ℕ) (octets : List ℕ) (r : Result (ChangeView × ℕ) DecodeFault) → 4 ≤ length octets → change_at options at octets ≡ r
+  pub front_more : (ts : Templates) (at : ℕ) (octets : List ℕ) (r : Result (ChangeView × ℕ) DecodeFault) → 4 ≤ length octets → change_at options at octets ≡ r
       → template_front domain options ts at octets ≡ after_change domain options ts r
   unfolding template_front
   front_more ts at octets r le e =
       let l : nat_lt (length octets) 4 ≡ false = grind (arith, nat_tests) in
       ap (λ b. cond b Ends (after_change domain options ts (change_at options at octets))) l ∙ ap (after_change domain options ts) e
+
+  pub front_sound : (ts : Templates) (at : ℕ) (octets : List ℕ) (x : ChangeView × ℕ) → 4 ≤ length octets → change_at options at octets ≡ Ok x
+      → IsOk (changed domain options ts x.0) → IsSound (template_front domain options ts at octets)
+  front_sound ts at octets x le e ok =
+      subst (λ f. IsSound f) (sym (front_more ts at octets (Ok x) le e)) (onward_sound (changed domain options ts x.0) ok)
+    where
+      onward_sound : (r : Result Templates DecodeFault) → IsOk r → IsSound (onward x.1 r)
+      onward_sound (Ok us) ok = tt
+      onward_sound (Err f) ok = absurd cc
 
   pub changes_bad : (ts : Templates) (at : ℕ) (octets : List ℕ) (f : DecodeFault) → 4 ≤ length octets → change_at options at octets ≡ Err f
       → walk (template_front domain options) ts at octets ≡ Err f

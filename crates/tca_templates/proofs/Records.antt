@@ -1,9 +1,9 @@
 -- The steps of reading the records of a data set.
-use Rattle.std.proofs.Common.{◌≡◌, ℕ, zero, suc, ◌+◌, ◌-◌, ◌%◌, ◌^◌, ◌<◌, ◌≤◌, Bool, true, false, cond, List, [], ◌∷◌, ◌++◌, length, take, drop, map, Option, Some, None, Ok, Err, refl, sym, ap, ap₂, ◌∙◌, arith, append_assoc}
+use Rattle.std.proofs.Common.{◌≡◌, ◌≢◌, ℕ, zero, suc, ◌+◌, ◌-◌, ◌%◌, ◌^◌, ◌<◌, ◌≤◌, Bool, true, false, cond, List, [], ◌∷◌, ◌++◌, length, take, drop, map, Option, Some, None, Ok, Err, refl, sym, ap, ap₂, subst, ◌∙◌, arith, append_assoc}
 use Rattle.std.specs.Prelude.{nat_lt}
 use Rattle.std.proofs.lemmas.Bool.Decides.{nat_tests}
 use Rattle.std.proofs.lemmas.List.{length-drop, length-append, append-nil}
-use Rattle.tca_wire.specs.Walks.{Ends, Next, walk, Advances}
+use Rattle.tca_wire.specs.Walks.{Ends, Bad, Next, walk, Advances}
 use Rattle.tca_wire.specs.declared.message.Header.{Header}
 use Rattle.tca_wire.proofs.Walking.{walk_next, walk_ends, walk_bad}
 use Rattle.tca_templates.specs.declared.template.FieldSpec.{FieldSpec}
@@ -12,7 +12,7 @@ use Rattle.tca_templates.specs.declared.fault.DecodeFault.TheVariants.{RecordCut
 use Rattle.tca_templates.specs.declared.record.Row.{Row}
 use Rattle.tca_templates.specs.Templates.{TemplateView, shortest_of}
 use Rattle.tca_templates.specs.Records.{FieldView, PlacedView, field_at, fields_on, placed, after_record, data_front}
-use Rattle.tca_templates.specs.Fields.{records_of, counted, fields_given}
+use Rattle.tca_templates.specs.Fields.{records_of, counted, fields_given, IsSound}
 use Rattle.tca_templates.proofs.Choices.{same_some}
 use Rattle.tca_templates.proofs.Fields.{field_of, fields_next, fields_cut, fields_done, fields_told}
 
@@ -67,6 +67,13 @@ no_fields front specs octets e =
     go None e = refl
     go (Some x) e = absurd cc
 
+pub still_cut : (front : List FieldView) (specs : List FieldSpec) (octets : List ℕ) → fields_on [] 0 specs octets ≡ None → fields_on front 0 specs octets ≡ None
+still_cut front specs octets e =
+    ap (λ (l : List FieldView). fields_on l 0 specs octets) (sym (append-nil front)) ∙ behind front [] 0 specs octets ∙ ap (in_front front) e
+
+pub not_cut : (front : List FieldView) (specs : List FieldSpec) (octets : List ℕ) (x : List FieldView × ℕ) → fields_on front 0 specs octets ≡ Some x → fields_on [] 0 specs octets ≢ None
+not_cut front specs octets x e none = let bad : Some x ≡ None = sym e ∙ still_cut front specs octets none in absurd cc
+
 -- one more record, whose fields stand behind those of the others
 pub records_more : (domain : ℕ) (rows : List Row) (front own : List FieldView) (r : Row) → counted rows ≡ length front → r.count ≡ length own
     → records_of domain (front ++ own) (rows ++ r ∷ []) ≡ records_of domain front rows ++ record { domain = domain; place = r.place; options = r.options; fields = own } ∷ []
@@ -102,7 +109,48 @@ pub length_records : (domain : ℕ) (fields : List FieldView) (rows : List Row) 
 length_records domain fields [] = refl
 length_records domain fields (r ∷ rs) = ap suc (length_records domain (drop r.count fields) rs)
 
--- the front of a data set
+-- the record at the front of a data set
+module _ (h : Header) (t : TemplateView) where
+  pub front_bad : (records : List PlacedView) (at : ℕ) (octets : List ℕ) → shortest_of t.specs ≤ length octets → fields_on [] 0 t.specs octets ≡ None
+      → data_front h t records at octets ≡ Bad (RecordCut at)
+  unfolding data_front
+  front_bad records at octets le e =
+      let l : nat_lt (length octets) (shortest_of t.specs) ≡ false = grind (arith, nat_tests) in
+      ap (λ b. cond b Ends (after_record h t.options records at (fields_on [] 0 t.specs octets))) l ∙ ap (after_record h t.options records at) e
+
+  pub front_next : (records : List PlacedView) (at : ℕ) (octets : List ℕ) (own : List FieldView) (n : ℕ) → shortest_of t.specs ≤ length octets → fields_on [] 0 t.specs octets ≡ Some (own, n)
+      → data_front h t records at octets ≡ Next (records ++ placed h t.options records own ∷ []) n
+  unfolding data_front
+  front_next records at octets own n le e =
+      let l : nat_lt (length octets) (shortest_of t.specs) ≡ false = grind (arith, nat_tests) in
+      ap (λ b. cond b Ends (after_record h t.options records at (fields_on [] 0 t.specs octets))) l ∙ ap (after_record h t.options records at) e
+
+  pub front_sound : (records : List PlacedView) (at : ℕ) (octets : List ℕ) → shortest_of t.specs ≤ length octets → fields_on [] 0 t.specs octets ≢ None
+      → IsSound (data_front h t records at octets)
+  front_sound records at octets le whole = go (fields_on [] 0 t.specs octets) refl
+    where
+      go : (o : Option (List FieldView × ℕ)) → fields_on [] 0 t.specs octets ≡ o → IsSound (data_front h t records at octets)
+      go None e = absurd (whole e)
+      go (Some x) e = subst (λ f. IsSound f) (sym (front_next records at octets x.0 x.1 le e)) tt
+
+  pub record_step : (rows : List Row) (front all : List FieldView) (n at : ℕ) (octets : List ℕ) (r : Row)
+      → counted rows ≡ length front → fields_on front 0 t.specs octets ≡ Some (all, n) → shortest_of t.specs ≤ length octets
+      → r.place ≡ (h.sequence + length rows) % 2 ^ 32 → r.options ≡ t.options → r.count ≡ length all - length front
+      → data_front h t (records_of h.domain front rows) at octets ≡ Next (records_of h.domain all (rows ++ r ∷ [])) n
+  record_step rows front all n at octets r count e le place options own_count =
+      let o = own_fields front t.specs octets all n e in
+      let l : length all ≡ length front + length o.own = ap length o.all ∙ length-append front o.own in
+      let k : r.count ≡ length o.own = omega arith in
+      let records = records_of h.domain front rows in
+      let p : (h.sequence + length records) % 2 ^ 32 ≡ r.place = ap (λ m. (h.sequence + m) % 2 ^ 32) (length_records h.domain front rows) ∙ sym place in
+      let same : placed h t.options records o.own ≡ record { domain = h.domain; place = r.place; options = r.options; fields = o.own } =
+      ap₂ (λ (m : ℕ) (b : Bool). record { domain = h.domain; place = m; options = b; fields = o.own }) p (sym options) in
+      let whole : records ++ placed h t.options records o.own ∷ [] ≡ records_of h.domain all (rows ++ r ∷ []) =
+      ap (λ (q : PlacedView). records ++ q ∷ []) same ∙ sym (records_more h.domain rows front o.own r count k)
+      ∙ ap (λ (fs : List FieldView). records_of h.domain fs (rows ++ r ∷ [])) (sym o.all) in
+      front_next records at octets o.own n le o.is ∙ ap (λ (rs : List PlacedView). Next rs n) whole
+
+-- going over the records of a data set
 module _ (h : Header) (t : TemplateView) (some : 0 < shortest_of t.specs) where
   pub data_advances : Advances (data_front h t)
   unfolding data_front
@@ -125,39 +173,12 @@ module _ (h : Header) (t : TemplateView) (some : 0 < shortest_of t.specs) where
 
   pub data_bad : (records : List PlacedView) (at : ℕ) (octets : List ℕ) → shortest_of t.specs ≤ length octets → fields_on [] 0 t.specs octets ≡ None
       → walk (data_front h t) records at octets ≡ Err (RecordCut at)
-  unfolding data_front
-  data_bad records at octets le e =
-      let l : nat_lt (length octets) (shortest_of t.specs) ≡ false = grind (arith, nat_tests) in
-      walk_bad (data_front h t) data_advances records at octets (RecordCut at)
-      (ap (λ b. cond b Ends (after_record h t.options records at (fields_on [] 0 t.specs octets))) l ∙ ap (after_record h t.options records at) e)
+  data_bad records at octets le e = walk_bad (data_front h t) data_advances records at octets (RecordCut at) (front_bad h t records at octets le e)
 
   pub data_next : (records : List PlacedView) (at : ℕ) (octets : List ℕ) (own : List FieldView) (n : ℕ) → shortest_of t.specs ≤ length octets → fields_on [] 0 t.specs octets ≡ Some (own, n)
       → walk (data_front h t) records at octets ≡ walk (data_front h t) (records ++ placed h t.options records own ∷ []) (at + n) (drop n octets)
-  unfolding data_front
   data_next records at octets own n le e =
-      let l : nat_lt (length octets) (shortest_of t.specs) ≡ false = grind (arith, nat_tests) in
-      walk_next (data_front h t) data_advances records (records ++ placed h t.options records own ∷ []) at n octets
-      (ap (λ b. cond b Ends (after_record h t.options records at (fields_on [] 0 t.specs octets))) l ∙ ap (after_record h t.options records at) e)
-
-  pub record_step : (rows : List Row) (front all : List FieldView) (n at : ℕ) (octets : List ℕ) (r : Row)
-      → counted rows ≡ length front → fields_on front 0 t.specs octets ≡ Some (all, n) → shortest_of t.specs ≤ length octets
-      → r.place ≡ (h.sequence + length rows) % 2 ^ 32 → r.options ≡ t.options → r.count ≡ length all - length front
-      → (walk (data_front h t) (records_of h.domain front rows) at octets ≡ walk (data_front h t) (records_of h.domain all (rows ++ r ∷ [])) (at + n) (drop n octets))
-      × (counted (rows ++ r ∷ []) ≡ length all)
-  record_step rows front all n at octets r count e le place options own_count =
-      let o = own_fields front t.specs octets all n e in
-      let l : length all ≡ length front + length o.own = ap length o.all ∙ length-append front o.own in
-      let k : r.count ≡ length o.own = omega arith in
-      let records = records_of h.domain front rows in
-      let p : (h.sequence + length records) % 2 ^ 32 ≡ r.place = ap (λ m. (h.sequence + m) % 2 ^ 32) (length_records h.domain front rows) ∙ sym place in
-      let same : placed h t.options records o.own ≡ record { domain = h.domain; place = r.place; options = r.options; fields = o.own } =
-      ap₂ (λ (m : ℕ) (b : Bool). record { domain = h.domain; place = m; options = b; fields = o.own }) p (sym options) in
-      let whole : records ++ placed h t.options records o.own ∷ [] ≡ records_of h.domain all (rows ++ r ∷ []) =
-      ap (λ (q : PlacedView). records ++ q ∷ []) same ∙ sym (records_more h.domain rows front o.own r count k)
-      ∙ ap (λ (fs : List FieldView). records_of h.domain fs (rows ++ r ∷ [])) (sym o.all) in (
-        data_next records at octets o.own n le o.is ∙ ap (λ (rs : List PlacedView). walk (data_front h t) rs (at + n) (drop n octets)) whole,
-        omega (arith, counted_more rows r),
-      )
+      walk_next (data_front h t) data_advances records (records ++ placed h t.options records own ∷ []) at n octets (front_next h t records at octets own n le e)
 
 pub given_some : {X : Type 0} (cut : DecodeFault) (o : Option X) (x : X) → fields_given cut o ≡ Ok x → o ≡ Some x
 given_some cut None x e = absurd cc

@@ -1,6 +1,6 @@
 -- What is read of a message is what it is in its session, and nothing else is.
 use Rattle.std.proofs.Common.{◌≡◌, ◌≢◌, ℕ, ◌+◌, ◌<◌, ◌≤◌, Bool, true, false, cond, List, [], ◌∷◌, length, Option, Some, None, Result, Ok, Err, refl, sym, ap, ap₂, subst, ◌∙◌, arith, inl, inr}
-use Rattle.std.specs.Prelude.{⊤, nat_lt, ◌==◌, ◌&&◌, not, filter}
+use Rattle.std.specs.Prelude.{nat_lt, ◌==◌, ◌&&◌, not, filter}
 use Rattle.std.specs.Prelude.{IfOk}
 use Rattle.std.specs.Option.{is_none}
 use Rattle.tca_wire.proofs.Walking.{gives_ok}
@@ -18,15 +18,10 @@ use Rattle.tca_templates.specs.Reading.{Seen, with_templates, with_records, body
 use Rattle.tca_templates.specs.Fields.{templates_of}
 use Rattle.tca_templates.specs.TemplateSets.{IsTemplateRecord, on_templates, after_changes, IsTemplateSet}
 use Rattle.tca_templates.specs.Parts.{InTurn}
-use Rattle.tca_templates.specs.Sessions.{IsSet, TemplateSet, OptionsTemplateSet, Skipped, DataSet, Unplaced, Unread, AreSets, IsReading}
+use Rattle.tca_templates.specs.Sessions.{HaveOctets, IsSet, TemplateSet, OptionsTemplateSet, Skipped, DataSet, Unplaced, Unread, AreSets, IsReading}
 use Rattle.tca_templates.proofs.Choices.{chosen, refused, same_some, same_ok}
 use Rattle.tca_templates.proofs.TemplateSetLaws.{template_set_found, template_set_only}
 use Rattle.tca_templates.proofs.DataSetLaws.{data_set_found, data_set_only}
-
--- no template has empty records
-abbrev pub HaveOctets : Templates → Type 0
-HaveOctets [] = ⊤
-HaveOctets (e ∷ es) = (0 < shortest_of e.1.specs) × HaveOctets es
 
 known_has : (k : Key) (ts : Templates) (t : TemplateView) → HaveOctets ts → known k ts ≡ Some t → 0 < shortest_of t.specs
 unfolding known

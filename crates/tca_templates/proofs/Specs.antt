@@ -1,12 +1,14 @@
 -- The steps of reading specifiers.
-use Rattle.std.proofs.Common.{◌≡◌, ℕ, zero, suc, ◌+◌, ◌-◌, ◌≤◌, cond, List, [], ◌∷◌, ◌++◌, length, drop, Option, Some, None, Result, Ok, Err, refl, sym, ap, ◌∙◌, arith, inl, inr}
+use Rattle.std.proofs.Common.{◌≡◌, ℕ, zero, suc, ◌+◌, ◌-◌, ◌≤◌, true, cond, List, [], ◌∷◌, ◌++◌, length, drop, Option, Some, None, Result, Ok, Err, refl, sym, ap, ◌∙◌, arith, inl, inr, append_assoc}
 use Rattle.std.specs.Prelude.{nat_lt}
+use Rattle.std.specs.Option.{is_some}
 use Rattle.std.proofs.lemmas.Bool.Decides.{nat_tests}
-use Rattle.std.proofs.lemmas.List.{length-drop, length-append}
+use Rattle.std.proofs.lemmas.List.{length-drop, length-append, append-nil}
 use Rattle.byteorder.specs.Endian.{big_number}
 use Rattle.tca_templates.specs.declared.template.FieldSpec.{FieldSpec}
 use Rattle.tca_templates.specs.declared.fault.DecodeFault.{DecodeFault}
-use Rattle.tca_templates.specs.Specifiers.{spec_at, specs_on}
+use Rattle.tca_templates.specs.Templates.{least_of, shortest_of}
+use Rattle.tca_templates.specs.Specifiers.{spec_at, specs_in, specs_on}
 use Rattle.tca_templates.proofs.Choices.{chosen, passed, same_some}
 
 pub spec_size : (octets : List ℕ) (x : FieldSpec × ℕ) → spec_at octets ≡ Some x → x.1 ≤ length octets
@@ -44,11 +46,46 @@ pub specs_done : (cut : DecodeFault) (specs : List FieldSpec) (used : ℕ) (octe
 unfolding specs_on
 specs_done cut specs used octets = refl
 
+pub specs_in_next : (n : ℕ) (octets : List ℕ) (x : FieldSpec × ℕ) → spec_at octets ≡ Some x → specs_in (suc n) octets ≡ x.0 ∷ specs_in n (drop x.1 octets)
+unfolding specs_in
+specs_in_next n octets x e =
+    let F : Option (FieldSpec × ℕ) → List FieldSpec = λ o. elim o [
+      | None ↦ []
+      | Some x ↦ x.0 ∷ specs_in n (drop x.1 octets)
+    ] in
+    ap F e
+
+specs_in_none : (n : ℕ) (octets : List ℕ) → spec_at octets ≡ None → specs_in (suc n) octets ≡ []
+unfolding specs_in
+specs_in_none n octets e =
+    let F : Option (FieldSpec × ℕ) → List FieldSpec = λ o. elim o [
+      | None ↦ []
+      | Some x ↦ x.0 ∷ specs_in n (drop x.1 octets)
+    ] in
+    ap F e
+
+pub specs_in_done : (octets : List ℕ) → specs_in 0 octets ≡ []
+unfolding specs_in
+specs_in_done octets = refl
+
+-- of specifiers that are all there the first one is
+pub first_there : (n : ℕ) (octets : List ℕ) → length (specs_in (suc n) octets) ≡ suc n → is_some (spec_at octets) ≡ true
+first_there n octets whole = go (spec_at octets) refl
+  where
+    go : (o : Option (FieldSpec × ℕ)) → spec_at octets ≡ o → is_some o ≡ true
+    go None e = absurd (omega (arith, whole, ap length (specs_in_none n octets e)))
+    go (Some x) e = refl
+
+pub shortest_behind : (specs : List FieldSpec) (s : FieldSpec) → shortest_of (specs ++ s ∷ []) ≡ shortest_of specs + least_of s
+shortest_behind [] s = omega arith
+shortest_behind (t ∷ ts) s = omega (arith, shortest_behind ts s)
+
 -- what reading specifiers tells
 pub record AreRead (specs : List FieldSpec) (used n : ℕ) (octets : List ℕ) (x : List FieldSpec × ℕ) : Type 0 where
   pub more : used ≤ x.1
   pub within : x.1 ≤ used + length octets
   pub count : length x.0 ≡ length specs + n
+  pub are : x.0 ≡ specs ++ specs_in n octets
 
 pub specs_told : (cut : DecodeFault) (specs : List FieldSpec) (used count : ℕ) (octets : List ℕ) (x : List FieldSpec × ℕ)
     → specs_on cut specs used count octets ≡ Ok x → AreRead specs used count octets x
@@ -59,7 +96,12 @@ specs_told cut specs used zero octets x e =
     let k : done ≡ x = cc in
     let l : length specs ≡ length x.0 = ap (λ (p : List FieldSpec × ℕ). length p.0) k in
     let u : used ≡ x.1 = ap (λ (p : List FieldSpec × ℕ). p.1) k in
-    record { more = omega arith; within = omega arith; count = omega arith }
+    record {
+      more = omega arith;
+      within = omega arith;
+      count = omega arith;
+      are = sym (ap (λ (p : List FieldSpec × ℕ). p.0) k) ∙ sym (append-nil specs) ∙ ap (λ (l : List FieldSpec). specs ++ l) (sym (specs_in_done octets));
+    }
 specs_told cut specs used (suc count) octets x e =
     go (λ more u rest h. specs_told cut more u count rest x h) (spec_at octets) refl
   where
@@ -73,4 +115,21 @@ specs_told cut specs used (suc count) octets x e =
           more = omega (arith, r.more);
           within = omega (arith, r.within, s, length-drop y.1 octets);
           count = omega (arith, r.count, length-append specs (y.0 ∷ []));
+          are = r.are ∙ append_assoc specs (y.0 ∷ []) (specs_in count (drop y.1 octets)) ∙ ap (λ (l : List FieldSpec). specs ++ l) (sym (specs_in_next count octets y o));
         }
+
+-- what the specifiers that were gone over tell at their end
+pub record AreMeasured (cut : DecodeFault) (specs : List FieldSpec) (head used count : ℕ) (octets : List ℕ) : Type 0 where
+  pub is : specs_on cut [] head count octets ≡ Ok (specs, used)
+  pub are : specs ≡ specs_in count octets
+  pub many : length specs ≡ count
+  pub more : head ≤ used
+  pub within : used ≤ head + length octets
+
+pub specs_measured : (cut : DecodeFault) (specs : List FieldSpec) (head used count left : ℕ) (octets rest : List ℕ) → left ≡ 0
+    → specs_on cut specs used left rest ≡ specs_on cut [] head count octets → AreMeasured cut specs head used count octets
+specs_measured cut specs head used count left octets rest none e =
+    let x : List FieldSpec × ℕ = (specs, used) in
+    let is : specs_on cut [] head count octets ≡ Ok x = sym e ∙ ap (λ n. specs_on cut specs used n rest) none ∙ specs_done cut specs used rest in
+    let told = specs_told cut [] head count octets x is in
+    record { is = is; are = told.are; many = omega (arith, told.count); more = told.more; within = told.within }

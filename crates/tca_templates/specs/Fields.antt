@@ -1,11 +1,12 @@
 -- Fields that were read, as the definitions see them.
-use Rattle.std.specs.Prelude.{◌≡◌, Bool, ℕ, ◌+◌, ◌==◌, ◌||◌, List, [], ◌∷◌, map, take, drop, Option, Some, None, Result, Ok, Err}
+use Rattle.std.specs.Prelude.{Bool, ℕ, ◌+◌, ◌==◌, ◌||◌, nat_le, List, [], ◌∷◌, map, take, drop, Option, Some, None, Result, Ok, Err, ⊤}
+use Rattle.tca_wire.specs.Walks.{Front, Ends, Bad, Next}
 use Rattle.tca_templates.specs.declared.template.Template.{Template}
 use Rattle.tca_templates.specs.declared.specifiers.Change.{Change}
 use Rattle.tca_templates.specs.declared.specifiers.Change.TheVariants as changes
 use Rattle.tca_templates.specs.declared.record.Row.{Row}
 use Rattle.tca_templates.specs.Templates.{Key, TemplateView, Templates}
-use Rattle.tca_templates.specs.Specifiers.{ChangeView, AllGone, Gone, New}
+use Rattle.tca_templates.specs.Specifiers.{ChangeView, AllGone, Gone, New, specs_in}
 use Rattle.tca_wire.specs.declared.message.SetSpan.{SetSpan}
 use Rattle.tca_templates.specs.Reading.{Seen}
 use Rattle.tca_templates.specs.declared.fault.DecodeFault.{DecodeFault}
@@ -30,7 +31,18 @@ templates_of = map (λ e. (e.0, template_of e.1))
 abbrev pub change_view : Change → ChangeView
 change_view changes.AllGone = AllGone
 change_view (changes.Gone id) = Gone id
-change_view (changes.New id t) = New id t.specs.items
+change_view (changes.New id d) = New id (specs_in d.count d.octets.now)
+
+-- what a call returned, seen by view
+abbrev pub viewed : {X Y F : Type 0} → (X → Y) → Result X F → Result Y F
+viewed view (Ok x) = Ok (view x)
+viewed view (Err f) = Err f
+
+-- a piece stands here that nothing is wrong with
+abbrev pub IsSound : {S F : Type 0} → Front S F → Type 0
+IsSound Ends = ⊥
+IsSound (Bad f) = ⊥
+IsSound (Next t n) = ⊤
 
 -- the records whose fields stand one after the other
 abbrev pub records_of : ℕ → List FieldView → List Row → List PlacedView
@@ -43,12 +55,6 @@ abbrev pub counted : List Row → ℕ
 counted [] = 0
 counted (r ∷ rs) = r.count + counted rs
 
--- a new template has this kind
-abbrev pub IsOfKind : Bool → Change → Type 0
-IsOfKind options changes.AllGone = Unit {0}
-IsOfKind options (changes.Gone id) = Unit {0}
-IsOfKind options (changes.New id t) = t.options ≡ options
-
 -- what has come of a message, as the code keeps it
 abbrev pub seen_of : ℕ → List (Key × Template) → List Row → List Field → Option ℕ → ℕ → Seen
 seen_of domain entries rows fields unplaced skipped = record {
@@ -60,3 +66,7 @@ seen_of domain entries rows fields unplaced skipped = record {
 
 abbrev pub is_template_set : SetSpan → Bool
 is_template_set s = (s.id == 2) || (s.id == 3)
+
+-- a set of templates or of data: the others are skipped
+abbrev pub is_read : SetSpan → Bool
+is_read s = is_template_set s || nat_le 256 s.id

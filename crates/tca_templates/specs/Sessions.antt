@@ -1,12 +1,17 @@
 -- What a message is in a session: its sets take effect in their order (RFC 7011, section 3.1).
-use Rattle.std.specs.Prelude.{◌≡◌, ◌≢◌, ℕ, ◌+◌, ◌≤◌, ◌<◌, true, false, List, [], ◌∷◌, Some, None}
+use Rattle.std.specs.Prelude.{◌≡◌, ◌≢◌, ⊤, ℕ, ◌+◌, ◌≤◌, ◌<◌, true, false, List, [], ◌∷◌, Some, None}
 use Rattle.tca_wire.specs.declared.message.Header.{Header}
 use Rattle.tca_wire.specs.declared.message.SetSpan.{SetSpan}
-use Rattle.tca_templates.specs.Templates.{Templates, TemplateView, known}
+use Rattle.tca_templates.specs.Templates.{Templates, TemplateView, known, shortest_of}
 use Rattle.tca_templates.specs.Records.{FieldView}
 use Rattle.tca_templates.specs.Reading.{Seen, body_of, before}
 use Rattle.tca_templates.specs.TemplateSets.{IsTemplateSet}
 use Rattle.tca_templates.specs.DataSets.{IsDataSet, placed_behind}
+
+-- No template gives its records no octet. So it is with the templates of every session: one that did would be refused.
+abbrev pub HaveOctets : Templates → Type 0
+HaveOctets [] = ⊤
+HaveOctets (e ∷ es) = (0 < shortest_of e.1.specs) × HaveOctets es
 
 -- One set, and what has come of the message before it and with it.
 pub data IsSet (h : Header) (octets : List ℕ) (seen after : Seen) (s : SetSpan) : Type 0 where

@@ -24,6 +24,14 @@ specs_on cut specs used (suc count) octets = elim (spec_at octets) [
   | Some x ↦ specs_on cut (specs ++ x.0 ∷ []) (used + x.1) count (drop x.1 octets)
 ]
 
+-- the specifiers of so many that are there
+unfoldable pub specs_in : ℕ → List ℕ → List FieldSpec
+specs_in zero octets = []
+specs_in (suc count) octets = elim (spec_at octets) [
+  | None ↦ []
+  | Some x ↦ x.0 ∷ specs_in count (drop x.1 octets)
+]
+
 -- What a template record does.
 pub data ChangeView : Type 0 where
   AllGone : ChangeView

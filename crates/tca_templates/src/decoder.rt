@@ -1,10 +1,11 @@
 //! A session, which reads messages.
-ghost use Rattle.std.specs.Prelude.{◌≡◌, ◌<◌, ◌≤◌, ◌^◌, length, OnOk, OnErr, IfOk, Ok, map};
+ghost use Rattle.std.specs.Prelude.{◌≡◌, ◌<◌, ◌≤◌, ◌^◌, length, OnOk, OnErr, IfOk, Ok, Err, map, true};
+ghost use Rattle.std.specs.List.{list_any};
 ghost use Rattle.tca_wire.specs.Walks.{Gives};
 ghost use Rattle.tca_templates.specs.Templates.{listed};
 ghost use Rattle.tca_templates.specs.Reading.{read_of, Seen};
 ghost use Rattle.tca_templates.specs.Sessions.{IsReading};
-ghost use Rattle.tca_templates.specs.Fields.{records_of, counted, field_view};
+ghost use Rattle.tca_templates.specs.Fields.{records_of, counted, field_view, is_read};
 ghost use Rattle.tca_templates.specs.Outcomes.{seen_in};
 
 use crate::fault::DecodeFault;
@@ -62,6 +63,12 @@ impl Decoder {
     ///
     /// An `Err` is the first fault from the left, or `Memory` where a growth was refused. It says nothing of the
     /// lists and of the templates, which may be those of the refused message: let the decoder go.
+    ///
+    /// In a template record (RFC 7011, sections 3.4 and 8.1) the order is: an ID below 256 that isn't a withdrawal of
+    /// all `TemplateId`; more than 512 fields `TooMany`; fewer than 6 octets of an options template `TemplateCut`;
+    /// no scope field, or more of them than fields, `Scope`; specifiers past the set's end `TemplateCut`; records
+    /// without an octet `EmptyTemplate`; a new ID beside 4,096 templates `TooMany`. In a data set (section 3.4.3) a
+    /// record past the set's end is `RecordCut`.
     pub fn read_in_place<'a>(
         &mut self,
         alloc: Global,
@@ -80,6 +87,8 @@ impl Decoder {
         ensures counted { OnOk result (counted rows.new.items ≡ length fields.new.items) }
         ensures few { OnOk result (length rows.new.items ≤ message.now.header.length) }
         ensures skipped { IfOk result (λ x. x.1 ≤ message.now.header.length) }
+        // Memory is wanted only where a set isn't skipped.
+        ensures memory { result ≡ Err DecodeFault.Memory → list_any is_read message.now.sets.items ≡ true }
     {
         rows.clear();
         fields.clear();
@@ -88,6 +97,12 @@ impl Decoder {
 
     /// Reads the data records of a message: what `read_in_place` gives, in values of its own. An `Err` is the first
     /// fault from the left, or `Memory` where a growth was refused, and leaves the templates as they were.
+    ///
+    /// In a template record (RFC 7011, sections 3.4 and 8.1) the order is: an ID below 256 that isn't a withdrawal of
+    /// all `TemplateId`; more than 512 fields `TooMany`; fewer than 6 octets of an options template `TemplateCut`;
+    /// no scope field, or more of them than fields, `Scope`; specifiers past the set's end `TemplateCut`; records
+    /// without an octet `EmptyTemplate`; a new ID beside 4,096 templates `TooMany`. In a data set (section 3.4.3) a
+    /// record past the set's end is `RecordCut`.
     pub fn read(&mut self, alloc: Global, message: &Message<'_>) -> Result<Outcome, DecodeFault>
         // What is read is what the message is in this session.
         ensures found { IfOk result (λ o. IsReading self.old message.now.header message.now.octets.now message.now.sets.items (seen_in self.new o)) }
@@ -98,6 +113,8 @@ impl Decoder {
         ensures exact { Gives DecodeFault.Memory (λ o. seen_in self.new o) result
             (read_of self.old message.now.header message.now.octets.now message.now.sets.items) }
         ensures err { OnErr result (self.new ≡ self.old) }
+        // Memory is wanted only where a set isn't skipped.
+        ensures memory { result ≡ Err DecodeFault.Memory → list_any is_read message.now.sets.items ≡ true }
     {
         read_message(alloc, &mut self.templates, message)
     }

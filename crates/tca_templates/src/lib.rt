@@ -4,7 +4,8 @@
 //! stay in the octets of the message, in two lists that serve for one message after another. Only `read` copies
 //! them; and where a message has template sets it first copies the templates, so that a refusal changes nothing.
 //! Templates are found by a hash of their domain and ID. All that a stranger's messages can make a decoder keep
-//! is 4,096 templates of 512 fields each.
+//! is 4,096 templates of 512 fields each. Memory is the last that a record can want: one that is refused for itself
+//! is refused so whether or not there is memory for it.
 //!
 //! - `decoder`: a session; `reading`: the sets of one message;
 //! - `template`, `specifiers`, `store`: what a template says, the records that define and withdraw templates, and
@@ -28,6 +29,7 @@ pub use decoder::Decoder;
 pub use fault::DecodeFault;
 pub use iter::TemplatesIter;
 pub use outcome::{FieldValue, Outcome, PlacedFields};
+pub use reading::reading_words;
 pub use record::{Field, Row};
 
 #[cfg(test)]

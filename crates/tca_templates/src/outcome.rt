@@ -1,9 +1,9 @@
 //! The records of a message as values of their own.
-ghost use Rattle.std.specs.Prelude.{◌≡◌, length, map, false, OnOk, OnErr, IfOk};
+ghost use Rattle.std.specs.Prelude.{◌≡◌, [], length, map, true, false, OnOk, OnErr, IfOk, IsOk, Err};
 ghost use Rattle.std.specs.List.{list_any};
 ghost use Rattle.tca_wire.specs.Walks.{Gives};
 ghost use Rattle.tca_templates.specs.Reading.{read_of};
-ghost use Rattle.tca_templates.specs.Fields.{templates_of, records_of, counted, field_view, is_template_set};
+ghost use Rattle.tca_templates.specs.Fields.{templates_of, records_of, counted, field_view, is_template_set, is_read};
 ghost use Rattle.tca_templates.specs.Outcomes.{value_view, placed_view, seen_in};
 
 use crate::draft::copied;
@@ -28,11 +28,13 @@ pub struct FieldValue {
 /// A data record, and its place among those of its session and observation domain.
 #[derive(Drop)]
 pub struct PlacedFields {
+    /// The observation domain.
     pub domain: u32,
     /// The message's sequence number and the records of the message before this one, modulo 2^32.
     pub place: u32,
     /// Whether it is a record of an options template.
     pub options: bool,
+    /// Its fields, in the order of the template.
     pub fields: Vec<FieldValue>,
 }
 
@@ -80,7 +82,8 @@ fn place(
     fields: &[Field<'_>],
 ) -> Result<Vec<PlacedFields>, AllocError>
     requires { counted rows.now ≡ length fields.now }
-    ensures { IfOk result (λ v. map placed_view v.items ≡ records_of domain (map field_view fields.now) rows.now) }
+    ensures placed { IfOk result (λ v. map placed_view v.items ≡ records_of domain (map field_view fields.now) rows.now) }
+    ensures none { rows.now ≡ [] → IsOk result }
 {
     let mut placed = Vec::with_capacity(alloc, rows.len())?;
     let mut start = 0;
@@ -116,6 +119,7 @@ fn read_values(
         (read_of (templates_of templates.old.entries) message.now.header message.now.octets.now message.now.sets.items) }
     ensures kept { list_any is_template_set message.now.sets.items ≡ false
         → templates_of templates.new.entries ≡ templates_of templates.old.entries }
+    ensures memory { result ≡ Err DecodeFault.Memory → list_any is_read message.now.sets.items ≡ true }
 {
     let mut rows = Vec::new(alloc);
     let mut fields = Vec::new(alloc);
@@ -138,6 +142,7 @@ pub(crate) fn read_message(
     ensures exact { Gives DecodeFault.Memory (λ o. seen_in (templates_of templates.new.entries) o) result
         (read_of (templates_of templates.old.entries) message.now.header message.now.octets.now message.now.sets.items) }
     ensures err { OnErr result (templates_of templates.new.entries ≡ templates_of templates.old.entries) }
+    ensures memory { result ≡ Err DecodeFault.Memory → list_any is_read message.now.sets.items ≡ true }
 {
     if has_template_set(&message.sets) {
         let mut draft = copied(alloc, templates)?;

@@ -1,9 +1,13 @@
 //! The sets of a message, one after the other.
-ghost use Rattle.std.specs.Prelude.{◌≡◌, ◌<◌, ◌≤◌, ◌+◌, ◌^◌, [], length, OnOk, IfOk, true, false};
+ghost use Rattle.std.specs.Prelude.{◌≡◌, ◌<◌, ◌≤◌, ◌+◌, ◌^◌, List, ℕ, [], length, OnOk, IfOk, Ok, Err, true, false};
 ghost use Rattle.std.specs.List.{list_any};
 ghost use Rattle.tca_wire.specs.Walks.{Gives};
-ghost use Rattle.tca_templates.specs.Reading.{body_of, set_of, read_of};
-ghost use Rattle.tca_templates.specs.Fields.{seen_of, counted, templates_of, is_template_set};
+ghost use Rattle.tca_templates.specs.Reading.{Seen, body_of, set_of, read_of};
+ghost use Rattle.tca_templates.specs.Sessions.{HaveOctets, IsReading};
+ghost use Rattle.tca_templates.specs.Templates.{Templates};
+ghost use Rattle.tca_wire.specs.declared.message.Header.{Header};
+ghost use Rattle.tca_wire.specs.declared.message.SetSpan.{SetSpan};
+ghost use Rattle.tca_templates.specs.Fields.{seen_of, counted, templates_of, is_template_set, is_read};
 
 use crate::fault::DecodeFault;
 use crate::record::{Field, Row, read_records};
@@ -55,6 +59,8 @@ fn read_set<'a>(
     ensures counted { OnOk result (counted rows.new.items ≡ length fields.new.items) }
     ensures skipped { IfOk result (λ x. x.skipped ≤ aside.skipped + 1) }
     ensures kept { is_template_set set ≡ false → templates_of templates.new.entries ≡ templates_of templates.old.entries }
+    ensures skips { is_read set ≡ false → rows.new.items ≡ rows.old.items }
+    ensures memory { result ≡ Err DecodeFault.Memory → is_read set ≡ true }
 {
     let header = message.header;
     let at = set.at + 4;
@@ -105,6 +111,8 @@ pub(crate) fn read_sets<'a>(
     ensures skipped { IfOk result (λ x. x.1 ≤ message.now.header.length) }
     ensures kept { list_any is_template_set message.now.sets.items ≡ false
         → templates_of templates.new.entries ≡ templates_of templates.old.entries }
+    ensures skips { OnOk result (list_any is_read message.now.sets.items ≡ false → rows.new.items ≡ []) }
+    ensures memory { result ≡ Err DecodeFault.Memory → list_any is_read message.now.sets.items ≡ true }
 {
     let mut aside = Aside {
         unplaced: None,
@@ -115,3 +123,12 @@ pub(crate) fn read_sets<'a>(
     }
     Ok((aside.unplaced, aside.skipped))
 }
+
+/// The law of readings: what is read set by set from the left is what the message is in its session by RFC 7011, where
+/// no template that is known gives its records no octet.
+pub fn reading_words()
+    ensures found { (ts : Templates) (h : Header) (octets : List ℕ) (ss : List SetSpan) (seen : Seen) → HaveOctets ts
+        → read_of ts h octets ss ≡ Ok seen → IsReading ts h octets ss seen }
+    ensures only { (ts : Templates) (h : Header) (octets : List ℕ) (ss : List SetSpan) (seen : Seen) → IsReading ts h octets ss seen
+        → read_of ts h octets ss ≡ Ok seen }
+{}

@@ -1,9 +1,10 @@
 //! The records of a data set.
-ghost use Rattle.std.specs.Prelude.{◌≡◌, ◌<◌, ◌≤◌, ◌+◌, ◌++◌, ◌^◌, [], length, drop, map, OnOk, OnErr, IfOk, IfSome};
-ghost use Rattle.tca_wire.specs.Walks.{Gives, walk};
+ghost use Rattle.std.specs.Prelude.{◌≡◌, ◌≢◌, ◌<◌, ◌≤◌, ◌+◌, ◌++◌, ◌^◌, [], length, drop, map, OnOk, OnErr, IfOk, IfErr, IfSome, None, Err};
+ghost use Rattle.std.specs.Option.{is_some};
+ghost use Rattle.tca_wire.specs.Walks.{Gives, Next, Bad, walk};
 ghost use Rattle.tca_templates.specs.Records.{field_at, fields_on, data_front};
 ghost use Rattle.tca_templates.specs.Templates.{shortest_of};
-ghost use Rattle.tca_templates.specs.Fields.{field_view, fields_given, template_of, records_of, counted};
+ghost use Rattle.tca_templates.specs.Fields.{field_view, fields_given, template_of, records_of, counted, IsSound};
 
 use crate::fault::DecodeFault;
 use crate::template::{FieldSpec, Template, VARIABLE};
@@ -54,15 +55,48 @@ fn measure(size: u16, octets: &[u8]) -> Option<(usize, usize)>
     Some((skip, size))
 }
 
-/// Adds the fields of the record at the front, and says how many octets they have. `cut` is the fault of a record
-/// that goes on past the octets.
+/// Whether the fields of the record at the front are all there.
+fn is_whole(specs: &[FieldSpec], octets: &[u8]) -> bool
+    ensures { result ≡ is_some (fields_on [] 0 specs.now octets.now) }
+{
+    let mut rest = octets;
+    for spec in specs {
+        let Some((skip, size)) = measure(spec.length, rest) else {
+            return false;
+        };
+        let (_, behind) = rest.split_at(skip + size);
+        rest = behind;
+    }
+    true
+}
+
+/// Why the record at the front is refused when there is no memory for its fields: it may go on past the octets all
+/// the same. Only then is a record gone over a second time.
+#[cold]
+fn refused(at: u16, specs: &[FieldSpec], octets: &[u8]) -> DecodeFault
+    ensures cut { result ≢ DecodeFault.Memory → fields_on [] 0 specs.now octets.now ≡ None }
+    ensures at { result ≢ DecodeFault.Memory → result ≡ DecodeFault.RecordCut at }
+    ensures last { result ≡ DecodeFault.Memory → fields_on [] 0 specs.now octets.now ≢ None }
+{
+    if is_whole(specs, octets) {
+        DecodeFault::Memory
+    } else {
+        DecodeFault::RecordCut { at }
+    }
+}
+
+/// Adds the fields of the record at the front, which begins at `at` in the message, and says how many octets they
+/// have. Where there is no memory for them the record isn't cut.
+#[tactic(auto, using(crate::proofs::Records::still_cut))]
 fn read_fields<'a>(
-    cut: DecodeFault,
+    at: u16,
     specs: &[FieldSpec],
     octets: &'a [u8],
     fields: &mut Vec<Field<'a>>,
 ) -> Result<usize, DecodeFault>
-    ensures exact { Gives DecodeFault.Memory (λ used. (map field_view fields.new.items, used)) result (fields_given cut (fields_on (map field_view fields.old.items) 0 specs.now octets.now)) }
+    ensures exact { Gives DecodeFault.Memory (λ used. (map field_view fields.new.items, used)) result
+        (fields_given (DecodeFault.RecordCut at) (fields_on (map field_view fields.old.items) 0 specs.now octets.now)) }
+    ensures last { result ≡ Err DecodeFault.Memory → fields_on [] 0 specs.now octets.now ≢ None }
     ensures within { IfOk result (λ used. used ≤ length octets.now) }
     ensures least { IfOk result (λ used. shortest_of specs.now ≤ used) }
     ensures longer { OnOk result (length fields.old.items ≤ length fields.new.items) }
@@ -71,19 +105,53 @@ fn read_fields<'a>(
     let mut rest = octets;
     for spec in specs {
         let Some((skip, size)) = measure(spec.length, rest) else {
-            return Err(cut);
+            return Err(DecodeFault::RecordCut { at });
         };
         let (field, behind) = rest.split_at(skip + size);
         let (_, value) = field.split_at(skip);
-        fields.push(Field {
+        let Ok(()) = fields.push(Field {
             element: spec.element,
             enterprise: spec.enterprise,
             value,
-        })?;
+        }) else {
+            return Err(refused(at, specs, octets));
+        };
         used += skip + size;
         rest = behind;
     }
     Ok(used)
+}
+
+/// Adds the record at the front, which begins at `at` in the message, and says how many octets it has.
+fn read_record<'a>(
+    header: Header,
+    template: &Template,
+    at: u16,
+    octets: &'a [u8],
+    rows: &mut Vec<Row>,
+    fields: &mut Vec<Field<'a>>,
+) -> Result<usize, DecodeFault>
+    requires long { template.now.shortest ≤ length octets.now }
+    requires few { length rows.old.items ≤ at }
+    requires counted { counted rows.old.items ≡ length fields.old.items }
+    ensures next { IfOk result (λ n. data_front header (template_of template.now) (records_of header.domain (map field_view fields.old.items) rows.old.items) at octets.now
+        ≡ Next (records_of header.domain (map field_view fields.new.items) rows.new.items) n) }
+    ensures bad { IfErr result (λ e. e ≢ DecodeFault.Memory
+        → data_front header (template_of template.now) (records_of header.domain (map field_view fields.old.items) rows.old.items) at octets.now ≡ Bad e) }
+    ensures last { result ≡ Err DecodeFault.Memory
+        → IsSound (data_front header (template_of template.now) (records_of header.domain (map field_view fields.old.items) rows.old.items) at octets.now) }
+    ensures counted { OnOk result (counted rows.new.items ≡ length fields.new.items) }
+    ensures within { IfOk result (λ n. (0 < n) × (n ≤ length octets.now)) }
+    ensures one { OnOk result (length rows.new.items ≡ length rows.old.items + 1) }
+{
+    let before = fields.len();
+    let size = read_fields(at, &template.specs, octets, fields)?;
+    rows.push(Row {
+        place: header.sequence.wrapping_add(rows.len() as u32),
+        options: template.options,
+        count: fields.len() - before,
+    })?;
+    Ok(size)
 }
 
 /// Adds the records of a data set; `at` is where its octets begin in the message. Fewer octets than the shortest
@@ -108,13 +176,7 @@ pub(crate) fn read_records<'a>(
     let mut rest = octets;
     let shortest = template.shortest as usize;
     while rest.len() >= shortest {
-        let before = fields.len();
-        let size = read_fields(DecodeFault::RecordCut { at }, &template.specs, rest, fields)?;
-        rows.push(Row {
-            place: header.sequence.wrapping_add(rows.len() as u32),
-            options: template.options,
-            count: fields.len() - before,
-        })?;
+        let size = read_record(header, template, at, rest, rows, fields)?;
         at += size as u16;
         let (_, behind) = rest.split_at(size);
         rest = behind;

@@ -1,14 +1,14 @@
 //! The records of a template set (RFC 7011, sections 3.4.1, 3.4.2 and 8.1).
-ghost use Rattle.std.specs.Prelude.{◌≡◌, ◌<◌, ◌≤◌, ◌+◌, ◌*◌, ◌^◌, [], length, drop, OnOk, IfOk};
+ghost use Rattle.std.specs.Prelude.{◌≡◌, ◌≢◌, ◌<◌, ◌≤◌, ◌+◌, ◌*◌, ◌^◌, [], length, drop, OnOk, IfOk, Err};
 ghost use Rattle.byteorder.specs.Endian.{big_number};
-ghost use Rattle.tca_wire.specs.Walks.{Gives};
-ghost use Rattle.tca_templates.specs.Specifiers.{spec_at, specs_on, head_of, change_at};
-ghost use Rattle.tca_templates.specs.Fields.{change_view, IsOfKind};
+ghost use Rattle.tca_templates.specs.Templates.{shortest_of};
+ghost use Rattle.tca_templates.specs.Specifiers.{spec_at, specs_in, specs_on, head_of, change_at};
+ghost use Rattle.tca_templates.specs.Fields.{change_view, viewed};
 
 use crate::fault::DecodeFault;
-use crate::template::{FieldSpec, Template, shortest};
+use crate::template::{Definition, FieldSpec, Template};
 use byteorder::{BigEndian, ByteOrder};
-use std::alloc::Global;
+use std::alloc::{AllocError, Global};
 
 /// The most fields of a template.
 const MOST_FIELDS: u16 = 512;
@@ -45,32 +45,34 @@ fn specifier(octets: &[u8]) -> Option<(FieldSpec, usize)>
     Some((spec, 8))
 }
 
-/// So many specifiers, and how many octets there are up to their end; `head` octets stand before them. `cut` is the
-/// fault of a record that goes on past the octets.
-fn specifiers(
-    alloc: Global,
-    cut: DecodeFault,
+/// The octets that a record of so many specifiers has at least, and how many octets there are up to their end;
+/// `head` octets stand before them, and their template record begins at `at`. It takes no memory.
+fn measure_specifiers(
+    at: u16,
     head: usize,
     count: u16,
     octets: &[u8],
-) -> Result<(Vec<FieldSpec>, usize), DecodeFault>
+) -> Result<(u32, usize), DecodeFault>
     requires { head ≤ 6 }
-    ensures exact { Gives DecodeFault.Memory (λ x. (x.0.items, x.1)) result (specs_on cut [] head count octets.now) }
-    ensures count { IfOk result (λ x. length x.0.items ≡ count) }
+    ensures exact { viewed (λ x. (specs_in count octets.now, x.1)) result ≡ specs_on (DecodeFault.TemplateCut at) [] head count octets.now }
+    ensures shortest { IfOk result (λ x. x.0 ≡ shortest_of (specs_in count octets.now)) }
+    ensures whole { OnOk result (length (specs_in count octets.now) ≡ count) }
+    ensures within { IfOk result (λ x. (head ≤ x.1) × (x.1 ≤ head + length octets.now)) }
+    ensures no_memory { result ≢ Err DecodeFault.Memory }
 {
-    let mut specs = Vec::new(alloc);
+    let mut shortest = 0;
     let mut used = head;
     let mut rest = octets;
     for _ in 0..count {
         let Some((spec, size)) = specifier(rest) else {
-            return Err(cut);
+            return Err(DecodeFault::TemplateCut { at });
         };
-        specs.push(spec)?;
+        shortest += spec.least();
         used += size;
         let (_, behind) = rest.split_at(size);
         rest = behind;
     }
-    Ok((specs, used))
+    Ok((shortest, used))
 }
 
 /// The octets before the specifiers of a template record: four, or six in an options template, whose last two
@@ -81,6 +83,7 @@ fn measure_head(options: bool, at: u16, count: u16, octets: &[u8]) -> Result<usi
     ensures within { IfOk result (λ n. n ≤ length octets.now) }
     ensures least { IfOk result (λ n. 4 ≤ n) }
     ensures small { IfOk result (λ n. n ≤ 6) }
+    ensures no_memory { result ≢ Err DecodeFault.Memory }
 {
     if !options {
         return Ok(4);
@@ -96,29 +99,29 @@ fn measure_head(options: bool, at: u16, count: u16, octets: &[u8]) -> Result<usi
 }
 
 /// What a template record does.
-#[derive(Drop)]
-pub(crate) enum Change {
+#[derive(Clone, Copy)]
+pub(crate) enum Change<'a> {
     /// It withdraws all templates of the domain and the set's kind.
     AllGone,
     /// It withdraws the template of this ID.
     Gone(u16),
     /// It defines this ID.
-    New(u16, Template),
+    New(u16, Definition<'a>),
 }
 
 /// The template record at the front, and how many octets it has. `options` says in which kind of set it stands, and
-/// `at` where in the message.
+/// `at` where in the message. It takes no memory, so that all that is wrong with a record is known before any is
+/// wanted.
 #[tactic(auto, unfolding(crate::specs::Specifiers::change_at))]
-pub(crate) fn read_change(
-    alloc: Global,
+pub(crate) fn read_change<'a>(
     options: bool,
     at: u16,
-    octets: &[u8],
-) -> Result<(Change, usize), DecodeFault>
+    octets: &'a [u8],
+) -> Result<(Change<'a>, usize), DecodeFault>
     requires { 4 ≤ length octets.now }
-    ensures exact { Gives DecodeFault.Memory (λ x. (change_view x.0, x.1)) result (change_at options at octets.now) }
+    ensures exact { viewed (λ x. (change_view x.0, x.1)) result ≡ change_at options at octets.now }
     ensures within { IfOk result (λ x. (0 < x.1) × (x.1 ≤ length octets.now)) }
-    ensures kind { IfOk result (λ x. IsOfKind options x.0) }
+    ensures no_memory { result ≢ Err DecodeFault.Memory }
 {
     let id = BigEndian::read_u16(octets);
     let count = BigEndian::read_u16(&octets[2..]);
@@ -137,15 +140,38 @@ pub(crate) fn read_change(
     }
     let head = measure_head(options, at, count, octets)?;
     let (_, rest) = octets.split_at(head);
-    let (specs, size) = specifiers(alloc, DecodeFault::TemplateCut { at }, head, count, rest)?;
-    let shortest = shortest(&specs);
+    let (shortest, size) = measure_specifiers(at, head, count, rest)?;
     if shortest == 0 {
         return Err(DecodeFault::EmptyTemplate { id });
     }
-    let template = Template {
-        options,
-        specs,
+    let definition = Definition {
+        count,
+        octets: rest,
         shortest,
     };
-    Ok((Change::New(id, template), size))
+    Ok((Change::New(id, definition), size))
+}
+
+/// The template of a definition, with specifiers of its own.
+pub(crate) fn stored(
+    alloc: Global,
+    options: bool,
+    definition: Definition<'_>,
+) -> Result<Template, AllocError>
+    ensures options { IfOk result (λ t. t.options ≡ options) }
+    ensures specs { IfOk result (λ t. t.specs.items ≡ specs_in definition.entry.count definition.entry.octets.now) }
+{
+    let mut specs = Vec::with_capacity(alloc, definition.count as usize)?;
+    let mut rest = definition.octets;
+    for _ in 0..definition.count {
+        let (spec, size) = specifier(rest).unwrap();
+        specs.push(spec)?;
+        let (_, behind) = rest.split_at(size);
+        rest = behind;
+    }
+    Ok(Template {
+        options,
+        specs,
+        shortest: definition.shortest,
+    })
 }

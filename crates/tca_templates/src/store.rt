@@ -1,13 +1,14 @@
 //! The templates that are known, and the sets that change them.
-ghost use Rattle.std.specs.Prelude.{◌≡◌, ◌<◌, ◌≤◌, ◌+◌, ◌^◌, [], length, OnOk, OnErr, IfOk, IfErr};
+ghost use Rattle.std.specs.Prelude.{◌≡◌, ◌≢◌, ◌<◌, ◌≤◌, ◌+◌, ◌^◌, [], length, OnOk, OnErr, IfOk, IfErr, Err};
 ghost use Rattle.std.specs.Option.{option_map};
-ghost use Rattle.tca_wire.specs.Walks.{Gives, walk};
+ghost use Rattle.std.specs.Result.{IsOk};
+ghost use Rattle.tca_wire.specs.Walks.{Gives, Next, Bad, walk};
 ghost use Rattle.tca_templates.specs.Templates.{known, define, withdraw, withdraw_all};
 ghost use Rattle.tca_templates.specs.Specifiers.{changed, template_front};
-ghost use Rattle.tca_templates.specs.Fields.{change_view, template_of, templates_of, IsOfKind};
+ghost use Rattle.tca_templates.specs.Fields.{change_view, template_of, templates_of, IsSound};
 
 use crate::fault::DecodeFault;
-use crate::specifiers::{Change, read_change};
+use crate::specifiers::{Change, read_change, stored};
 use crate::template::Template;
 use indexmap::IndexMap;
 use std::alloc::Global;
@@ -53,28 +54,51 @@ fn withdraw_all(templates: &mut Store, domain: u32, options: bool)
     templates.retain(|key, template| !(key.0 == domain && template.options == options));
 }
 
-/// Does what a template record of a set of this kind says.
+/// Does what a template record of a set of this kind says. Memory is wanted only where nothing refuses the record.
 fn apply(
+    alloc: Global,
     templates: &mut Store,
     domain: u32,
     options: bool,
-    change: Change,
+    change: Change<'_>,
 ) -> Result<(), DecodeFault>
-    requires { IsOfKind options change }
-    ensures { Gives DecodeFault.Memory (λ _. templates_of templates.new.entries) result (changed domain options (templates_of templates.old.entries) (change_view change)) }
+    ensures exact { Gives DecodeFault.Memory (λ _. templates_of templates.new.entries) result (changed domain options (templates_of templates.old.entries) (change_view change.entry)) }
+    ensures last { result ≡ Err DecodeFault.Memory → IsOk (changed domain options (templates_of templates.old.entries) (change_view change.entry)) }
 {
     match change {
         Change::AllGone => withdraw_all(templates, domain, options),
         Change::Gone(id) => withdraw(templates, domain, id),
-        Change::New(id, template) => {
+        Change::New(id, definition) => {
             let is_new = find(templates, domain, id).is_none();
             if is_new && templates.len() >= MOST_TEMPLATES {
                 return Err(DecodeFault::TooMany);
             }
+            let template = stored(alloc, options, definition)?;
             define(templates, domain, id, template)?;
         }
     }
     Ok(())
+}
+
+/// Does what the template record at the front says, and answers how many octets it has; `at` is where it begins in
+/// the message.
+fn read_template(
+    alloc: Global,
+    templates: &mut Store,
+    domain: u32,
+    options: bool,
+    at: u16,
+    octets: &[u8],
+) -> Result<usize, DecodeFault>
+    requires { 4 ≤ length octets.now }
+    ensures next { IfOk result (λ n. template_front domain options (templates_of templates.old.entries) at octets.now ≡ Next (templates_of templates.new.entries) n) }
+    ensures bad { IfErr result (λ e. e ≢ DecodeFault.Memory → template_front domain options (templates_of templates.old.entries) at octets.now ≡ Bad e) }
+    ensures last { result ≡ Err DecodeFault.Memory → IsSound (template_front domain options (templates_of templates.old.entries) at octets.now) }
+    ensures within { IfOk result (λ n. (0 < n) × (n ≤ length octets.now)) }
+{
+    let (change, size) = read_change(options, at, octets)?;
+    apply(alloc, templates, domain, options, change)?;
+    Ok(size)
 }
 
 /// Goes over the records of a template set; `at` is where its octets begin in the message. Fewer than four octets
@@ -94,8 +118,7 @@ pub(crate) fn read_templates(
     let mut at = at;
     let mut rest = octets;
     while rest.len() >= 4 {
-        let (change, size) = read_change(alloc, options, at, rest)?;
-        apply(templates, domain, options, change)?;
+        let size = read_template(alloc, templates, domain, options, at, rest)?;
         at += size as u16;
         let (_, behind) = rest.split_at(size);
         rest = behind;

@@ -1,6 +1,7 @@
 //! What a template says of the records of its data sets.
 ghost use Rattle.std.specs.Prelude.{◌≡◌, ◌<◌, ◌≤◌, ◌*◌, length};
 ghost use Rattle.tca_templates.specs.Templates.{least_of, shortest_of};
+ghost use Rattle.tca_templates.specs.Specifiers.{specs_in};
 
 /// The length of a field specifier that says that the length stands before each value (RFC 7011, section 7).
 pub(crate) const VARIABLE: u16 = 65_535;
@@ -27,9 +28,23 @@ pub(crate) struct Template {
     pub ghost some: { 0 < shortest },
 }
 
+/// The specifiers of a template in the octets of the record that defines it. All of them are there.
+#[derive(Clone, Copy)]
+pub(crate) struct Definition<'a> {
+    /// How many specifiers it has.
+    pub count: u16,
+    /// The specifiers, and what stands behind them.
+    pub octets: &'a [u8],
+    /// The octets that a record of the template has at least.
+    pub shortest: u32,
+    pub ghost whole: { length (specs_in count octets.now) ≡ count },
+    pub ghost right: { shortest ≡ shortest_of (specs_in count octets.now) },
+    pub ghost some: { 0 < shortest },
+}
+
 impl FieldSpec {
     /// The octets that the field takes at least.
-    fn least(&self) -> u32
+    pub(crate) fn least(&self) -> u32
         ensures least { result ≡ least_of self.now }
         ensures small { result ≤ 65535 }
     {
@@ -39,16 +54,4 @@ impl FieldSpec {
             u32::from(self.length)
         }
     }
-}
-
-/// The octets that a record of these fields has at least.
-pub(crate) fn shortest(specs: &[FieldSpec]) -> u32
-    requires { length specs.now ≤ 512 }
-    ensures { result ≡ shortest_of specs.now }
-{
-    let mut total = 0;
-    for spec in specs {
-        total += spec.least();
-    }
-    total
 }

@@ -8,7 +8,7 @@ use Rattle.std.proofs.lemmas.List.Folds.{concat-append}
 use Rattle.byteorder.specs.Endian.{big_number}
 use Rattle.byteorder.specs.Numbers.{big_from-take}
 use Rattle.tca_wire.specs.Messages.{version_at, length_at}
-use Rattle.tca_wire.specs.Frames.{IsFrame, IsPart, IsFaulty, Framing, Holds, Failed, EndsAs, IsStream}
+use Rattle.tca_wire.specs.Frames.{IsFrame, IsPart, IsFaulty, Framing, Holds, Failed, EndsAs, IsStream, Feeds}
 use Rattle.tca_wire.specs.declared.fault.WireFault.{WireFault}
 use Rattle.tca_wire.specs.declared.fault.WireFault.TheVariants.{Short, BadVersion, BadLength, SetLength, SetPastEnd, Trailing, Memory}
 
@@ -135,3 +135,29 @@ joined a b held fs gs after h k =
     let front : a ≡ concat fs ++ held = h.whole ∙ ap (λ z. concat fs ++ z) (sym h.ends.0) in
     let whole : a ++ b ≡ concat fs ++ (held ++ b) = ap (λ z. z ++ b) front ∙ append_assoc (concat fs) held b in
     record { rest = k.rest; whole = frames_more (a ++ b) fs gs (held ++ b) k.rest whole k.whole; each = each_both fs gs h.each k.each; ends = k.ends }
+
+-- what is wrong with a header stays wrong with more octets behind it
+still_faulty : (rest b : List ℕ) (fault : WireFault) → IsFaulty rest fault → IsFaulty (rest ++ b) fault
+still_faulty rest b (BadVersion v) bad = (omega (arith, bad.0, length-append rest b), version_front rest b bad.0 ∙ bad.1, bad.2)
+still_faulty rest b (BadLength n) bad = (omega (arith, bad.0, length-append rest b), version_front rest b bad.0 ∙ bad.1, length_front rest b bad.0 ∙ bad.2, bad.3)
+still_faulty rest b Short bad = bad
+still_faulty rest b (SetLength at) bad = bad
+still_faulty rest b (SetPastEnd at) bad = bad
+still_faulty rest b (Trailing at) bad = bad
+still_faulty rest b Memory bad = bad
+
+still_failed : (a b : List ℕ) (fs : List (List ℕ)) (fault : WireFault) → IsStream a fs (Failed fault) → IsStream (a ++ b) fs (Failed fault)
+still_failed a b fs fault h = record {
+  rest = h.rest ++ b;
+  whole = ap (λ z. z ++ b) h.whole ∙ append_assoc (concat fs) h.rest b;
+  each = h.each;
+  ends = still_faulty h.rest b fault h.ends;
+}
+
+-- in two pieces as in one
+pub pieces : (a b : List ℕ) (fs gs : List (List ℕ)) (between after : Framing) → IsStream a fs between → Feeds between b gs after → IsStream (a ++ b) (fs ++ gs) after
+pieces a b fs gs (Holds held) after h k = joined a b held fs gs after h k
+pieces a b fs gs (Failed fault) after h k =
+    let same : fs ++ gs ≡ fs = ap (λ z. fs ++ z) k.0 ∙ append-nil fs in
+    subst (λ (z : List (List ℕ)). IsStream (a ++ b) z after) (sym same)
+    (subst (λ (x : Framing). IsStream (a ++ b) fs x) (sym k.1) (still_failed a b fs fault h))

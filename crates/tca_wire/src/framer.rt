@@ -16,8 +16,8 @@ pub struct Framed {
     pub fault: Option<WireFault>,
 }
 
-/// Cuts a stream of messages, one after the other, as a file of RFC 5655 has them, into its messages. Their sets are not
-/// looked at.
+/// Cuts a stream of messages, one after the other, as a file of RFC 5655 has them, into its messages. Their sets are
+/// not looked at.
 #[derive(Drop)]
 pub struct Framer {
     held: Vec<u8>,
@@ -120,8 +120,12 @@ impl Framer {
         self.held.extend_from_slice(octets)?;
         match frames_in(alloc, self.held.as_slice()) {
             Ok((framed, taken)) => {
-                self.held.drain(..taken);
                 self.fault = framed.fault;
+                if framed.fault.is_some() {
+                    self.held = Vec::new(alloc);
+                } else {
+                    self.held.drain(..taken);
+                }
                 Ok(framed)
             }
             Err(fault) => {
@@ -150,8 +154,8 @@ pub fn framing_is_unique()
     ensures unique { (octets : List ℕ) (a b : List (List ℕ)) (x y : Framing) → IsStream octets a x → IsStream octets b y → (a ≡ b) × (x ≡ y) }
 {}
 
-/// The law of pieces: the messages of a stream are those of its front and those of what its front leaves with the rest.
+/// The law of pieces: a stream that comes in two pieces gives what it gives whole, also where its front has a fault.
 pub fn pieces_join()
-    ensures { (a b held : List ℕ) (fs gs : List (List ℕ)) (after : Framing) → IsStream a fs (Holds held) → IsStream (held ++ b) gs after
+    ensures { (a b : List ℕ) (fs gs : List (List ℕ)) (between after : Framing) → IsStream a fs between → Feeds between b gs after
         → IsStream (a ++ b) (fs ++ gs) after }
 {}

@@ -3,10 +3,11 @@
 //! `split_message` finds a message exactly where RFC 7011, section 3, has one, and else names the first fault from the
 //! left. It makes one list, of the sets; the octets stay where they are. Its time goes with the number of sets.
 //!
-//! `Framer` cuts a stream of messages, one after the other, as a file of RFC 5655 has them, into its messages. It makes no
-//! difference how the stream was cut into pieces. Between pieces less than one message is held, in a buffer that has grown
-//! to the longest piece. Each octet is copied into the buffer and out of it, so a stream takes the time of its octets, also
-//! where they come one by one. A length that a header only claims makes no room.
+//! `Framer` cuts a stream of messages, one after the other, as a file of RFC 5655 has them, into its messages. It makes
+//! no difference how the stream was cut into pieces. Between pieces less than one message is held, in a buffer that
+//! grows to the longest piece and what was held before it; behind a fault nothing is held. Each octet is copied into
+//! the buffer and out of it, so a stream takes the time of its octets, also where they come one by one. A length that a
+//! header only claims makes no room.
 //!
 //! - `message`: what a message is; `split`: reading one;
 //! - `framer`: the messages of a stream;
@@ -21,7 +22,7 @@ mod split;
 pub use fault::WireFault;
 pub use framer::{Framed, Framer, framing_is_unique, pieces_join};
 pub use message::{Header, Message, SetSpan};
-pub use split::split_message;
+pub use split::{message_words, split_message};
 
 #[cfg(test)]
 mod tests;

@@ -29,8 +29,11 @@ pub struct SetSpan {
 /// A message: its header, its sets, which fill the octets behind the header, and all its octets.
 #[derive(Drop)]
 pub struct Message<'a> {
+    /// Its header.
     pub header: Header,
+    /// Where its sets lie, in their order.
     pub sets: Vec<SetSpan>,
+    /// Its octets, the 16 of its header with them.
     pub octets: &'a [u8],
     pub ghost whole: { header.length ≡ length octets.now },
     pub ghost room: { 16 ≤ header.length },

@@ -1,5 +1,5 @@
 //! Reading one message.
-ghost use Rattle.std.specs.Prelude.{List, Ok, IfOk, IfErr, IsOk, IsErrOf, ◌≡◌, ◌≢◌, ◌<◌, ◌≤◌, ◌+◌, ◌^◌, length, take};
+ghost use Rattle.std.specs.Prelude.{List, ℕ, Ok, IfOk, IfErr, IsOk, IsErrOf, ◌≡◌, ◌≢◌, ◌<◌, ◌≤◌, ◌+◌, ◌^◌, length, take};
 ghost use Rattle.tca_wire.specs.Walks.{Gives};
 ghost use Rattle.tca_wire.specs.Messages.{judged, judged_header, sets_of, message_of, HasSet, IsMessage};
 ghost use Rattle.tca_wire.specs.declared.message.Header.{Header};
@@ -97,9 +97,9 @@ fn split(alloc: Global, octets: &[u8]) -> Result<Message<'_>, WireFault>
 /// Reads one message from the front (RFC 7011, section 3). What follows its length is left alone.
 ///
 /// The first fault from the left is answered, in this order: fewer than 16 octets `Short`; a version other than 10
-/// `BadVersion`; a length below 16 `BadLength`; fewer octets than the length `Short`; then set by set 1 to 3 octets left
-/// `Trailing`, a length below 4 `SetLength`, a set past the message's end `SetPastEnd`, no memory for the list of sets
-/// `Memory`.
+/// `BadVersion`; a length below 16 `BadLength`; fewer octets than the length `Short`; then set by set 1 to 3 octets
+/// left `Trailing`, a length below 4 `SetLength`, a set past the message's end `SetPastEnd`, no memory for the list of
+/// sets `Memory`.
 pub fn split_message(alloc: Global, octets: &[u8]) -> Result<Message<'_>, WireFault>
     // What is read stands there.
     ensures found { IfOk result (λ m. IsMessage octets.now m.header m.sets.items) }
@@ -115,3 +115,9 @@ pub fn split_message(alloc: Global, octets: &[u8]) -> Result<Message<'_>, WireFa
 {
     split(alloc, octets)
 }
+
+/// The law of messages: what is found from the left is what the grammar of RFC 7011, section 3, has.
+pub fn message_words()
+    ensures found { (octets : List ℕ) (h : Header) (ss : List SetSpan) → message_of octets ≡ Ok (h, ss) → IsMessage octets h ss }
+    ensures only { (octets : List ℕ) (h : Header) (ss : List SetSpan) → IsMessage octets h ss → message_of octets ≡ Ok (h, ss) }
+{}

@@ -5,3 +5,5 @@ pub mod Gathering
 pub mod GatheredLaws
 pub mod MeterLemmas
 pub mod InputLaws
+pub mod NotedLaws
+pub mod BillLemmas

@@ -1,7 +1,7 @@
 -- What command lines mean that are written out.
 use Rattle.std.proofs.Common.{◌≡◌, [], ◌∷◌, Some, None, codes, refl}
 use Rattle.clap.proofs.OnLiterals.{clap_on_literals}
-use Rattle.tcacct.specs.Lines.{meter, combine, order_in}
+use Rattle.tcacct.specs.Lines.{bill, meter, combine, order_in}
 
 pub one_input : order_in (codes "tcacct" ∷ codes "meter" ∷ codes "rfc2697:1000:2000:1000:blind" ∷ codes "a" ∷ []) ≡ Some (meter (codes "rfc2697:1000:2000:1000:blind") (codes "a" ∷ []))
 unfolding clap_on_literals
@@ -27,7 +27,31 @@ pub no_command : order_in (codes "tcacct" ∷ []) ≡ None
 unfolding clap_on_literals
 no_command = refl
 
-pub unknown_command : order_in (codes "tcacct" ∷ codes "bill" ∷ codes "plan" ∷ codes "a" ∷ []) ≡ None
+pub bill_plain : order_in (codes "tcacct" ∷ codes "bill" ∷ codes "plan" ∷ codes "a" ∷ codes "b" ∷ []) ≡ Some (bill None (codes "plan") (codes "a" ∷ codes "b" ∷ []))
+unfolding clap_on_literals
+bill_plain = refl
+
+pub bill_export : order_in (codes "tcacct" ∷ codes "bill" ∷ codes "--export" ∷ codes "o" ∷ codes "plan" ∷ codes "a" ∷ []) ≡ Some (bill (Some (codes "o")) (codes "plan") (codes "a" ∷ []))
+unfolding clap_on_literals
+bill_export = refl
+
+pub export_behind : order_in (codes "tcacct" ∷ codes "bill" ∷ codes "plan" ∷ codes "a" ∷ codes "b" ∷ codes "--export=o" ∷ []) ≡ Some (bill (Some (codes "o")) (codes "plan") (codes "a" ∷ codes "b" ∷ []))
+unfolding clap_on_literals
+export_behind = refl
+
+pub plan_alone : order_in (codes "tcacct" ∷ codes "bill" ∷ codes "plan" ∷ []) ≡ None
+unfolding clap_on_literals
+plan_alone = refl
+
+pub two_exports : order_in (codes "tcacct" ∷ codes "bill" ∷ codes "--export" ∷ codes "o" ∷ codes "--export" ∷ codes "p" ∷ codes "plan" ∷ codes "a" ∷ []) ≡ None
+unfolding clap_on_literals
+two_exports = refl
+
+pub no_workers : order_in (codes "tcacct" ∷ codes "bill" ∷ codes "--workers" ∷ codes "2" ∷ codes "plan" ∷ codes "a" ∷ []) ≡ None
+unfolding clap_on_literals
+no_workers = refl
+
+pub unknown_command : order_in (codes "tcacct" ∷ codes "audit" ∷ codes "plan" ∷ codes "a" ∷ codes "b" ∷ []) ≡ None
 unfolding clap_on_literals
 unknown_command = refl
 

@@ -1,83 +1,70 @@
 -- Metering a list of reports one by one.
-use Rattle.std.proofs.Common.{◌≡◌, ℕ, ◌+◌, ◌*◌, ◌<◌, ◌≤◌, cond, eqb, List, [], ◌∷◌, length, get_or, set, refl, sym, arith, inl, inr}
-use Rattle.std.proofs.lemmas.Bool.Decides.{nat_tests}
-use Rattle.std.proofs.lemmas.Bool.{cases_eq, eq-eqb, ne_eqb}
-use Rattle.std.proofs.lemmas.Cmp.{ranked}
-use Rattle.std.proofs.lemmas.List.{get_or-set_same, get_or-set_other}
-use Rattle.std.proofs.lemmas.List.Sums.{sum_by-cons}
+use Rattle.std.proofs.Common.{◌≡◌, ℕ, ◌<◌, ◌≤◌, ◌^◌, List, [], ◌∷◌, ◌++◌, length, refl, sym, ap, ◌∙◌, arith}
+use Rattle.std.specs.Prelude.{slice_index}
 use Rattle.std.specs.List.{AllByRecursion}
 use Rattle.std.specs.List.Sorted.{IsStrictlySortedBy}
-use Rattle.std.specs.Ordering.{nat_cmp, ordering_then, MatchOrdering}
-use Rattle.std.specs.declared.cmp.Ordering.{Ordering}
-use Rattle.std.specs.declared.cmp.Ordering.TheVariants.{Less, Equal, Greater}
+use Rattle.std.proofs.lemmas.List.{append_assoc, append-nil, length-append}
 use Rattle.tca_report.specs.Reports.{PacketReport, report_cmp}
 use Rattle.tca_meters.specs.declared.colour.Colour.{Colour}
+use Rattle.tca_meters.specs.declared.colour.Colour.TheVariants.{Green}
 use Rattle.tca_meters.specs.Colours.{colour_number}
-use Rattle.tca_meters.specs.Packets.{Rule, coloured}
-use Rattle.tcacct.specs.Totals.{octets_in, packets_in, packet_of}
+use Rattle.tca_meters.specs.Packets.{Rule, coloured, colours}
+use Rattle.tca_accounts.specs.Sums.{ColourSums, packet_of, sums_of, with_packet}
+use Rattle.tca_accounts.proofs.Bills.{coloured_length, from_zero, rest_later}
+use Rattle.tca_accounts.proofs.Counting.{packets_few, sums_push}
 
--- an entry that grows
-pub grown : (xs : List ℕ) (n more k : ℕ) → n < length xs → get_or (set xs n (get_or xs n 0 + more)) k 0 ≡ get_or xs k 0 + cond (eqb n k) more 0
-grown xs n more k h = elim (cases_eq n k) [
-  | inl same ↦ rw (← same, get_or-set_same xs n (get_or xs n 0 + more) 0 h, eq-eqb n n refl) refl
-  | inr apart ↦ rw (get_or-set_other xs n k (get_or xs n 0 + more) 0 (λ e. apart (sym e)), ne_eqb n k apart) (omega arith)
-]
+-- where metering stands before its later reports: the colours so far, and those that the meter gives from here on, are the
+-- whole, and the sums are those of the reports so far
+pub record IsMetering {S : Type 0} (rule : Rule S) (whole : List (PacketReport × Colour)) (later : List PacketReport) (s : S) (last : ℕ) (sums : ColourSums) : Type 0 where
+  pub sofar : List (PacketReport × Colour)
+  pub split : sofar ++ coloured rule (packet_of Green) s last later ≡ whole
+  pub total : sums ≡ sums_of sofar
+  pub limit : length whole ≤ 4194304
+  pub rises : IsStrictlySortedBy report_cmp later
+  pub times : AllByRecursion (λ (r : PacketReport). last ≤ r.time) later
+  pub time : last < 2 ^ 48
 
--- no entry grows past its room
-pub room_more : (xs : List ℕ) (n more k most left all : ℕ) → n < length xs → more ≤ most → get_or xs k 0 + most * (left + 1) ≤ all → get_or (set xs n (get_or xs n 0 + more)) k 0 + most * left ≤ all
-room_more xs n more k most left all h le room =
-    let one = grown xs n more k h in
-    let small : cond (eqb n k) more 0 ≤ most = grind (arith, nat_tests) in
-    let wide : most * (left + 1) ≡ most * left + most = omega arith in
-    omega (arith, room)
+-- before the first report
+pub metering_begun : {S : Type 0} (rule : Rule S) (reports : List PacketReport) (sums : ColourSums) → sums ≡ sums_of [] → IsStrictlySortedBy report_cmp reports → length reports ≤ 4194304
+    → IsMetering rule (colours rule (packet_of Green) reports) reports rule.opening 0 sums
+metering_begun rule reports sums none rises few = record {
+  sofar = [];
+  split = refl;
+  total = none;
+  limit = omega (arith, coloured_length rule (packet_of Green) rule.opening 0 reports, few);
+  rises = rises;
+  times = from_zero reports;
+  time = omega arith;
+}
 
-module _ {S : Type 0} (rule : Rule S) (s : S) (last : ℕ) (r : PacketReport) (rest : List PacketReport) (k : ℕ) (c : Colour) (xs : List ℕ) (total : ℕ) (found : Colour × S)
-    (found-is : found ≡ rule.judged (rule.filled last r.time s) r.octets (packet_of r).pre) (k-is : k ≡ colour_number found.0) (inside : k < length xs) where
-  -- one report more in the sums of octets
-  pub octets_more : get_or xs (colour_number c) 0 + octets_in c (coloured rule packet_of s last (r ∷ rest)) ≡ total
-      → get_or (set xs k (get_or xs k 0 + r.octets)) (colour_number c) 0 + octets_in c (coloured rule packet_of found.1 r.time rest) ≡ total
+module _ {S : Type 0} (rule : Rule S) (whole : List (PacketReport × Colour)) (s : S) (last : ℕ) (sums : ColourSums) where
+  -- before another report there is room for it
+  pub room : (r : PacketReport) (rest : List PacketReport) → IsMetering rule whole (r ∷ rest) s last sums → (c : Colour) → slice_index sums.packets (colour_number c) < 4194304
+  room r rest m c =
+      let split = ap length m.split in
+      let all = length-append m.sofar (coloured rule (packet_of Green) s last (r ∷ rest)) in
+      let left = coloured_length rule (packet_of Green) s last (r ∷ rest) in
+      let few : length m.sofar < 4194304 = omega (arith, split, all, left, m.limit) in
+      rw m.total (omega (arith, packets_few c m.sofar))
+
+  -- that report in the sums
+  pub metering_more : (r : PacketReport) (rest : List PacketReport) (found : Colour × S) → found ≡ rule.judged (rule.filled last r.time s) r.octets (packet_of Green r).pre
+      → r.time < 2 ^ 48 → IsMetering rule whole (r ∷ rest) s last sums → IsMetering rule whole rest found.1 r.time (with_packet found.0 r.octets sums)
   unfolding coloured
-  octets_more so_far =
-      let f = λ (p : PacketReport × Colour). cond (eqb (colour_number p.1) (colour_number c)) p.0.octets 0 in
-      let after = coloured rule packet_of found.1 r.time rest in
-      let split : octets_in c (coloured rule packet_of s last (r ∷ rest)) ≡ cond (eqb k (colour_number c)) r.octets 0 + octets_in c after =
-      rw (k-is, found-is) (sum_by-cons f (r, (rule.judged (rule.filled last r.time s) r.octets (packet_of r).pre).0) (coloured rule packet_of (rule.judged (rule.filled last r.time s) r.octets (packet_of r).pre).1 r.time rest)) in
-      omega (arith, grown xs k r.octets (colour_number c) inside, split, so_far)
+  metering_more r rest found is time m =
+      let pair : PacketReport × Colour = (r, found.0) in
+      let after = rest_later r rest m.rises in
+      record {
+        sofar = m.sofar ++ pair ∷ [];
+        split = append_assoc m.sofar (pair ∷ []) _ ∙ rw is m.split;
+        total = ap (with_packet found.0 r.octets) m.total ∙ sym (sums_push m.sofar r found.0);
+        limit = m.limit;
+        rises = after.1;
+        times = after.0;
+        time = time;
+      }
 
-  -- and in the counts of packets
-  pub packets_more : get_or xs (colour_number c) 0 + packets_in c (coloured rule packet_of s last (r ∷ rest)) ≡ total
-      → get_or (set xs k (get_or xs k 0 + 1)) (colour_number c) 0 + packets_in c (coloured rule packet_of found.1 r.time rest) ≡ total
+  -- once no report is left the sums are whole
+  pub metering_done : IsMetering rule whole [] s last sums → sums ≡ sums_of whole
   unfolding coloured
-  packets_more so_far =
-      let f : PacketReport × Colour → ℕ = λ p. cond (eqb (colour_number p.1) (colour_number c)) 1 0 in
-      let after = coloured rule packet_of found.1 r.time rest in
-      let split : packets_in c (coloured rule packet_of s last (r ∷ rest)) ≡ cond (eqb k (colour_number c)) 1 0 + packets_in c after =
-      rw (k-is, found-is) (sum_by-cons f (r, (rule.judged (rule.filled last r.time s) r.octets (packet_of r).pre).0) (coloured rule packet_of (rule.judged (rule.filled last r.time s) r.octets (packet_of r).pre).1 r.time rest)) in
-      omega (arith, grown xs k 1 (colour_number c) inside, split, so_far)
-
--- once no report is left the sums are whole
-pub whole : {S : Type 0} (rule : Rule S) (s : S) (last : ℕ) (left : List PacketReport) (c : Colour) (n m total total' : ℕ) → left ≡ []
-    → n + octets_in c (coloured rule packet_of s last left) ≡ total → m + packets_in c (coloured rule packet_of s last left) ≡ total' → (n ≡ total) × (m ≡ total')
-unfolding coloured
-whole rule s last left c n m total total' none octets packets =
-    let a : n + 0 ≡ total = (rw none at octets) in
-    let b : m + 0 ≡ total' = (rw none at packets) in
-    (omega (arith, a), omega (arith, b))
-
-first_less : (o p : Ordering) (m n : ℕ) → MatchOrdering o (m < n) (m ≡ n) (n < m) → ordering_then o p ≡ Less → m ≤ n
-first_less Less p m n h e = omega arith
-first_less Equal p m n h e = omega arith
-first_less Greater p m n h e = absurd cc
-
--- times don't fall from a report to one above it
-no_earlier : (a b : PacketReport) → report_cmp a b ≡ Less → a.time ≤ b.time
-no_earlier a b h = first_less (nat_cmp a.time b.time) _ a.time b.time (ranked a.time b.time (nat_cmp a.time b.time) refl) h
-
-all_more : {K : Type 0} (P Q : K → Type 0) → ((x : K) → P x → Q x) → (xs : List K) → AllByRecursion P xs → AllByRecursion Q xs
-all_more P Q f [] h = tt
-all_more P Q f (x ∷ xs) h = (f x h.0, all_more P Q f xs h.1)
-
--- of a list that rises, the reports after the first aren't earlier than it, and rise
-pub rest_later : (r : PacketReport) (rest : List PacketReport) → IsStrictlySortedBy report_cmp (r ∷ rest) → AllByRecursion (λ (q : PacketReport). r.time ≤ q.time) rest × IsStrictlySortedBy report_cmp rest
-unfolding IsStrictlySortedBy
-rest_later r rest h = (all_more (λ q. report_cmp r q ≡ Less) (λ q. r.time ≤ q.time) (no_earlier r) rest h.0, h.1)
+  metering_done m = m.total ∙ ap sums_of (sym (append-nil m.sofar) ∙ m.split)

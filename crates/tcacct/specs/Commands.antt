@@ -21,9 +21,19 @@ meter_command = with_rule (with_rule (new_app (codes "meter")) (one_word (codes 
 abbrev pub combine_command : App
 combine_command = with_rule (with_rule (new_app (codes "combine")) (one_word (codes "OUT"))) (many_words (codes "INPUT") 4294967295)
 
+-- `--id WORD`, which may be left out; help has a name of its own for the word
+abbrev pub option_word : Text → Rule
+option_word id = record (new_rule id) { long = Some id; value_names = 1 }
+
+-- `bill [--export OUT] PLAN INPUT...`, with fewer than 2^32 inputs
+abbrev pub bill_command : App
+bill_command =
+    with_rule (with_rule (with_rule (new_app (codes "bill")) (option_word (codes "export"))) (one_word (codes "PLAN")))
+    (many_words (codes "INPUT") 4294967295)
+
 -- the program's name, then one of its commands
 abbrev pub program : App
-program = with_subcommand (with_subcommand required_command meter_command.top) combine_command.top
+program = with_subcommand (with_subcommand (with_subcommand required_command meter_command.top) combine_command.top) bill_command.top
   where
     required_command : App
     required_command = record (new_app (codes "tcacct")) { top = record (new_app (codes "tcacct")).top { subcommand_required = true } }

@@ -1,16 +1,19 @@
 -- What the words of a command line ask for, by clap's meaning of the commands.
-use Rattle.std.specs.Prelude.{List, [], ◌∷◌, Option, None, codes, map, option_and_then, option_map, if◌then◌else◌}
+use Rattle.std.specs.Prelude.{ℕ, List, [], ◌∷◌, Option, None, codes, map, option_and_then, option_map, if◌then◌else◌}
 use Rattle.std.specs.Borrow.{Bor}
 use Rattle.std.specs.Str.{bytes_eq}
 use Rattle.clap.specs.Words.{Kinds, Row, Text, all_of, fault_of, first_of, subcommand_of}
 use Rattle.tcacct.specs.Commands.{program}
 use Rattle.tcacct.specs.declared.line.Line.{Line}
 use Rattle.tcacct.specs.declared.line.Line.TheVariants as line
+use Rattle.tcacct.specs.declared.line.LineFault.{LineFault}
+use Rattle.tcacct.specs.declared.line.LineFault.TheVariants.{Usage, Help, Memory}
 
 -- a command line that was read, with texts in the place of references
 pub data Order : Type 0 where
   meter : (spec : Text) → (inputs : List Text) → Order
   combine : (out : Text) → (inputs : List Text) → Order
+  bill : (export : Option Text) → (plan : Text) → (inputs : List Text) → Order
 
 abbrev pub texts : List (Bor Text) → List Text
 texts = map (λ s. s.now)
@@ -18,6 +21,7 @@ texts = map (λ s. s.now)
 abbrev pub order_of : Line → Order
 order_of (line.Meter spec inputs) = meter spec.now (texts inputs.items)
 order_of (line.Combine out inputs) = combine out.now (texts inputs.items)
+order_of (line.Bill export plan inputs) = bill (option_map (λ s. s.now) export) plan.now (texts inputs.items)
 
 abbrev pub meter_of : List Row → Option Order
 meter_of rows = option_and_then (λ spec. option_map (λ inputs. meter spec inputs)
@@ -27,11 +31,16 @@ abbrev pub combine_of : List Row → Option Order
 combine_of rows = option_and_then (λ out. option_map (λ inputs. combine out inputs)
     (all_of (codes "INPUT") rows)) (first_of (codes "OUT") rows)
 
+abbrev pub bill_of : List Row → Option Order
+bill_of rows = option_and_then (λ plan. option_map (λ inputs. bill (first_of (codes "export") rows) plan inputs)
+    (all_of (codes "INPUT") rows)) (first_of (codes "PLAN") rows)
+
 -- the order that a command's matches give
 abbrev pub order_from : Text → List Row → Option Order
 order_from name rows =
     if bytes_eq name (codes "meter") then meter_of rows
-    else (if bytes_eq name (codes "combine") then combine_of rows else None)
+    else (if bytes_eq name (codes "combine") then combine_of rows
+    else (if bytes_eq name (codes "bill") then bill_of rows else None))
 
 -- none where clap has a fault to find
 abbrev pub order_met : Kinds → Option (Text × List Row) → Option Order
@@ -41,3 +50,9 @@ order_met (k ∷ ks) met = None
 -- the order that the words give, the program's own name first
 abbrev pub order_in : List Text → Option Order
 order_in words = order_met (fault_of program words) (subcommand_of program words)
+
+-- the number of each fault
+abbrev pub line_number : LineFault → ℕ
+line_number (Usage text) = 1
+line_number (Help text) = 2
+line_number Memory = 3

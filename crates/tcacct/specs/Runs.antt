@@ -1,7 +1,9 @@
 -- What the inputs of a command hold together, and what they are refused for.
-use Rattle.std.specs.Prelude.{◌≡◌, ◌==◌, ℕ, ◌+◌, Bool, true, false, ◌||◌, ◌&&◌, List, [], ◌∷◌, ◌++◌, length, Option, Some, Result, Ok, Err, nat_lt, if◌then◌else◌}
+use Rattle.std.specs.Prelude.{◌≡◌, ◌==◌, ℕ, ◌+◌, ◌<◌, Bool, true, false, ◌||◌, ◌&&◌, List, [], ◌∷◌, ◌++◌, length, take, Option, Some, is_none, is_some, Result, Ok, Err, nat_lt, if◌then◌else◌}
+use Rattle.std.specs.Io.KnownBytes.{Appends}
 use Rattle.std.specs.List.{flat_map}
 use Rattle.tca_join.specs.Sets.{in_order}
+use Rattle.tca_report.specs.Devices.{Rises}
 use Rattle.tca_report.specs.Reports.{PacketReport, report_cmp}
 use Rattle.tca_wire.specs.Faults.{wire_number}
 use Rattle.tca_templates.specs.Faults.{decode_number}
@@ -71,6 +73,7 @@ abbrev pub is_family : Family → Family → Bool
 is_family family.Export family.Export = true
 is_family family.Wire family.Wire = true
 is_family family.Decode family.Decode = true
+is_family family.Plan family.Plan = true
 is_family family.Log family.Log = true
 is_family family.Memory family.Memory = true
 is_family family.Write family.Write = true
@@ -78,9 +81,13 @@ is_family family.Spec family.Spec = true
 is_family family.Read family.Read = true
 is_family _ _ = false
 
--- want of memory: a family of its own, and 2 among the faults of logs
+-- want of memory: number 1 of a family of its own, number 2 of the log as it takes an input, and number 8 of the plan, which is
+-- no input
 abbrev pub wants_memory : RunFault → Bool
-wants_memory e = is_family e.family family.Memory || (is_family e.family family.Log && (e.number == 2))
+wants_memory e =
+    (is_family e.family family.Memory && (e.number == 1))
+    || ((is_family e.family family.Log && ((e.number == 2) && is_some e.input))
+    || (is_family e.family family.Plan && ((e.number == 8) && is_none e.input)))
 
 -- a refusal is the one that was to come, unless memory ran out
 abbrev pub IsRefusedAs : {A : Type 0} → RunFault → Result A RunFault → Type 0
@@ -89,3 +96,10 @@ IsRefusedAs e said = wants_memory e ≡ false → said ≡ Err e
 -- a write that failed
 abbrev pub is_write : RunFault → Bool
 is_write e = is_family e.family family.Write
+
+-- a write of these octets failed: fewer than all of them went out, and the count of failures rises
+pub record IsCutOff (octets : List ℕ) (old new : Option (List ℕ)) (failures_old failures_new : ℕ) : Type 0 where
+  pub count : ℕ
+  pub short : count < length octets
+  pub went : Appends old new (take count octets)
+  pub counted : Rises failures_old failures_new

@@ -1,8 +1,9 @@
+//! The command `combine`.
 ghost use Rattle.std.specs.Prelude.{◌≡◌, ◌<◌, ◌≤◌, ◌^◌, ◌⊎◌, Ok, [], OnOk, IfOk, IfErr, MatchResult, true, false, length, map, string_bytes};
 ghost use Rattle.std.specs.List.Sorted.{IsStrictlySortedBy};
 ghost use Rattle.tca_report.specs.Devices.{Rises};
 ghost use Rattle.tca_report.specs.Reports.{report_cmp};
-ghost use Rattle.tcacct.specs.Combined.{IsCombined};
+ghost use Rattle.tcacct.specs.Combined.{IsCombined, IsCombiningCutOff};
 ghost use Rattle.tcacct.specs.Texts.{combine_text};
 ghost use Rattle.tcacct.specs.Runs.{IsRefusedAs, IsUnion, gathered, is_write};
 
@@ -13,8 +14,8 @@ use std::alloc::{AllocError, Global};
 use tca_log::Log;
 use tca_report::{Report, Write, put_all, write_export};
 
-// The reports of a log as one list, since an export is written from a list.
-fn listed(alloc: Global, log: &Log) -> Result<Vec<Report>, AllocError>
+/// The reports of a log as one list, since an export is written from a list.
+pub(crate) fn listed(alloc: Global, log: &Log) -> Result<Vec<Report>, AllocError>
     ensures all { IfOk result (λ list. list.items ≡ log.now) }
     ensures rises { OnOk result (IsStrictlySortedBy report_cmp log.now) }
     ensures limit { OnOk result (length log.now ≤ 4194304) }
@@ -55,6 +56,8 @@ fn union_of(alloc: Global, inputs: &[Vec<u8>]) -> Result<(Vec<Report>, String), 
 /// how many there are to `out`.
 ///
 /// A refusal but that of a write leaves both as they were; all memory is taken before the first write.
+/// That of a write says that only a part of the export went out and nothing of the line, or all of the
+/// export and only a part of the line.
 pub fn run_combine<W: Write, V: Write>(
     alloc: Global,
     inputs: &[Vec<u8>],
@@ -64,6 +67,7 @@ pub fn run_combine<W: Write, V: Write>(
     requires { length inputs.now < 2 ^ 32 }
     ensures found { OnOk result (IsCombined (map (λ v. v.items) inputs.now)
         (V.written export.old) (V.written export.new) (W.written out.old) (W.written out.new)) }
+    ensures calm { OnOk result ((V.failures export.new ≡ V.failures export.old) × (W.failures out.new ≡ W.failures out.old)) }
     ensures refused { IfErr result (λ e. is_write e ≡ false
         → IsRefusedAs e (gathered 0 [] (map (λ v. v.items) inputs.now))) }
     ensures untouched { IfErr result (λ e. is_write e ≡ false
@@ -72,6 +76,10 @@ pub fn run_combine<W: Write, V: Write>(
         → (V.failures export.new ≡ V.failures export.old) × (W.failures out.new ≡ W.failures out.old)) }
     ensures failed { IfErr result (λ e. is_write e ≡ true
         → Rises (V.failures export.old) (V.failures export.new) ⊎ Rises (W.failures out.old) (W.failures out.new)) }
+    ensures cut_off { IfErr result (λ e. is_write e ≡ true
+        → IsCombiningCutOff (map (λ v. v.items) inputs.now)
+        (V.written export.old) (V.written export.new) (V.failures export.old) (V.failures export.new)
+        (W.written out.old) (W.written out.new) (W.failures out.old) (W.failures out.new) e) }
 {
     let (reports, line) = match union_of(alloc, inputs) {
         Ok(found) => found,

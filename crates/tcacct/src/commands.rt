@@ -1,7 +1,8 @@
+//! The commands of the program, for `clap`.
 ghost use Rattle.std.specs.Prelude.{◌≡◌, ◌≤◌, IfOk, false};
 ghost use Rattle.clap.specs.Words.{app_of, rule_of};
 ghost use Rattle.clap.specs.declared.builder.command.Command.TheViews.{out-Command as fields_of};
-ghost use Rattle.tcacct.specs.Commands.{many_words, one_word, combine_command, meter_command, program};
+ghost use Rattle.tcacct.specs.Commands.{many_words, one_word, option_word, bill_command, combine_command, meter_command, program};
 
 use clap::{Arg, Command};
 use std::alloc::{AllocError, Global};
@@ -41,6 +42,18 @@ read before OUT is made, so OUT may be one of them.
 
 Example: tcacct combine week.tcax monday.tcax tuesday.tcax";
 
+const BILL: &str =
+    "Prints the statement of the inputs' union under PLAN: for each account the octets and
+packets of each colour, in all and by period";
+
+const BILL_AFTER: &str =
+    "An input is a log export or a capture, as `tcacct meter --help` says. All files are read
+before OUT is made, so OUT may be one of them. For each capture with records that are no
+reports, messages with a set of an unknown template, or skipped sets, a line on standard
+error says how many of each.
+
+Example: tcacct bill --export week.tcax plan.toml monday.tcax tuesday.tcax";
+
 fn one_word<'a>(alloc: Global, id: &'a str, help: &'a str) -> Arg<'a>
     ensures rule { rule_of result ≡ one_word id.entry.now }
     ensures local { result.global ≡ false }
@@ -57,6 +70,13 @@ fn many_words<'a>(alloc: Global, id: &'a str, most: usize, help: &'a str) -> Arg
         .required(true)
         .num_args(1..=most)
         .help(help)
+}
+
+fn option_word<'a>(alloc: Global, id: &'a str, name: &'a str, help: &'a str) -> Arg<'a>
+    ensures rule { rule_of result ≡ option_word id.entry.now }
+    ensures local { result.global ≡ false }
+{
+    Arg::new(alloc, id).long(id).value_name(name).help(help)
 }
 
 fn meter<'a>(alloc: Global) -> Result<Command<'a>, AllocError>
@@ -83,6 +103,19 @@ fn combine<'a>(alloc: Global) -> Result<Command<'a>, AllocError>
     Ok(command.arg(out)?.arg(inputs)?)
 }
 
+fn bill<'a>(alloc: Global) -> Result<Command<'a>, AllocError>
+    ensures { IfOk result (λ c. (app_of c ≡ bill_command)
+        × ((fields_of c).has_globals ≡ false)) }
+{
+    let export = option_word(alloc, "export", "OUT", "a file for the export of the union");
+    let plan = one_word(alloc, "PLAN", "the plan, a TOML file");
+    let inputs = many_words(alloc, "INPUT", 4_294_967_295, "files of reports");
+    let command = Command::new(alloc, "bill")
+        .about(BILL)
+        .after_help(BILL_AFTER);
+    Ok(command.arg(export)?.arg(plan)?.arg(inputs)?)
+}
+
 /// The program's command line, for clap.
 pub(crate) fn program<'a>(alloc: Global) -> Result<Command<'a>, AllocError>
     ensures { IfOk result (λ c. app_of c ≡ program) }
@@ -92,5 +125,6 @@ pub(crate) fn program<'a>(alloc: Global) -> Result<Command<'a>, AllocError>
         .after_help(AFTER)
         .subcommand_required(true);
     let command = command.subcommand(meter(alloc)?)?;
-    Ok(command.subcommand(combine(alloc)?)?)
+    let command = command.subcommand(combine(alloc)?)?;
+    Ok(command.subcommand(bill(alloc)?)?)
 }

@@ -1,10 +1,13 @@
+//! Why a command was refused.
 ghost use Rattle.std.specs.Prelude.{◌≡◌, Some, None};
 ghost use Rattle.tca_log.specs.Faults.{fault_number};
 ghost use Rattle.tca_meters.specs.MeterSpecs.{spec_number};
+ghost use Rattle.tca_accounts.specs.Faults.{plan_number};
 ghost use Rattle.tcacct.specs.Runs.{refusal, input_refusal};
 ghost use Rattle.tcacct.specs.declared.fault.Family.TheVariants as family;
 
 use std::fmt;
+use tca_accounts::PlanFault;
 use tca_log::LogFault;
 use tca_meters::SpecFault;
 use tca_report::InputFault;
@@ -20,6 +23,8 @@ pub enum Family {
     Wire,
     /// A capture with a fault in a template or in a data record.
     Decode,
+    /// A plan.
+    Plan,
     /// A meter's spec.
     Spec,
     /// A log that is full, or finds no memory.
@@ -37,6 +42,7 @@ impl fmt::Display for Family {
             Family::Export => "export",
             Family::Wire => "wire",
             Family::Decode => "decode",
+            Family::Plan => "plan",
             Family::Spec => "spec",
             Family::Log => "log",
             Family::Write => "write",
@@ -74,6 +80,17 @@ impl RunFault {
             input: None,
             family: Family::Write,
             number: 1,
+        }
+    }
+
+    /// A text that is no plan, or that found no memory.
+    pub(crate) fn plan(fault: PlanFault) -> RunFault
+        ensures { result ≡ refusal None family.Plan (plan_number fault) }
+    {
+        RunFault {
+            input: None,
+            family: Family::Plan,
+            number: fault.number(),
         }
     }
 

@@ -1,4 +1,5 @@
-ghost use Rattle.std.specs.Prelude.{◌<◌, ◌^◌, IfOk, length};
+//! The files that a command line names.
+ghost use Rattle.std.specs.Prelude.{◌≡◌, ◌<◌, ◌^◌, IfOk, length};
 
 use crate::fault::{Family, RunFault};
 use std::fs;
@@ -17,12 +18,25 @@ fn read_file<R: Files + AllocGlobal>(rt: &R, path: &str) -> Result<Vec<u8>, u8> 
     }
 }
 
+/// The octets of a plan's file.
+pub(crate) fn read_plan<R: Files + AllocGlobal>(rt: &R, path: &str) -> Result<Vec<u8>, RunFault> {
+    match read_file(rt, path) {
+        Ok(octets) => Ok(octets),
+        Err(number) => Err(RunFault {
+            input: None,
+            family: Family::Read,
+            number,
+        }),
+    }
+}
+
 /// The octets of the files, in order; the first one that can't be read refuses all.
 pub(crate) fn read_files<R: Files + AllocGlobal>(
     rt: &R,
     paths: &[&str],
 ) -> Result<Vec<Vec<u8>>, RunFault>
-    ensures { IfOk result (λ inputs. length inputs.items < 2 ^ 32) }
+    ensures few { IfOk result (λ inputs. length inputs.items < 2 ^ 32) }
+    ensures each { IfOk result (λ inputs. length inputs.items ≡ length paths.now) }
 {
     // The command line takes no more words than that.
     if paths.len() > u32::MAX as usize {

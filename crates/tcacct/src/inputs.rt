@@ -1,39 +1,67 @@
+//! The inputs of a command, gathered one by one.
 ghost use Rattle.std.specs.Prelude.{◌≡◌, ◌<◌, ◌^◌, ◌++◌, List, Ok, [], IfErr, IfOk, OnOk, false, length, map, MatchResult};
 ghost use Rattle.std.specs.List.Sorted.{IsStrictlySortedBy};
 ghost use Rattle.tca_join.specs.Sets.{in_order};
 ghost use Rattle.tca_report.specs.Reports.{PacketReport, report_cmp};
 ghost use Rattle.tca_report.specs.Inputs.{input_of};
+ghost use Rattle.tcacct.specs.Noted.{AreNotes, IsNoted};
 ghost use Rattle.tcacct.specs.Runs.{IsRefusedAs, IsUnion, Says, gathered, is_write, with_input};
 
 use crate::fault::RunFault;
 use std::alloc::Global;
 use tca_log::Log;
-use tca_report::gather;
+use tca_report::{Notes, gather};
 
-// Adds the reports of input `n`.
-fn add_input(alloc: Global, n: u32, octets: &[u8], log: &mut Log) -> Result<(), RunFault>
+// Adds the reports of input `n`, and answers its notes.
+fn add_input(alloc: Global, n: u32, octets: &[u8], log: &mut Log) -> Result<Notes, RunFault>
     ensures exact { MatchResult result (λ _. with_input n log.old (input_of octets.now) ≡ Ok log.new)
         (λ e. IsRefusedAs e (with_input n log.old (input_of octets.now))) }
     ensures found { OnOk result ((rs : List PacketReport) × Says octets.now rs
         × (log.new ≡ in_order report_cmp (log.old ++ rs))) }
     ensures no_write { IfErr result (λ e. is_write e ≡ false) }
     ensures rises { OnOk result (IsStrictlySortedBy report_cmp log.new) }
+    ensures noted { IfOk result (λ notes. IsNoted octets.now notes) }
 {
     let gathered = match gather(alloc, octets) {
         Ok(gathered) => gathered,
         Err(fault) => return Err(RunFault::input(n, fault)),
     };
-    match log.add_all(&gathered.reports) {
+    match log.add_all(gathered.reports) {
         Ok(_) => {
             let _reports = log.reports();
-            Ok(())
+            Ok(gathered.notes)
         }
         Err(fault) => Err(RunFault::log(n, fault)),
     }
 }
 
-/// The union of the inputs' reports, each input gathered and added before the next is looked at. The
-/// first input that has a fault, or whose reports the log doesn't take, refuses all.
+/// The union of the inputs' reports, and the notes of each input, in order. Each input is gathered and
+/// added before the next is looked at. The first input that has a fault, or whose reports the log
+/// doesn't take, refuses all.
+pub fn gather_noted(alloc: Global, inputs: &[Vec<u8>]) -> Result<(Log, Vec<Notes>), RunFault>
+    requires { length inputs.now < 2 ^ 32 }
+    ensures found { IfOk result (λ x. IsUnion (map (λ v. v.items) inputs.now) x.0) }
+    ensures noted { IfOk result (λ x. AreNotes (map (λ v. v.items) inputs.now) x.1.items) }
+    ensures no_write { IfErr result (λ e. is_write e ≡ false) }
+    ensures exact { MatchResult result (λ x. gathered 0 [] (map (λ v. v.items) inputs.now) ≡ Ok x.0)
+        (λ e. IsRefusedAs e (gathered 0 [] (map (λ v. v.items) inputs.now))) }
+{
+    let mut log = Log::new(alloc);
+    let mut all = Vec::new(alloc);
+    for (n, input) in inputs.iter().enumerate() {
+        match add_input(alloc, n as u32, input, &mut log) {
+            Ok(notes) => {
+                if all.push(notes).is_err() {
+                    return Err(RunFault::memory());
+                }
+            }
+            Err(fault) => return Err(fault),
+        }
+    }
+    Ok((log, all))
+}
+
+/// The union of the inputs' reports, as `gather_noted` gives it.
 pub fn gather_all(alloc: Global, inputs: &[Vec<u8>]) -> Result<Log, RunFault>
     requires { length inputs.now < 2 ^ 32 }
     ensures found { IfOk result (λ log. IsUnion (map (λ v. v.items) inputs.now) log) }
@@ -41,11 +69,8 @@ pub fn gather_all(alloc: Global, inputs: &[Vec<u8>]) -> Result<Log, RunFault>
     ensures exact { MatchResult result (λ log. gathered 0 [] (map (λ v. v.items) inputs.now) ≡ Ok log)
         (λ e. IsRefusedAs e (gathered 0 [] (map (λ v. v.items) inputs.now))) }
 {
-    let mut log = Log::new(alloc);
-    for (n, input) in inputs.iter().enumerate() {
-        if let Err(fault) = add_input(alloc, n as u32, input, &mut log) {
-            return Err(fault);
-        }
+    match gather_noted(alloc, inputs) {
+        Ok((log, _)) => Ok(log),
+        Err(fault) => Err(fault),
     }
-    Ok(log)
 }

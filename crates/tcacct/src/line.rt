@@ -1,6 +1,7 @@
+//! The words of a command line.
 ghost use Rattle.std.specs.Prelude.{◌≡◌, ◌≢◌, ◌∷◌, [], IfOk, IfErr, Some, None, codes, map, option_map};
 ghost use Rattle.clap.specs.Words.{all_of, first_of, found_of, kind_of, rows_of};
-ghost use Rattle.tcacct.specs.Lines.{combine, combine_of, meter, meter_of, order_from, order_in, order_of, texts};
+ghost use Rattle.tcacct.specs.Lines.{bill, bill_of, combine, combine_of, line_number, meter, meter_of, order_from, order_in, order_of, texts};
 
 use crate::commands;
 use clap::ArgMatches;
@@ -8,11 +9,22 @@ use clap::error::ErrorKind;
 use std::alloc::{AllocError, Global};
 use thiserror::Error;
 
-/// What the words of a command line ask for. Inputs and OUT are paths.
+/// What the words of a command line ask for. Inputs, OUT, PLAN and the file of an export are paths.
 #[derive(Debug, Drop)]
 pub enum Line<'a> {
-    Meter { spec: &'a str, inputs: Vec<&'a str> },
-    Combine { out: &'a str, inputs: Vec<&'a str> },
+    Meter {
+        spec: &'a str,
+        inputs: Vec<&'a str>,
+    },
+    Combine {
+        out: &'a str,
+        inputs: Vec<&'a str>,
+    },
+    Bill {
+        export: Option<&'a str>,
+        plan: &'a str,
+        inputs: Vec<&'a str>,
+    },
 }
 
 /// Why the words of a command line ask for nothing.
@@ -26,6 +38,19 @@ pub enum LineFault {
     Help { text: String },
     #[error("no memory is left")]
     Memory,
+}
+
+impl LineFault {
+    /// The number of the fault, from 1.
+    pub fn number(&self) -> u8
+        ensures { result ≡ line_number self.now }
+    {
+        match self {
+            LineFault::Usage { .. } => 1,
+            LineFault::Help { .. } => 2,
+            LineFault::Memory => 3,
+        }
+    }
 }
 
 fn text<'a>(matches: &ArgMatches<'a>, id: &str) -> Option<&'a str>
@@ -76,6 +101,23 @@ fn combine_line<'a>(alloc: Global, matches: &ArgMatches<'a>) -> Result<Option<Li
     Ok(Some(Line::Combine { out, inputs }))
 }
 
+fn bill_line<'a>(alloc: Global, matches: &ArgMatches<'a>) -> Result<Option<Line<'a>>, AllocError>
+    ensures { IfOk result (λ o. option_map order_of o ≡ bill_of (rows_of (found_of matches.now))) }
+{
+    let Some(plan) = text(matches, "PLAN") else {
+        return Ok(None);
+    };
+    let Some(inputs) = texts(alloc, matches, "INPUT")? else {
+        return Ok(None);
+    };
+    let export = text(matches, "export");
+    Ok(Some(Line::Bill {
+        export,
+        plan,
+        inputs,
+    }))
+}
+
 fn line_from<'a>(
     alloc: Global,
     name: &str,
@@ -87,6 +129,7 @@ fn line_from<'a>(
     match name {
         "meter" => meter_line(alloc, matches),
         "combine" => combine_line(alloc, matches),
+        "bill" => bill_line(alloc, matches),
         _ => Ok(None),
     }
 }
@@ -151,7 +194,16 @@ pub fn written_out()
         ≡ Some (combine (codes "-o") (codes "-a" ∷ [])) }
     ensures no_words { order_in ([]) ≡ None }
     ensures no_command { order_in (codes "tcacct" ∷ []) ≡ None }
-    ensures unknown_command { order_in (codes "tcacct" ∷ codes "bill" ∷ codes "plan" ∷ codes "a" ∷ []) ≡ None }
+    ensures bill { order_in (codes "tcacct" ∷ codes "bill" ∷ codes "plan" ∷ codes "a" ∷ codes "b" ∷ [])
+        ≡ Some (bill None (codes "plan") (codes "a" ∷ codes "b" ∷ [])) }
+    ensures bill_export { order_in (codes "tcacct" ∷ codes "bill" ∷ codes "--export" ∷ codes "o" ∷ codes "plan" ∷ codes "a" ∷ [])
+        ≡ Some (bill (Some (codes "o")) (codes "plan") (codes "a" ∷ [])) }
+    ensures export_behind { order_in (codes "tcacct" ∷ codes "bill" ∷ codes "plan" ∷ codes "a" ∷ codes "b" ∷ codes "--export=o" ∷ [])
+        ≡ Some (bill (Some (codes "o")) (codes "plan") (codes "a" ∷ codes "b" ∷ [])) }
+    ensures plan_alone { order_in (codes "tcacct" ∷ codes "bill" ∷ codes "plan" ∷ []) ≡ None }
+    ensures two_exports { order_in (codes "tcacct" ∷ codes "bill" ∷ codes "--export" ∷ codes "o" ∷ codes "--export" ∷ codes "p" ∷ codes "plan" ∷ codes "a" ∷ []) ≡ None }
+    ensures no_workers { order_in (codes "tcacct" ∷ codes "bill" ∷ codes "--workers" ∷ codes "2" ∷ codes "plan" ∷ codes "a" ∷ []) ≡ None }
+    ensures unknown_command { order_in (codes "tcacct" ∷ codes "audit" ∷ codes "plan" ∷ codes "a" ∷ codes "b" ∷ []) ≡ None }
     ensures no_input { order_in (codes "tcacct" ∷ codes "meter" ∷ codes "s" ∷ []) ≡ None }
     ensures third_input { order_in (codes "tcacct" ∷ codes "meter" ∷ codes "s" ∷ codes "a" ∷ codes "b" ∷ codes "c" ∷ []) ≡ None }
     ensures no_file { order_in (codes "tcacct" ∷ codes "combine" ∷ codes "o" ∷ []) ≡ None }

@@ -1,19 +1,46 @@
-ghost use Rattle.std.specs.Prelude.{◌≡◌, ◌<◌, ◌^◌, List, Ok, OnOk, IfOk, IfErr, MatchResult, true, false, length, map, string_bytes};
+//! The command `meter`.
+ghost use Rattle.std.specs.Prelude.{◌≡◌, ◌<◌, ◌≤◌, ◌^◌, List, Ok, OnOk, IfOk, IfErr, MatchResult, true, false, length, map, string_bytes};
 ghost use Rattle.tca_report.specs.Devices.{Rises};
-ghost use Rattle.tca_report.specs.Reports.{PacketReport};
+ghost use Rattle.std.specs.List.Sorted.{IsStrictlySortedBy};
+ghost use Rattle.tca_report.specs.Reports.{PacketReport, report_cmp};
 ghost use Rattle.tca_meters.specs.declared.any_meter.AnyMeter.{AnyMeter};
+ghost use Rattle.tca_meters.specs.declared.colour.Colour.TheVariants.{Green};
 ghost use Rattle.tca_meters.specs.MeterSpecs.{spec_in};
-ghost use Rattle.tcacct.specs.Metered.{IsMetered, metered_lines, metering};
+ghost use Rattle.tca_meters.specs.Packets.{colours};
+ghost use Rattle.tca_accounts.specs.Sums.{packet_of, sums_of};
+ghost use Rattle.tcacct.specs.Metered.{IsMetered, IsMeteringCutOff, metered_lines, metering};
 ghost use Rattle.tcacct.specs.Runs.{IsRefusedAs, IsUnion, is_write};
 
 use crate::fault::RunFault;
 use crate::inputs::gather_all;
-use crate::sums::metered;
 use crate::texts::meter_lines;
 use std::alloc::{AllocError, Global};
-use tca_log::Log;
-use tca_meters::{AnyMeter, meter_spec};
+use tca_accounts::Sums;
+use tca_log::{Log, Settled};
+use tca_meters::{AnyMeter, Colour, Meter, meter_spec, precolour};
 use tca_report::{Write, put_all};
+
+// The sums of the reports, metered in their order from time 0 on, each with the precolour of its code
+// point, green where that has none.
+fn metered<M: Meter>(meter: &M, reports: Settled<'_>) -> Sums
+    requires rises { IsStrictlySortedBy report_cmp reports }
+    requires few { length reports ≤ 4194304 }
+    ensures { result ≡ sums_of (colours (M.rule meter.now) (packet_of Green) reports.entry) }
+{
+    let mut sums = Sums::new();
+    let mut state = meter.start();
+    let mut last = 0;
+    for report in reports {
+        let content = report.content();
+        let filled = meter.advance(state, last, content.time);
+        let pre = precolour(content.dscp, Colour::Green);
+        let (colour, next) = meter.offer(filled, content.octets, pre);
+        sums.count(colour, content.octets);
+        state = next;
+        last = content.time;
+    }
+    sums
+}
 
 // The lines of the undisputed reports of a log.
 fn metered_lines(alloc: Global, meter: &AnyMeter, log: &Log) -> Result<String, AllocError>
@@ -51,9 +78,9 @@ fn report(alloc: Global, spec: &str, inputs: &[Vec<u8>]) -> Result<String, RunFa
 /// Meters the inputs, and writes the octets and packets of each colour on three lines.
 ///
 /// The spec names any of the three meters, and is judged first, then the inputs in order, each a log
-/// export. The union of their reports is metered without those that are disputed, each with the
+/// export or a capture. The union of their reports is metered without those that are disputed, each with the
 /// precolour of its code point (RFC 2597 section 6), green where that has none. A refusal but that of
-/// a write leaves `out` as it was.
+/// a write leaves `out` as it was; that of a write says that only a part of the lines went out.
 pub fn run_meter<W: Write>(
     alloc: Global,
     spec: &str,
@@ -63,12 +90,16 @@ pub fn run_meter<W: Write>(
     requires { length inputs.now < 2 ^ 32 }
     ensures found { OnOk result (IsMetered spec.now (map (λ v. v.items) inputs.now)
         (W.written out.old) (W.written out.new)) }
+    ensures calm { OnOk result (W.failures out.new ≡ W.failures out.old) }
     ensures refused { IfErr result (λ e. is_write e ≡ false
         → IsRefusedAs e (metering spec.now (map (λ v. v.items) inputs.now))) }
     ensures untouched { IfErr result (λ e. is_write e ≡ false
         → (W.written out.new ≡ W.written out.old) × (W.failures out.new ≡ W.failures out.old)) }
     ensures failed { IfErr result (λ e. is_write e ≡ true
         → Rises (W.failures out.old) (W.failures out.new)) }
+    ensures cut_off { IfErr result (λ e. is_write e ≡ true
+        → IsMeteringCutOff spec.now (map (λ v. v.items) inputs.now)
+        (W.written out.old) (W.written out.new) (W.failures out.old) (W.failures out.new) e) }
 {
     let text = match report(alloc, spec, inputs) {
         Ok(text) => text,

@@ -1,3 +1,4 @@
+use crate::bill::run_bill_plain;
 use crate::combine::run_combine;
 use crate::fault::{Family, RunFault};
 use crate::line::{Line, LineFault, read_line};
@@ -5,7 +6,7 @@ use crate::meter::run_meter;
 use std::alloc::{AllocError, Global};
 use std::io;
 use std::test::*;
-use tca_report::Host;
+use tca_report::{Host, Notes};
 
 const START: u64 = 1_700_000_000_000;
 
@@ -385,23 +386,262 @@ impl io::Write for Full {
     }
 }
 
-// The refusals of both commands over writers that take nothing, and what went to standard output.
+// The refusals of all commands over writers that take nothing, and what went to the others.
 fn over_full_writers(alloc: Global) -> Result<bool, AllocError> {
     let inputs = exports(alloc, &[&[FIRST]])?;
     if inputs.len() > 2 {
         return Ok(false);
     }
-    let failed = Err(refusal(None, Family::Write, 1));
+    let plan = PLAN.as_bytes();
+    let failed = Some(refusal(None, Family::Write, 1));
     let mut full = Host::new(Full);
-    let metered = run_meter(alloc, SPEC, &inputs, &mut full);
     let mut out = Host::new(Vec::new(alloc));
-    let combined = run_combine(alloc, &inputs, &mut full, &mut out);
-    Ok(metered == failed && combined == failed && out.into_inner().is_empty())
+    let mut export = Host::new(Vec::new(alloc));
+    let metered = run_meter(alloc, SPEC, &inputs, &mut full).err();
+    let combined = run_combine(alloc, &inputs, &mut full, &mut out).err();
+    let exported = run_bill_plain(alloc, plan, &inputs, Some(&mut full), &mut out).err();
+    let stated = run_bill_plain(alloc, plan, &inputs, Some(&mut export), &mut full).err();
+    let refused = metered == failed && combined == failed;
+    let bill_refused = exported == failed && stated == failed;
+    Ok(refused && bill_refused && out.into_inner().is_empty())
 }
 
 #[test]
 fn refuses_a_write_that_fails(rt: HostRuntime) -> Result<(), Fail> {
     assert!(rt; over_full_writers(rt.alloc())?);
+    Ok(())
+}
+
+// One account, RFC 2697 blind, with the traffic of one interface.
+const PLAN: &str =
+    "period = 3600000\n[[account]]\nname = \"alpha\"\nmeter = \"rfc2697\"\ncir = 1000\ncbs = 2000\nebs = 1000\nkeys = [[7, 1]]\n";
+
+const OPENING: &str = "tcacct statement 1\nperiod 3600000\n";
+
+// What was billed: the notes, the export if one was asked, and the statement.
+#[derive(Drop)]
+struct Written {
+    notes: Vec<Notes>,
+    export: Vec<u8>,
+    statement: Vec<u8>,
+}
+
+fn billed(
+    alloc: Global,
+    plan: &str,
+    inputs: &[Vec<u8>],
+    exports: bool,
+) -> Result<Written, RunFault> {
+    if inputs.len() > 9 {
+        return Err(RunFault::memory());
+    }
+    let mut export = Host::new(Vec::new(alloc));
+    let mut out = Host::new(Vec::new(alloc));
+    let asked = if exports { Some(&mut export) } else { None };
+    match run_bill_plain(alloc, plan.as_bytes(), inputs, asked, &mut out) {
+        Ok(notes) => Ok(Written {
+            notes,
+            export: export.into_inner(),
+            statement: out.into_inner(),
+        }),
+        Err(fault) => Err(fault),
+    }
+}
+
+// Whether these inputs are billed with this statement behind its first two lines.
+fn states(alloc: Global, inputs: &[&[Row]], lines: &str) -> Result<bool, AllocError> {
+    let inputs = exports(alloc, inputs)?;
+    match billed(alloc, PLAN, &inputs, false) {
+        Ok(billed) => {
+            let mut text = String::from_str(alloc, OPENING)?;
+            text.push_str(lines)?;
+            Ok(billed.statement.as_slice() == text.as_bytes())
+        }
+        Err(_) => Ok(false),
+    }
+}
+
+const THREE_REPORTS: &str =
+    "reports 3\ndisputed 0\nunassigned 0\naccount alpha\ntotal 1500 1 1000 1 800 1\nspan 472222 1500 1 1000 1 800 1\nend\n";
+
+#[test]
+fn bills_the_union_of_the_inputs(rt: HostRuntime) -> Result<(), Fail> {
+    let alloc = rt.alloc();
+    let three = [FIRST, SECOND, THIRD];
+    assert!(rt; states(alloc, &[&three], THREE_REPORTS)?);
+    assert!(rt; states(alloc, &[&[THIRD], &[FIRST, SECOND], &three], THREE_REPORTS)?);
+    let lines =
+        "reports 5\ndisputed 1\nunassigned 0\naccount alpha\ntotal 1500 1 1000 1 800 1\nspan 472222 1500 1 1000 1 800 1\nend\n";
+    assert!(rt;
+        states(
+            alloc,
+            &[&[FIRST, (60, 3, 601), SECOND, THIRD], &[(50, 3, 600)]],
+            lines
+        )?
+    );
+    let lines = "reports 0\ndisputed 0\nunassigned 0\naccount alpha\ntotal 0 0 0 0 0 0\nend\n";
+    assert!(rt; states(alloc, &[&[]], lines)?);
+    Ok(())
+}
+
+// Whether the export of the union goes out where it is asked for.
+fn exports_when_asked(alloc: Global) -> Result<bool, AllocError> {
+    let inputs = exports(alloc, &[&[THIRD], &[FIRST, SECOND]])?;
+    let whole = export(alloc, &[FIRST, SECOND, THIRD])?;
+    let with = match billed(alloc, PLAN, &inputs, true) {
+        Ok(billed) => billed.export.as_slice() == whole.as_slice() && billed.notes.len() == 2,
+        Err(_) => false,
+    };
+    let without = match billed(alloc, PLAN, &inputs, false) {
+        Ok(billed) => billed.export.is_empty() && billed.statement.len() == 144,
+        Err(_) => false,
+    };
+    Ok(with && without)
+}
+
+#[test]
+fn writes_the_export_of_a_bill(rt: HostRuntime) -> Result<(), Fail> {
+    assert!(rt; exports_when_asked(rt.alloc())?);
+    Ok(())
+}
+
+// Whether a plan and inputs are refused so.
+fn bill_is_refused(alloc: Global, plan: &str, inputs: &[Vec<u8>], fault: RunFault) -> bool {
+    billed(alloc, plan, inputs, true).err() == Some(fault)
+}
+
+#[test]
+fn judges_the_plan_before_the_inputs(rt: HostRuntime) -> Result<(), Fail> {
+    let alloc = rt.alloc();
+    let mut inputs = exports(alloc, &[&[FIRST]])?;
+    inputs.push(Vec::from_slice(alloc, b"TCAX\x00\x01\x00\x00\x00")?)?;
+    let plan = refusal(None, Family::Plan, 3);
+    assert!(rt; bill_is_refused(alloc, "period = 0\n", &inputs, plan));
+    let input = refusal(Some(1), Family::Export, 4);
+    assert!(rt; bill_is_refused(alloc, PLAN, &inputs, input));
+    Ok(())
+}
+
+// What is noted of the message with one octet changed.
+fn noted(alloc: Global, at: usize, octet: u8) -> Result<Option<Notes>, AllocError> {
+    let mut octets = TEMPLATE_AND_RECORD;
+    if at < octets.len() {
+        octets[at] = octet;
+    }
+    let mut inputs = exports(alloc, &[&[FIRST]])?;
+    inputs.push(Vec::from_slice(alloc, &octets)?)?;
+    match billed(alloc, PLAN, &inputs, false) {
+        Ok(billed) => Ok(billed.notes.last().copied()),
+        Err(_) => Ok(None),
+    }
+}
+
+#[test]
+fn answers_the_notes_of_each_input(rt: HostRuntime) -> Result<(), Fail> {
+    let alloc = rt.alloc();
+    let none = Notes {
+        messages: 1,
+        not_reports: [0; 7],
+        unplaced: 0,
+        skipped: 0,
+    };
+    assert_eq!(rt; noted(alloc, 1, 10)?, Some(none));
+    // The template set has an identifier that is skipped, so the record's template isn't known.
+    let skipped = Notes {
+        unplaced: 1,
+        skipped: 1,
+        ..none
+    };
+    assert_eq!(rt; noted(alloc, 17, 4)?, Some(skipped));
+    // The time is read in seconds from 1900, and lies before 1970.
+    let early = Notes {
+        not_reports: [0, 0, 0, 1, 0, 0, 0],
+        ..none
+    };
+    assert_eq!(rt; noted(alloc, 25, 0x44)?, Some(early));
+    Ok(())
+}
+
+// The plan of the README's example, `data/plan.toml`.
+const EXAMPLE_PLAN: &str =
+    "# Two accounts, each with the traffic of one interface of observation domain 7. A period is an hour.
+period = 3600000
+
+[[account]]
+name = \"alpha\"
+meter = \"rfc2697\"
+cir = 1000
+cbs = 2000
+ebs = 1000
+keys = [[7, 1]]
+
+[[account]]
+name = \"beta\"
+meter = \"rfc2698\"
+aware = true
+cir = 1000
+cbs = 1000
+pir = 2000
+pbs = 2000
+keys = [[7, 2]]
+";
+
+// And its capture, `data/capture.ipfix`: a template with six records, and a record of an unknown
+// template.
+const EXAMPLE_CAPTURE: [u8; 194] = [
+    0x00, 0x0a, 0x00, 0xaa, 0x65, 0x53, 0xf1, 0x00, 0x00, 0x00, 0x00, 0x05, 0x00, 0x00, 0x00, 0x07,
+    0x00, 0x02, 0x00, 0x18, 0x01, 0x00, 0x00, 0x04, 0x01, 0x43, 0x00, 0x08, 0x00, 0xe0, 0x00, 0x08,
+    0x00, 0xc3, 0x00, 0x01, 0x00, 0x0a, 0x00, 0x04, 0x01, 0x00, 0x00, 0x82, 0x00, 0x00, 0x01, 0x8b,
+    0xcf, 0xe5, 0x68, 0x00, 0x00, 0x00, 0x00, 0x00, 0x00, 0x00, 0x05, 0xdc, 0x0a, 0x00, 0x00, 0x00,
+    0x01, 0x00, 0x00, 0x01, 0x8b, 0xcf, 0xe5, 0x68, 0x64, 0x00, 0x00, 0x00, 0x00, 0x00, 0x00, 0x03,
+    0xe8, 0x00, 0x00, 0x00, 0x00, 0x01, 0x00, 0x00, 0x01, 0x8b, 0xcf, 0xe5, 0x68, 0xc8, 0x00, 0x00,
+    0x00, 0x00, 0x00, 0x00, 0x03, 0x20, 0x00, 0x00, 0x00, 0x00, 0x01, 0x00, 0x00, 0x01, 0x8b, 0xcf,
+    0xe5, 0x68, 0x00, 0x00, 0x00, 0x00, 0x00, 0x00, 0x00, 0x05, 0xdc, 0x0a, 0x00, 0x00, 0x00, 0x02,
+    0x00, 0x00, 0x01, 0x8b, 0xd0, 0x1c, 0x56, 0x80, 0x00, 0x00, 0x00, 0x00, 0x00, 0x00, 0x01, 0xf4,
+    0x0e, 0x00, 0x00, 0x00, 0x02, 0x00, 0x00, 0x01, 0x8b, 0xcf, 0xe5, 0x68, 0x00, 0x00, 0x00, 0x00,
+    0x00, 0x00, 0x00, 0x00, 0x32, 0x00, 0x00, 0x00, 0x00, 0x03, 0x00, 0x0a, 0x00, 0x18, 0x65, 0x53,
+    0xf1, 0x01, 0x00, 0x00, 0x00, 0x0b, 0x00, 0x00, 0x00, 0x07, 0x01, 0x2c, 0x00, 0x08, 0x00, 0x00,
+    0x00, 0x01,
+];
+
+const EXAMPLE_STATEMENT: &str = "tcacct statement 1
+period 3600000
+reports 6
+disputed 0
+unassigned 1
+account alpha
+total 1500 1 1000 1 800 1
+span 472222 1500 1 1000 1 800 1
+account beta
+total 0 0 1500 1 500 1
+span 472222 0 0 1500 1 0 0
+span 472223 0 0 0 0 500 1
+end
+";
+
+// Whether that is its statement, and what was noted beside its reports.
+fn bills_example(alloc: Global) -> Result<bool, AllocError> {
+    let mut inputs = Vec::new(alloc);
+    inputs.push(Vec::from_slice(alloc, &EXAMPLE_CAPTURE)?)?;
+    let notes = Notes {
+        messages: 2,
+        not_reports: [0; 7],
+        unplaced: 1,
+        skipped: 0,
+    };
+    match billed(alloc, EXAMPLE_PLAN, &inputs, false) {
+        Ok(billed) => {
+            let statement = billed.statement.as_slice() == EXAMPLE_STATEMENT.as_bytes();
+            let noted = billed.notes.len() == 1 && billed.notes.last().copied() == Some(notes);
+            Ok(statement && noted)
+        }
+        Err(_) => Ok(false),
+    }
+}
+
+#[test]
+fn bills_the_example_of_the_readme(rt: HostRuntime) -> Result<(), Fail> {
+    assert!(rt; bills_example(rt.alloc())?);
     Ok(())
 }
 
@@ -414,6 +654,21 @@ fn reads_lines(rt: HostRuntime) -> Result<(), Fail> {
             assert_eq!(rt; inputs.as_slice(), ["a", "b"].as_slice());
         }
         _ => return Err("no combine line".into()),
+    }
+    let words = ["tcacct", "bill", "--export", "o", "p", "a", "b"];
+    match read_line(rt.alloc(), words.as_slice()) {
+        Ok(
+            Line::Bill {
+                export,
+                plan,
+                inputs,
+            },
+        ) => {
+            assert_eq!(rt; export, Some("o"));
+            assert_eq!(rt; plan, "p");
+            assert_eq!(rt; inputs.as_slice(), ["a", "b"].as_slice());
+        }
+        _ => return Err("no bill line".into()),
     }
     let words = ["tcacct", "meter", "s", "a", "b", "c"];
     match read_line(rt.alloc(), words.as_slice()) {
@@ -435,6 +690,7 @@ fn names_families(rt: HostRuntime) -> Result<(), Fail> {
         (Family::Export, "export"),
         (Family::Wire, "wire"),
         (Family::Decode, "decode"),
+        (Family::Plan, "plan"),
         (Family::Spec, "spec"),
         (Family::Log, "log"),
         (Family::Write, "write"),
@@ -443,5 +699,19 @@ fn names_families(rt: HostRuntime) -> Result<(), Fail> {
         let text = format!(in rt.alloc(); "{family}")?;
         assert_eq!(rt; text.as_str(), name);
     }
+    Ok(())
+}
+
+#[test]
+fn numbers_line_faults(rt: HostRuntime) -> Result<(), Fail> {
+    let usage = LineFault::Usage {
+        text: String::new(rt.alloc()),
+    };
+    let help = LineFault::Help {
+        text: String::new(rt.alloc()),
+    };
+    assert_eq!(rt; usage.number(), 1);
+    assert_eq!(rt; help.number(), 2);
+    assert_eq!(rt; LineFault::Memory.number(), 3);
     Ok(())
 }

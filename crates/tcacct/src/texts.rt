@@ -1,8 +1,9 @@
+//! The texts that the commands print.
 ghost use Rattle.std.specs.Prelude.{◌≡◌, ◌++◌, IfOk, OnOk, string_bytes};
 ghost use Rattle.tcacct.specs.Texts.{colour_line, meter_text, combine_text};
 
-use crate::sums::Sums;
 use std::alloc::{AllocError, Global};
+use tca_accounts::Sums;
 
 fn colour_line(alloc: Global, name: &str, octets: u64, packets: u64) -> Result<String, AllocError>
     ensures { IfOk result (λ text. string_bytes text ≡ colour_line name.now octets packets) }
@@ -12,11 +13,13 @@ fn colour_line(alloc: Global, name: &str, octets: u64, packets: u64) -> Result<S
 
 /// A line for each colour: its name, its octets, its packets.
 pub(crate) fn meter_lines(alloc: Global, sums: &Sums) -> Result<String, AllocError>
-    ensures { IfOk result (λ text. string_bytes text ≡ meter_text sums.now.octets sums.now.packets) }
+    ensures { IfOk result (λ text. string_bytes text ≡ meter_text sums.now) }
 {
-    let mut text = colour_line(alloc, "green", sums.octets[0], sums.packets[0])?;
-    text.push_str(colour_line(alloc, "yellow", sums.octets[1], sums.packets[1])?.as_str())?;
-    text.push_str(colour_line(alloc, "red", sums.octets[2], sums.packets[2])?.as_str())?;
+    let octets = sums.octets();
+    let packets = sums.packets();
+    let mut text = colour_line(alloc, "green", octets[0], packets[0])?;
+    text.push_str(colour_line(alloc, "yellow", octets[1], packets[1])?.as_str())?;
+    text.push_str(colour_line(alloc, "red", octets[2], packets[2])?.as_str())?;
     Ok(text)
 }
 

@@ -1,3 +1,4 @@
+//! Code points and texts of meters.
 use crate::*;
 use std::process::Abort;
 use std::test::*;

@@ -1,4 +1,4 @@
-use Rattle.tca_join.specs.JoinLaws.{associates_back, above_both, least_above}
+use Rattle.tca_join.specs.JoinLaws.{associates_back, above_both, least_above, transitive, antisymmetric}
 use Rattle.tca_join.proofs.join.join_laws.Goals as goal
 
 pub returns : goal.returns
@@ -9,4 +9,6 @@ returns g c = let l = g.met.J.Join.laws in record {
   idempotent = l.again;
   above = above_both l;
   least = least_above l;
+  transitive = transitive l;
+  antisymmetric = antisymmetric l;
 }

@@ -2,7 +2,7 @@ use Rattle.std.proofs.Common.{◌+◌, [], drop, subst, sym, ◌∙◌, arith}
 use Rattle.tca_report.specs.Reports.{report_cmp}
 use Rattle.tca_report.proofs.Order.{report_total}
 use Rattle.tca_log.specs.Chunks.{without_each}
-use Rattle.tca_log.proofs.Each.{ArePutting, putting_none, putting_new, putting_more, putting_all, beyond_rises, apart_none, put_each_none}
+use Rattle.tca_log.proofs.Each.{ArePutting, putting_none, putting_new, putting_more, putting_some, putting_all, beyond_rises, apart_none, put_each_none}
 use Rattle.tca_log.proofs.Gathering.{new_next, held_next, none_left}
 use Rattle.tca_log.proofs.union.news_of.Goals as goal
 use Rattle.tca_log.proofs.union.news_of.Goals.{then-not-contains+in_ok-reserve, else-not-contains}
@@ -35,8 +35,15 @@ loop-report-preserved g c =
           rw w.news-is (subst (λ l. ArePutting report_cmp (without_each report_cmp c.args.rows.now.rows c.args.set.now) [] c.loop-report.news.rows l) step c.loop-report.invariant)
     ]
 
-pub returns : goal.returns
-returns g c =
+pub returns-in_err-reserve-clause-nothing : goal.returns-in_err-reserve-clause-nothing
+returns-in_err-reserve-clause-nothing g c =
+    let step = new_next c.args.rows.now.rows c.args.set.now c.loop-report.report-index c.report-item.result (omega arith) c.report-item.is (sym c.contains.ensures ∙ c.if-not-contains.true) in
+    let now = subst (λ l. ArePutting report_cmp (without_each report_cmp c.args.rows.now.rows c.args.set.now) [] c.loop-report.news.rows l) step c.loop-report.invariant in
+    let some = putting_some report_cmp report_total (without_each report_cmp c.args.rows.now.rows c.args.set.now) [] c.loop-report.news.rows c.report-item.result (without_each report_cmp c.args.rows.now.rows (drop (c.loop-report.report-index + 1) c.args.set.now)) now in
+    λ none. absurd (omega (arith, some, none))
+
+pub returns-clause-news : goal.returns-clause-news
+returns-clause-news g c =
     let now = subst (λ l. ArePutting report_cmp (without_each report_cmp c.args.rows.now.rows c.args.set.now) [] c.loop-report.news.rows l) (none_left c.args.rows.now.rows c.args.set.now c.loop-report.report-index (omega arith)) c.loop-report.invariant in
     putting_all report_cmp report_total (without_each report_cmp c.args.rows.now.rows c.args.set.now) [] c.loop-report.news.rows now
     ∙ put_each_none report_cmp report_total (without_each report_cmp c.args.rows.now.rows c.args.set.now) (beyond_rises report_cmp report_total c.args.rows.now.rows c.args.set.now c.requires.rises)

@@ -1,4 +1,3 @@
-use Rattle.std.specs.List.Sorted.{IsPermutation}
 use Rattle.std.proofs.lemmas.List.Filters.{dedup_is}
 use Rattle.tca_report.specs.Reports.{report_cmp}
 use Rattle.tca_report.proofs.Order.{report_total, report_exact}
@@ -7,5 +6,4 @@ use Rattle.tca_log.proofs.union.set_of.Goals as goal
 
 pub returns : goal.returns
 returns g c =
-    let moved : IsPermutation c.args.reports.now c.sort_unstable.new.self.items = rw (← c.in_ok-sorted.ensures.items) c.sort_unstable.ensures.permutation in
-    set_is report_cmp report_total report_exact same_report same_tied c.args.reports.now c.sort_unstable.new.self.items c.dedup.new.self.items moved c.sort_unstable.ensures.sorted (dedup_is same_report c.sort_unstable.new.self.items c.dedup.new.self.items c.dedup.ensures.filtered)
+    set_is report_cmp report_total report_exact same_report same_tied c.args.reports.items c.sort_unstable.new.self.items c.dedup.new.self.items c.sort_unstable.ensures.permutation c.sort_unstable.ensures.sorted (dedup_is same_report c.sort_unstable.new.self.items c.dedup.new.self.items c.dedup.ensures.filtered)

@@ -1,4 +1,4 @@
-use Rattle.std.proofs.Common.{◌≡◌, ◌++◌, ◌∙◌, ap, ap₂, sym, true, arith, append_assoc, length, take, drop, List, ℕ}
+use Rattle.std.proofs.Common.{◌≡◌, ◌<◌, ◌++◌, ◌∙◌, ap, ap₂, sym, true, false, arith, append_assoc, length, length-append, take, drop, List, ℕ}
 use Rattle.std.specs.Prelude.{Err, ◌==◌}
 use Rattle.std.proofs.lemmas.Bool.Decides.{nat_tests}
 use Rattle.std.proofs.lemmas.List.{take-append-drop, append-nil, nil_from_length}
@@ -6,7 +6,7 @@ use Rattle.std.proofs.lemmas.Result.{err_from_is_err_and}
 use Rattle.tca_report.specs.Inputs.{capture_of}
 use Rattle.tca_report.specs.Gathering.{said}
 use Rattle.tca_report.specs.declared.inputs.InputFault.{InputFault}
-use Rattle.tca_report.proofs.Pieces.{all_said, cut_at}
+use Rattle.tca_report.proofs.Pieces.{all_said, cut_at, no_memory_at_end}
 use Rattle.tca_report.proofs.capture.read_capture.Goals as goal
 
 -- a piece goes from the rest to what was read
@@ -15,6 +15,12 @@ cut octets done rest piece behind n whole front back =
     whole
     ∙ ap (λ z. done ++ z) (sym (take-append-drop n rest) ∙ ap₂ (λ a b. a ++ b) (sym front) (sym back))
     ∙ sym (append_assoc done piece behind)
+
+-- something is left
+some_left : (octets done rest : List ℕ) → octets ≡ done ++ rest → (length rest == 0) ≡ false → 0 < length octets
+some_left octets done rest whole some =
+    let more : 0 < length rest = grind (arith, nat_tests, some) in
+    omega (arith, more, ap length whole, length-append done rest)
 
 pub returns-in_err-take_piece : goal.returns-in_err-take_piece
 returns-in_err-take_piece c =
@@ -25,6 +31,7 @@ returns-in_err-take_piece c =
     let p = err_from_is_err_and c.from_residual.result c.from_residual.ensures.1 in
     record {
       exact = rw (p.1, p.2) (λ ne. ap (λ z. said (capture_of z)) whole ∙ ap said (c.in_err-take_piece.ensures.err s.0 behind s.1 ne));
+      memory = λ _. some_left c.args.octets.now s.0 c.loop-rest.rest.now s.2 (sym c.is_empty.ensures ∙ c.loop-rest-test.true);
     }
 
 pub loop-rest-preserved : goal.loop-rest-preserved
@@ -45,6 +52,7 @@ returns-in-Ok c =
     let whole = whole_read c.args.octets.now s.0 c.loop-rest.rest.now s.2 (sym c.is_empty.ensures ∙ c.loop-rest-test.false) in
     record {
       exact = ap (λ z. said (capture_of z)) whole ∙ all_said s.0 c.loop-rest.framer c.loop-rest.progress s.1 (sym c.in-Ok.ensures);
+      memory = λ m. absurd cc;
     }
 
 pub returns-in-Err : goal.returns-in-Err
@@ -56,4 +64,5 @@ returns-in-Err c =
           ap (λ z. said (capture_of z)) whole
           ∙ ap said (cut_at s.0 c.loop-rest.framer c.loop-rest.progress c.in-Err.fault s.1 (sym c.in-Err.ensures))
           ∙ ap (λ (e : InputFault). said (Err e)) (sym (c.wire_fault.ensures.fault ne).1);
+      memory = λ m. absurd (c.wire_fault.ensures.memory (no_memory_at_end s.0 c.loop-rest.framer c.loop-rest.progress c.in-Err.fault s.1 (sym c.in-Err.ensures)) cc);
     }

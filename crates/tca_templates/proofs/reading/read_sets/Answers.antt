@@ -5,7 +5,7 @@ use Rattle.std.proofs.lemmas.Result.{err_from_is_err_and}
 use Rattle.tca_wire.specs.declared.message.SetSpan.{SetSpan}
 use Rattle.tca_wire.proofs.Tiles.{blank_set, tile_span, tile_next, tile_few}
 use Rattle.tca_templates.specs.Reading.{set_of}
-use Rattle.tca_templates.specs.Fields.{seen_of, is_template_set}
+use Rattle.tca_templates.specs.Fields.{seen_of, is_template_set, is_read}
 use Rattle.tca_templates.proofs.Sets.{sets_step, sets_all, none_at}
 use Rattle.tca_templates.proofs.reading.read_sets.Goals as goal
 
@@ -56,6 +56,7 @@ loop-set-preserved c =
       sets = omega (arith, lt);
       skipped = omega (arith, c.in_ok-aside.ensures.skipped, c.loop-set.invariant.skipped);
       counted = c.in_ok-aside.ensures.counted;
+      skips = λ none. c.in_ok-aside.ensures.skips (ap is_read here ∙ none_at is_read m.sets.items c.loop-set.set-index none lt) ∙ c.loop-set.invariant.skips none;
       kept = λ none. c.in_ok-aside.ensures.kept (ap is_template_set here ∙ none_at is_template_set m.sets.items c.loop-set.set-index none lt) ∙ c.loop-set.invariant.kept none;
     }
 

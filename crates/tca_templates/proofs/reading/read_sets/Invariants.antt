@@ -1,8 +1,8 @@
-use Rattle.std.proofs.Common.{◌≡◌, ◌≤◌, ◌<◌, length, drop, get_or, false}
+use Rattle.std.proofs.Common.{◌≡◌, ◌≤◌, ◌<◌, [], length, drop, get_or, false}
 use Rattle.std.specs.List.{list_any}
 use Rattle.tca_wire.proofs.Tiles.{blank_set}
 use Rattle.tca_templates.specs.Reading.{sets_on, read_of}
-use Rattle.tca_templates.specs.Fields.{seen_of, counted, templates_of, is_template_set}
+use Rattle.tca_templates.specs.Fields.{seen_of, counted, templates_of, is_template_set, is_read}
 use Rattle.tca_templates.proofs.reading.read_sets.Given as goal
 
 abbrev pub invariant-loop-set : goal.invariant-loop-set
@@ -14,5 +14,6 @@ invariant-loop-set l = record {
   sets : l.set-index ≤ length l.message.sets.items;
   skipped : l.aside.skipped ≤ l.set-index;
   counted : counted l.rows.items ≡ length l.fields.items;
+  skips : list_any is_read l.message.sets.items ≡ false → l.rows.items ≡ [];
   kept : list_any is_template_set l.message.sets.items ≡ false → templates_of l.templates.entries ≡ templates_of l.fn.templates.entries;
 }

@@ -1,15 +1,15 @@
-use Rattle.std.proofs.Common.{◌≡◌, ◌∙◌, ◌++◌, ◌≤◌, List, Ok, length, sym, ap, subst, le-ltb}
+use Rattle.std.proofs.Common.{◌≡◌, ◌∙◌, ◌++◌, ◌≤◌, Ok, length, sym, ap, le-ltb}
 use Rattle.tca_join.specs.Sets.{in_order}
-use Rattle.tca_report.specs.Reports.{PacketReport, report_cmp}
+use Rattle.tca_report.specs.Reports.{report_cmp}
 use Rattle.tcacct.specs.Runs.{with_input, with_reports}
-use Rattle.tcacct.proofs.InputLaws.{said_ok, refused_input}
+use Rattle.tcacct.proofs.InputLaws.{said_ok}
 use Rattle.tcacct.proofs.inputs.add_input.Goals as goal
 
 pub returns-in-Ok-add_all-clause-exact : goal.returns-in-Ok-add_all-clause-exact
 returns-in-Ok-add_all-clause-exact c =
     let reports = c.in-Ok.gathered.reports.items in
     let all = in_order report_cmp (c.args.log.now ++ reports) in
-    let is : c.add_all.new.self ≡ all = rw c.deref.ensures.value at c.in-Ok-add_all.ensures.ok in
+    let is : c.add_all.new.self ≡ all = c.in-Ok-add_all.ensures.ok in
     let few : length all ≤ 4194304 = rw is at c.reports-reports.ensures.limit in
     let heard = said_ok _ _ c.in-Ok.ensures.exact in
     ap (with_input c.args.n c.args.log.now) heard.1 ∙ ap (with_reports c.args.n c.args.log.now) (sym heard.2) ∙ rw (le-ltb 4194304 (length all) few) (ap Ok (sym is))
@@ -19,5 +19,10 @@ returns-in-Ok-add_all-clause-found c =
     let heard = said_ok _ _ c.in-Ok.ensures.exact in (
       c.in-Ok.gathered.reports.items,
       record { heard = heard.0; read = heard.1; reports = heard.2 },
-      rw c.deref.ensures.value at c.in-Ok-add_all.ensures.ok,
+      c.in-Ok-add_all.ensures.ok,
     )
+
+pub returns-in-Ok-add_all-clause-noted : goal.returns-in-Ok-add_all-clause-noted
+returns-in-Ok-add_all-clause-noted c =
+    let heard = said_ok _ _ c.in-Ok.ensures.exact in
+    record { heard = heard.0; read = heard.1; notes_are = heard.3 }

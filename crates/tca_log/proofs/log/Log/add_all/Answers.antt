@@ -1,46 +1,72 @@
-use Rattle.std.proofs.Common.{◌+◌, List, length, sym, ap, ◌∙◌, arith}
-use borrow.Author.Tests.{eqb-true}
-use Rattle.std.proofs.lemmas.Bool.{ltb-true}
+use Rattle.std.proofs.lemmas.Result.{err_from_is_err_and}
+use Rattle.std.proofs.Common.{◌≡◌, ◌≤◌, ◌+◌, ◌++◌, ℕ, List, subst, length, rules, ap, ◌∙◌, arith}
+use Rattle.std.proofs.lemmas.Bool.{false≢true}
 use Rattle.tca_join.specs.Sets.{in_order}
 use Rattle.tca_join.proofs.Sets.{rises_in_order}
 use Rattle.tca_report.specs.Reports.{PacketReport, report_cmp}
 use Rattle.tca_report.proofs.Order.{report_total, report_exact}
-use Rattle.tca_log.specs.Chunks.{without_each, put_each}
-use Rattle.tca_log.proofs.Each.{beyond_apart}
+use Rattle.tca_log.specs.Chunks.{put_each, without_each}
+use Rattle.tca_log.specs.Faults.{IsRefusedBy}
+use Rattle.tca_log.proofs.Each.{putting_nothing, beyond_apart, beyond_rises}
 use Rattle.tca_log.proofs.Uniting.{union_is, union_length}
-use Rattle.tca_log.proofs.Gathering.{union_set, union_none}
+use Rattle.tca_log.proofs.Gathering.{union_set}
 use Rattle.tca_log.proofs.log.Log.add_all.Goals as goal
 
-pub returns-then-is_empty-clause-ok : goal.returns-then-is_empty-clause-ok
-returns-then-is_empty-clause-ok g c = rw (← c.self.view_is) (union_none c.self.inside.rows.rows c.args.reports.now c.self.invariant.rises (eqb-true (length c.args.reports.now) 0 (sym c.is_empty.ensures ∙ c.if-is_empty.true)))
+pub returns-then-new-eq0-clause-ok : goal.returns-then-new-eq0-clause-ok
+returns-then-new-eq0-clause-ok g c =
+    let news = c.in_ok-news.ensures.news in
+    let none : length (without_each report_cmp c.self.inside.rows.rows (in_order report_cmp c.args.reports.items)) ≡ 0 = omega (arith, ap length news, c.len-new.ensures.length) in
+    rw (← c.self.view_is)
+    (putting_nothing report_cmp report_total (without_each report_cmp c.self.inside.rows.rows (in_order report_cmp c.args.reports.items)) c.self.inside.rows.rows none
+    ∙ union_is report_cmp report_total report_exact c.self.inside.rows.rows (in_order report_cmp c.args.reports.items) c.self.invariant.rises
+    ∙ union_set c.self.inside.rows.rows c.args.reports.items)
 
-pub returns-then-is_over-clause-full : goal.returns-then-is_over-clause-full
-returns-then-is_over-clause-full g c =
-    let set = c.deref.ensures.value ∙ c.in_ok-sorted.ensures in
-    let size = union_length report_cmp report_total report_exact c.self.inside.rows.rows (in_order report_cmp c.args.reports.now) c.self.invariant.rises (rises_in_order report_cmp report_total c.args.reports.now) in
-    let same = union_set c.self.inside.rows.rows c.args.reports.now in
-    let over = ltb-true 4194304 (length c.self.inside.rows.rows + length (without_each report_cmp c.self.inside.rows.rows c.deref.result.now)) (sym c.is_over.ensures ∙ c.if-is_over.true) in
-    rw (← c.self.view_is) (λ e. omega (arith, size, ap length same, over, ap (λ (l : List PacketReport). length (without_each report_cmp c.self.inside.rows.rows l)) set))
+pub returns-in_err-news-clause-nothing : goal.returns-in_err-news-clause-nothing
+returns-in_err-news-clause-nothing g c =
+    let size = union_length report_cmp report_total report_exact c.self.inside.rows.rows (in_order report_cmp c.args.reports.items) c.self.invariant.rises (rises_in_order report_cmp report_total c.args.reports.items) in
+    let same = union_set c.self.inside.rows.rows c.args.reports.items in
+    rw (← c.self.view_is) (λ e. absurd (false≢true (c.in_err-news.ensures.nothing (omega (arith, size, ap length same, ap length e)))))
 
-pub news_of-requires-clause-rises : goal.news_of-requires-clause-rises
-news_of-requires-clause-rises g c = rw (c.deref-2.ensures.value, c.in_ok-sorted.ensures) (rises_in_order report_cmp report_total c.args.reports.now)
+pub returns-in_err-take_in-clause-nothing : goal.returns-in_err-take_in-clause-nothing
+returns-in_err-take_in-clause-nothing g c =
+    let size = union_length report_cmp report_total report_exact c.self.inside.rows.rows (in_order report_cmp c.args.reports.items) c.self.invariant.rises (rises_in_order report_cmp report_total c.args.reports.items) in
+    let same = union_set c.self.inside.rows.rows c.args.reports.items in
+    let news = c.in_ok-news.ensures.news in
+    rw (← c.self.view_is) (λ e. absurd (omega (arith, size, ap length same, ap length e, ap length news, c.len-new.ensures.length)))
+
+pub returns-in_err-news-clause-fault : goal.returns-in_err-news-clause-fault
+returns-in_err-news-clause-fault g c =
+    let size = union_length report_cmp report_total report_exact c.self.inside.rows.rows (in_order report_cmp c.args.reports.items) c.self.invariant.rises (rises_in_order report_cmp report_total c.args.reports.items) in
+    let same = union_set c.self.inside.rows.rows c.args.reports.items in
+    let all : length c.self.inside.rows.rows + length (without_each report_cmp c.self.inside.rows.rows (in_order report_cmp c.args.reports.items)) ≡ length (in_order report_cmp (c.args.self.now ++ c.args.reports.items)) =
+    rw (← c.self.view_is) (omega (arith, size, ap length same)) in
+    let p = err_from_is_err_and c.from_residual.result c.from_residual.ensures.1 in
+    rw (p.1, p.2) (subst (λ (n : ℕ). IsRefusedBy c.in_err-news.field-0.0 n) all c.in_err-news.ensures.fault)
 
 pub take_in-requires-clause-apart : goal.take_in-requires-clause-apart
-take_in-requires-clause-apart g c = rw c.in_ok-news.ensures (beyond_apart report_cmp report_total c.self.inside.rows.rows c.deref-2.result.now)
+take_in-requires-clause-apart g c = rw c.in_ok-news.ensures.news (beyond_apart report_cmp report_total c.self.inside.rows.rows (in_order report_cmp c.args.reports.items))
+
+pub take_in-requires-clause-rises : goal.take_in-requires-clause-rises
+take_in-requires-clause-rises g c = rw c.in_ok-news.ensures.news (beyond_rises report_cmp report_total c.self.inside.rows.rows (in_order report_cmp c.args.reports.items) (rises_in_order report_cmp report_total c.args.reports.items))
+
+pub returns-in_err-take_in-clause-fault : goal.returns-in_err-take_in-clause-fault
+returns-in_err-take_in-clause-fault g c =
+    let size = union_length report_cmp report_total report_exact c.self.inside.rows.rows (in_order report_cmp c.args.reports.items) c.self.invariant.rises (rises_in_order report_cmp report_total c.args.reports.items) in
+    let same = union_set c.self.inside.rows.rows c.args.reports.items in
+    let few : length (in_order report_cmp (c.args.self.now ++ c.args.reports.items)) ≤ 4194304 = rw (← c.self.view_is) (omega (arith, size, ap length same, c.in_ok-news.ensures.few)) in
+    search rules
 
 pub returns-clause-ok : goal.returns-clause-ok
 returns-clause-ok g c =
-    let set = c.deref-2.ensures.value ∙ c.in_ok-sorted.ensures in
     rw (← c.self.view_is)
     (c.in_ok-take_in.ensures.ok
-    ∙ ap (λ (l : List PacketReport). put_each report_cmp l c.self.inside.rows.rows) (c.in_ok-news.ensures ∙ ap (without_each report_cmp c.self.inside.rows.rows) set)
-    ∙ union_is report_cmp report_total report_exact c.self.inside.rows.rows (in_order report_cmp c.args.reports.now) c.self.invariant.rises
-    ∙ union_set c.self.inside.rows.rows c.args.reports.now)
+    ∙ ap (λ (l : List PacketReport). put_each report_cmp l c.self.inside.rows.rows) c.in_ok-news.ensures.news
+    ∙ union_is report_cmp report_total report_exact c.self.inside.rows.rows (in_order report_cmp c.args.reports.items) c.self.invariant.rises
+    ∙ union_set c.self.inside.rows.rows c.args.reports.items)
 
 pub returns-clause-count : goal.returns-clause-count
 returns-clause-count g c =
-    let set = c.deref-2.ensures.value ∙ c.in_ok-sorted.ensures in
-    let size = union_length report_cmp report_total report_exact c.self.inside.rows.rows (in_order report_cmp c.args.reports.now) c.self.invariant.rises (rises_in_order report_cmp report_total c.args.reports.now) in
-    let news = c.in_ok-news.ensures ∙ ap (without_each report_cmp c.self.inside.rows.rows) set in
-    let all = c.in_ok-take_in.ensures.ok ∙ ap (λ (l : List PacketReport). put_each report_cmp l c.self.inside.rows.rows) news ∙ union_is report_cmp report_total report_exact c.self.inside.rows.rows (in_order report_cmp c.args.reports.now) c.self.invariant.rises in
-    omega (arith, size, ap length all, ap length news, c.len.ensures.length, ap length c.self.view_is)
+    let size = union_length report_cmp report_total report_exact c.self.inside.rows.rows (in_order report_cmp c.args.reports.items) c.self.invariant.rises (rises_in_order report_cmp report_total c.args.reports.items) in
+    let news = c.in_ok-news.ensures.news in
+    let all = c.in_ok-take_in.ensures.ok ∙ ap (λ (l : List PacketReport). put_each report_cmp l c.self.inside.rows.rows) news ∙ union_is report_cmp report_total report_exact c.self.inside.rows.rows (in_order report_cmp c.args.reports.items) c.self.invariant.rises in
+    omega (arith, size, ap length all, ap length news, c.len-new.ensures.length, ap length c.self.view_is)

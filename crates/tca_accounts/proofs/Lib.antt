@@ -1,0 +1,12 @@
+pub mod Owning
+pub mod Counting
+pub mod Periods
+pub mod Steps
+pub mod Rising
+pub mod Bills
+pub mod TableLemmas
+pub mod PairLemmas
+pub mod AccountLemmas
+pub mod PlanLemmas
+pub mod Memory
+pub mod TogetherLemmas

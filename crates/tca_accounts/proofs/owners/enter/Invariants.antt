@@ -1,0 +1,6 @@
+use Rattle.std.proofs.Common.{drop, map}
+use Rattle.tca_accounts.specs.Owners.{GoesOn}
+use Rattle.tca_accounts.proofs.owners.enter.Given as goal
+
+abbrev pub invariant-loop-pair : goal.invariant-loop-pair
+invariant-loop-pair l = GoesOn l.fn.owners.entries (map (λ k. (k, l.account)) l.keys) l.owners.entries (map (λ k. (k, l.account)) (drop l.pair-index l.keys))

@@ -1,0 +1,9 @@
+pub mod Plans
+pub mod Owners
+pub mod Sums
+pub mod Spans
+pub mod Bills
+pub mod Metering
+pub mod Faults
+pub mod Documents
+pub mod Readings

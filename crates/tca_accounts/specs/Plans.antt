@@ -1,0 +1,52 @@
+-- What a plan is: the length of a period, and accounts, each with a meter and the traffic that it owns.
+use Rattle.std.specs.Prelude.{ℕ, ◌<◌, ◌≤◌, ◌^◌, ◌==◌, Bool, true, ◌&&◌, not, List, [], ◌∷◌, length, Option}
+use Rattle.std.specs.List.{list_any, flat_map, position_from}
+use Rattle.tca_meters.specs.declared.any_meter.AnyMeter.{AnyMeter}
+use Rattle.tca_meters.specs.declared.colour.Colour.{Colour}
+use Rattle.tca_report.specs.Reports.{PacketReport}
+
+-- an account: its name, its meter, the colour that a code point without a colour of its own has, and the pairs of an
+-- observation domain and an interface whose reports it owns
+pub record PlannedAccount : Type 0 where
+  pub name : List ℕ
+  pub meter : AnyMeter
+  pub other : Colour
+  pub keys : List (ℕ × ℕ)
+
+-- a plan: the milliseconds of a period, and the accounts in their order
+pub record AccountPlan : Type 0 where
+  pub period : ℕ
+  pub accounts : List PlannedAccount
+
+-- whether two pairs are the same
+abbrev pub same_pair : ℕ × ℕ → ℕ × ℕ → Bool
+same_pair p q = (p.0 == q.0) && (p.1 == q.1)
+
+-- whether an account owns a pair
+abbrev pub owns : PlannedAccount → ℕ × ℕ → Bool
+owns a pair = list_any (same_pair pair) a.keys
+
+-- the observation domain and the interface of a report
+abbrev pub pair_of : PacketReport → ℕ × ℕ
+pair_of r = (r.domain, r.iface)
+
+-- the account, counted from 0, that owns a report, or none
+unfoldable pub account_of : AccountPlan → PacketReport → Option ℕ
+account_of plan r = position_from (λ a. owns a (pair_of r)) 0 plan.accounts
+
+-- the pairs of all accounts, in their order
+abbrev pub all_pairs : List PlannedAccount → List (ℕ × ℕ)
+all_pairs accounts = flat_map (λ a. a.keys) accounts
+
+-- no member is the same as one behind it
+abbrev pub all_differ : {K : Type 0} → (K → K → Bool) → List K → Bool
+all_differ same [] = true
+all_differ same (k ∷ ks) = not (list_any (same k) ks) && all_differ same ks
+
+-- a plan's period is 1 to 2^48-1 ms, and it has 1 to 256 accounts with 4,096 pairs at most
+pub record IsPlan (plan : AccountPlan) : Type 0 where
+  pub some_time : 0 < plan.period
+  pub time : plan.period < 2 ^ 48
+  pub some : 0 < length plan.accounts
+  pub few : length plan.accounts ≤ 256
+  pub pairs : length (all_pairs plan.accounts) ≤ 4096

@@ -1,0 +1,43 @@
+//! Plans of accounts, and the bill of a log under a plan.
+//!
+//! A plan is a TOML document: the length of a period, and accounts, each with a meter and the pairs of an
+//! observation domain and an interface whose reports it owns. A bill is a definition of a plan and a set of
+//! reports: the reports that no other disputes go to the accounts that own them, each account's meter colours
+//! its reports in their order from time 0 on, and octets and packets are summed by colour, in all and by
+//! period. One pass over the log serves all accounts, and a report's account is found by a search in a map.
+//!
+//! - `plan`, `account`, `owners`: a plan, its accounts, and which of them owns a report;
+//! - `reading`: a plan read from a text; beneath it `document` (the values of a table), `draft`, `meters` and `pairs` (an
+//!   account and its parts) and `together` (what all accounts have to be together);
+//! - `key`, `kind`, `fault`: the keys of a plan, the kinds of meters, and why a text is no plan;
+//! - `bill`, `tally`, `span`, `sums`: a bill and its parts; `running`: metering one account.
+#![tactic(auto)]
+
+mod account;
+mod bill;
+mod document;
+mod draft;
+mod fault;
+mod key;
+mod kind;
+mod meters;
+mod owners;
+mod pairs;
+mod plan;
+mod reading;
+mod running;
+mod span;
+mod sums;
+mod tally;
+mod together;
+
+pub use bill::{Bill, bill_all};
+pub use fault::PlanFault;
+pub use key::Key;
+pub use plan::Plan;
+pub use span::{Span, Spans};
+pub use sums::Sums;
+pub use tally::{Tallies, Tally};
+
+#[cfg(test)]
+mod tests;

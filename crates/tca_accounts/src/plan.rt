@@ -1,0 +1,120 @@
+//! A plan.
+ghost use Rattle.std.specs.Prelude.{◌≡◌, ◌<◌, ◌≤◌, ◌^◌, IfOk, IfSome, Some, slice_get, length, map};
+ghost use Rattle.tca_accounts.specs.Plans.{IsPlan, account_of};
+ghost use Rattle.tca_accounts.specs.Documents.{plan_with};
+ghost use Rattle.tca_accounts.specs.Faults.{Gives};
+
+use crate::account::{Account, are_few, copied, names_differ};
+use crate::fault::PlanFault;
+use crate::owners::{Owners, owners_of};
+use std::alloc::{AllocError, Global};
+use std::marker::Model;
+use tca_meters::{AnyMeter, Colour};
+use tca_report::Report;
+
+/// The length of a period, and the accounts with their meters and the pairs of an observation domain and an
+/// interface whose reports each owns. No pair and no name stands twice.
+#[derive(Drop)]
+pub struct Plan {
+    period: u64,
+    accounts: Vec<Account>,
+    owners: Owners,
+}
+
+impl Model for Plan {
+    ghost use Rattle.tca_accounts.specs.Plans.{AccountPlan, IsPlan};
+    ghost use Rattle.tca_accounts.specs.Owners.{AreOwners};
+
+    ghost Value = { AccountPlan };
+
+    ghost view = { λ p. record { period = p.period; accounts = p.accounts.items } };
+
+    ghost invariant = { λ p. IsPlan (record { period = p.period; accounts = p.accounts.items }) × AreOwners p.accounts.items p.owners.entries };
+}
+
+impl Plan {
+    /// A plan of these accounts. `Limits` where there are more than 4,096 pairs, else `KeyTwice` where a pair or a name
+    /// stands twice.
+    pub(crate) fn new(alloc: Global, period: u64, accounts: Vec<Account>) -> Result<Plan, PlanFault>
+        requires some_time { 0 < period }
+        requires time { period < 2 ^ 48 }
+        requires some { 0 < length accounts.items }
+        requires few { length accounts.items ≤ 256 }
+        ensures { Gives (λ p. p) result (plan_with period accounts.items) }
+    {
+        if !are_few(&accounts) {
+            return Err(PlanFault::Limits);
+        }
+        if !names_differ(&accounts) {
+            return Err(PlanFault::KeyTwice);
+        }
+        match owners_of(alloc, &accounts)? {
+            Some(owners) => Ok(Plan {
+                period,
+                accounts,
+                owners,
+            }),
+            None => Err(PlanFault::KeyTwice),
+        }
+    }
+
+    /// The account, counted from 0, that owns a report, found in logarithmic time.
+    pub fn account_of(&self, report: &Report) -> Option<u32>
+        ensures account { result ≡ account_of self.now report.now }
+        ensures below { IfSome result (λ n. n < length self.now.accounts) }
+    {
+        let pair = (report.identity().domain, report.content().iface);
+        self.owners.get(&pair).copied()
+    }
+
+    /// How many accounts there are.
+    pub fn accounts(&self) -> u32
+        ensures value { result ≡ length self.now.accounts }
+        ensures limits { IsPlan self.now }
+    {
+        self.accounts.len() as u32
+    }
+
+    /// The name of an account.
+    pub fn name(&self, account: u32) -> &str
+        requires { account < length self.now.accounts }
+        ensures { slice_get (map (λ a. a.name) self.now.accounts) account ≡ Some result.now }
+    {
+        &self.accounts[account as usize].name
+    }
+
+    /// The meter of an account.
+    pub fn meter(&self, account: u32) -> AnyMeter
+        requires { account < length self.now.accounts }
+        ensures { slice_get (map (λ a. a.meter) self.now.accounts) account ≡ Some result }
+    {
+        self.accounts[account as usize].meter
+    }
+
+    /// The colour that a code point without a colour of its own has in an account.
+    pub fn other(&self, account: u32) -> Colour
+        requires { account < length self.now.accounts }
+        ensures { slice_get (map (λ a. a.other) self.now.accounts) account ≡ Some result }
+    {
+        self.accounts[account as usize].other
+    }
+
+    /// The length of a period, in milliseconds.
+    pub fn period(&self) -> u64
+        ensures value { result ≡ self.now.period }
+        ensures limits { IsPlan self.now }
+    {
+        self.period
+    }
+
+    /// The same plan once more.
+    pub fn copy(&self, alloc: Global) -> Result<Plan, AllocError>
+        ensures { IfOk result (λ p. p ≡ self.now) }
+    {
+        Ok(Plan {
+            period: self.period,
+            accounts: copied(alloc, &self.accounts)?,
+            owners: self.owners.clone()?,
+        })
+    }
+}

@@ -1,0 +1,114 @@
+//! Metering one account.
+ghost use Rattle.std.specs.Prelude.{◌≡◌, ℕ, ◌<◌, ◌≤◌, List, ◌∷◌, IfOk, OnOk, IfSome};
+ghost use Rattle.tca_report.specs.Reports.{PacketReport};
+ghost use Rattle.tca_meters.specs.declared.colour.Colour.{Colour};
+ghost use Rattle.tca_meters.specs.Packets.{colours};
+ghost use Rattle.tca_meters.specs.AnyMeters.{any_rule};
+ghost use Rattle.tca_accounts.specs.Sums.{packet_of};
+ghost use Rattle.tca_accounts.specs.Spans.{Ascend};
+ghost use Rattle.tca_accounts.specs.Metering.{CanAdd, HasRoom, IsRunning, closed_by, sums_in, tally_so_far, with_last};
+
+use crate::span::{Span, Spans};
+use crate::sums::Sums;
+use crate::tally::Tally;
+use std::alloc::{AllocError, Global};
+use tca_meters::{AnyMeter, Colour, Levels, Meter, precolour};
+use tca_report::Report;
+
+/// An account whose reports are being metered.
+#[derive(Drop)]
+pub(crate) struct Running {
+    meter: AnyMeter,
+    /// The colour of a code point that has none of its own.
+    other: Colour,
+    /// The meter's state after the last report.
+    state: Levels,
+    /// The time of the last report, 0 where there was none.
+    time: u64,
+    total: Sums,
+    /// The spans of the periods that ended.
+    ended: Vec<Span>,
+    /// The span of the period of the last report.
+    current: Option<Span>,
+}
+
+impl Running {
+    /// An account that has had no report. It takes no memory.
+    pub(crate) fn new(alloc: Global, meter: AnyMeter, other: Colour) -> Running
+        ensures time { result.time ≡ 0 }
+        ensures running { (period : ℕ) (reports : List PacketReport) → IsRunning period (colours (any_rule meter) (packet_of other) reports) reports result }
+    {
+        Running {
+            meter,
+            other,
+            state: meter.start(),
+            time: 0,
+            total: Sums::new(),
+            ended: Vec::new(alloc),
+            current: None,
+        }
+    }
+
+    /// Meters one more report, which is not before the last one. It takes memory only where a span ends.
+    pub(crate) fn add(&mut self, period: u64, report: &Report) -> Result<(), AllocError>
+        requires period { 0 < period }
+        requires order { self.old.time ≤ report.now.time }
+        requires few { CanAdd self.old }
+        ensures time { OnOk result (self.new.time ≡ report.now.time) }
+        ensures running { OnOk result ((whole : List (PacketReport × Colour)) (later : List PacketReport)
+            → IsRunning period whole (report.now ∷ later) self.old → IsRunning period whole later self.new) }
+    {
+        let content = report.content();
+        let filled = self.meter.advance(self.state, self.time, content.time);
+        let pre = precolour(content.dscp, self.other);
+        let (colour, state) = self.meter.offer(filled, content.octets, pre);
+        let index = content.time / period;
+        let mut sums = go_on(self.current, index, &mut self.ended)?;
+        sums.count(colour, content.octets);
+        self.total.count(colour, content.octets);
+        self.current = Some(Span { index, sums });
+        self.state = state;
+        self.time = content.time;
+        Ok(())
+    }
+
+    /// The sums of the reports so far.
+    pub(crate) fn finish(self) -> Result<Tally, AllocError>
+        requires { Ascend (with_last self.ended.items self.current) }
+        ensures { IfOk result (λ t. t ≡ tally_so_far self) }
+    {
+        let spans = all_spans(self.ended, self.current)?;
+        Ok(Tally {
+            total: self.total,
+            spans: Spans::ascending(spans),
+        })
+    }
+}
+
+// The sums of a period so far. Where another period went on, it has ended.
+fn go_on(current: Option<Span>, index: u64, ended: &mut Vec<Span>) -> Result<Sums, AllocError>
+    requires few { IfSome current (λ s. HasRoom s.sums) }
+    ensures sums { IfOk result (λ sums. sums ≡ sums_in current index) }
+    ensures ended { OnOk result (ended.new.items ≡ closed_by current index ended.old.items) }
+    ensures few { IfOk result HasRoom }
+{
+    match current {
+        Some(span) if span.index == index => Ok(span.sums),
+        Some(span) => {
+            ended.push(span)?;
+            Ok(Sums::new())
+        }
+        None => Ok(Sums::new()),
+    }
+}
+
+// The spans that ended, and the one that goes on.
+fn all_spans(ended: Vec<Span>, current: Option<Span>) -> Result<Vec<Span>, AllocError>
+    ensures { IfOk result (λ spans. spans.items ≡ with_last ended.items current) }
+{
+    let mut spans = ended;
+    if let Some(span) = current {
+        spans.push(span)?;
+    }
+    Ok(spans)
+}

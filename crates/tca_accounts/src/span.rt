@@ -1,0 +1,81 @@
+//! The sums of one period.
+ghost use Rattle.std.specs.Prelude.{◌≡◌, MatchBool, MatchOption};
+ghost use Rattle.tca_accounts.specs.Spans.{Ascend};
+
+use crate::sums::Sums;
+use std::marker::Model;
+
+/// The sums of a period.
+#[derive(Clone, Copy, Debug, PartialEq, Eq)]
+pub struct Span {
+    /// Which period it is: its times divided by the length of a period, rounded down.
+    pub index: u64,
+    /// Its octets and packets.
+    pub sums: Sums,
+}
+
+/// Spans whose indexes strictly ascend.
+#[derive(Drop)]
+pub struct Spans {
+    list: Vec<Span>,
+}
+
+impl Model for Spans {
+    ghost use Rattle.std.specs.Prelude.{List};
+    ghost use Rattle.tca_accounts.specs.declared.span.Span.{Span};
+    ghost use Rattle.tca_accounts.specs.Spans.{Ascend};
+
+    ghost Value = { List Span };
+
+    ghost view = { λ s. s.list.items };
+
+    ghost invariant = { λ s. Ascend s.list.items };
+}
+
+impl Spans {
+    /// These spans, where their indexes strictly ascend. It takes no memory.
+    pub fn new(list: Vec<Span>) -> Option<Spans>
+        ensures { MatchOption result (¬ Ascend list.items) (λ s. s ≡ list.items) }
+    {
+        if ascend(&list) {
+            Some(Spans { list })
+        } else {
+            None
+        }
+    }
+
+    /// Spans whose indexes are known to ascend. It takes no memory.
+    pub(crate) fn ascending(list: Vec<Span>) -> Spans
+        requires { Ascend list.items }
+        ensures { result ≡ list.items }
+    {
+        Spans { list }
+    }
+
+    /// The spans in order.
+    pub fn as_slice(&self) -> &[Span]
+        ensures list { result.now ≡ self.now }
+        ensures ascend { Ascend self.now }
+    {
+        &self.list
+    }
+
+    /// The spans as a list. It takes no memory.
+    pub fn into_vec(self) -> Vec<Span>
+        ensures { result.items ≡ self }
+    {
+        self.list
+    }
+}
+
+// Whether the indexes strictly ascend.
+fn ascend(list: &[Span]) -> bool
+    ensures { MatchBool result (Ascend list.now) (¬ Ascend list.now) }
+{
+    for i in 1..list.len() {
+        if list[i - 1].index >= list[i].index {
+            return false;
+        }
+    }
+    true
+}

@@ -1,0 +1,5 @@
+pub mod AccountLines
+pub mod AmountSums
+pub mod IssuedEntries
+pub mod OctetLimits
+pub mod SpanSearch

@@ -1,0 +1,203 @@
+use crate::{Amount, IssueFault, Issuer, Statement, render};
+use std::alloc::Global;
+use std::io;
+use std::test::Fail;
+use tca_accounts::{Bill, Plan, bill_all};
+use tca_log::Log;
+use tca_report::{Content, Host, Identity, Report};
+
+// The time of the first report of the worked rows.
+const START: u64 = 1_700_000_000_000;
+
+// The period of all of them, of an hour.
+const SPAN: u64 = 472_222;
+
+// One account, RFC 2697 blind, with the traffic of one interface.
+const PLAN: &[u8] =
+    b"period = 3600000\n[[account]]\nname = \"alpha\"\nmeter = \"rfc2697\"\ncir = 1000\ncbs = 2000\nebs = 1000\nkeys = [[7, 1]]\n";
+
+const THREE: &str =
+    "tcacct statement 1\nperiod 3600000\nreports 3\ndisputed 0\nunassigned 0\naccount alpha\ntotal 1500 1 1000 1 800 1\nspan 472222 1500 1 1000 1 800 1\nend\n";
+
+const NONE: &str =
+    "tcacct statement 1\nperiod 3600000\nreports 0\ndisputed 0\nunassigned 0\naccount alpha\ntotal 0 0 0 0 0 0\nend\n";
+
+// A place, milliseconds after the first, octets, and an interface.
+type Row = (u32, u64, u32, u32);
+
+const FIRST: [Row; 3] = [(0, 0, 1500, 1), (1, 100, 1000, 1), (2, 200, 800, 1)];
+
+const LATE: [Row; 4] = [
+    (3, 50, 600, 1),
+    (2, 200, 800, 1),
+    (0, 0, 1500, 1),
+    (1, 100, 1000, 1),
+];
+
+fn billed(alloc: Global, plan: &Plan, rows: &[Row]) -> Result<Bill, Fail> {
+    let mut log = Log::new(alloc);
+    for (place, late, octets, iface) in rows {
+        let identity = Identity {
+            domain: 7,
+            place: *place,
+        };
+        let content = Content {
+            time: START.wrapping_add(*late),
+            octets: *octets,
+            dscp: 0,
+            iface: *iface,
+        };
+        if let Some(report) = Report::new(identity, content) {
+            log.add(report)?;
+        }
+    }
+    Ok(bill_all(alloc, plan, &log)?)
+}
+
+fn text(alloc: Global, plan: &Plan, bill: &Bill) -> Result<Vec<u8>, Fail> {
+    if bill.accounts.as_slice().len() != plan.accounts() as usize {
+        return Ok(Vec::new(alloc));
+    }
+    let statement = Statement::of(alloc, plan, bill)?;
+    let mut out = Host::new(Vec::new(alloc));
+    let _ = render(&statement, &mut out);
+    Ok(out.into_inner())
+}
+
+#[test]
+fn writes_the_text_of_a_bill(rt: HostRuntime) -> Result<(), Fail> {
+    let alloc = rt.alloc();
+    let plan = Plan::from_text(alloc, PLAN)?;
+    let bill = billed(alloc, &plan, &FIRST)?;
+    let octets = text(alloc, &plan, &bill)?;
+    assert_eq!(rt; octets.len(), 144);
+    assert_eq!(rt; octets.as_slice(), THREE.as_bytes());
+    let bill = billed(alloc, &plan, &[])?;
+    assert_eq!(rt; text(alloc, &plan, &bill)?.as_slice(), NONE.as_bytes());
+    Ok(())
+}
+
+// Whether the statement of these reports has these lines behind the period.
+fn states(alloc: Global, rows: &[Row], lines: &str) -> Result<bool, Fail> {
+    let plan = Plan::from_text(alloc, PLAN)?;
+    let bill = billed(alloc, &plan, rows)?;
+    let octets = text(alloc, &plan, &bill)?;
+    let mut wanted = String::from_str(alloc, "tcacct statement 1\nperiod 3600000\n")?;
+    wanted.push_str(lines)?;
+    Ok(octets.as_slice() == wanted.as_bytes())
+}
+
+#[test]
+fn states_late_and_disputed_reports(rt: HostRuntime) -> Result<(), Fail> {
+    let alloc = rt.alloc();
+    let late =
+        "reports 4\ndisputed 0\nunassigned 0\naccount alpha\ntotal 1500 1 600 1 1800 2\nspan 472222 1500 1 600 1 1800 2\nend\n";
+    assert!(rt; states(alloc, &LATE, late)?);
+    let five = [
+        FIRST[0],
+        (3, 60, 601, 1),
+        FIRST[1],
+        (3, 50, 600, 1),
+        FIRST[2],
+    ];
+    let disputed =
+        "reports 5\ndisputed 1\nunassigned 0\naccount alpha\ntotal 1500 1 1000 1 800 1\nspan 472222 1500 1 1000 1 800 1\nend\n";
+    assert!(rt; states(alloc, &five, disputed)?);
+    let six = [
+        FIRST[0],
+        (3, 60, 601, 1),
+        FIRST[1],
+        (3, 50, 600, 1),
+        FIRST[2],
+        (3, 70, 602, 1),
+    ];
+    let more =
+        "reports 6\ndisputed 1\nunassigned 0\naccount alpha\ntotal 1500 1 1000 1 800 1\nspan 472222 1500 1 1000 1 800 1\nend\n";
+    assert!(rt; states(alloc, &six, more)?);
+    let hours = [
+        (0, 2_799_999, 100, 1),
+        (1, 2_800_000, 100, 1),
+        (2, 0, 50, 2),
+    ];
+    let two =
+        "reports 3\ndisputed 0\nunassigned 1\naccount alpha\ntotal 200 2 0 0 0 0\nspan 472222 100 1 0 0 0 0\nspan 472223 100 1 0 0 0 0\nend\n";
+    assert!(rt; states(alloc, &hours, two)?);
+    Ok(())
+}
+
+// A writer with room for some octets, which takes one at a time.
+#[derive(Drop)]
+struct Narrow {
+    taken: Vec<u8>,
+    room: usize,
+}
+
+impl io::Write for Narrow {
+    fn write(&mut self, buf: &[u8]) -> io::Result<usize> {
+        let n = buf.len().min(1).min(self.room);
+        self.taken.extend_from_slice(&buf[..n])?;
+        self.room -= n;
+        Ok(n)
+    }
+
+    fn flush(&mut self) -> io::Result<()> {
+        Ok(())
+    }
+}
+
+#[test]
+fn says_how_much_of_a_statement_went_out(rt: HostRuntime) -> Result<(), Fail> {
+    let alloc = rt.alloc();
+    let plan = Plan::from_text(alloc, PLAN)?;
+    let bill = billed(alloc, &plan, &FIRST)?;
+    assert!(rt; bill.accounts.as_slice().len() == plan.accounts() as usize);
+    let statement = Statement::of(alloc, &plan, &bill)?;
+    for room in [14, 143, 0] {
+        let mut out = Host::new(Narrow {
+            taken: Vec::new(alloc),
+            room,
+        });
+        let written = render(&statement, &mut out)
+            .err()
+            .map(|fault| fault.written);
+        assert_eq!(rt; written, Some(room as u64));
+        let taken = out.into_inner().taken;
+        assert!(rt; THREE.as_bytes().starts_with(taken.as_slice()));
+    }
+    Ok(())
+}
+
+fn amount(green: i64, yellow: i64, red: i64) -> Amount {
+    Amount { green, yellow, red }
+}
+
+#[test]
+fn issues_what_has_changed(rt: HostRuntime) -> Result<(), Fail> {
+    let alloc = rt.alloc();
+    let plan = Plan::from_text(alloc, PLAN)?;
+    let before = billed(alloc, &plan, &FIRST)?;
+    let after = billed(alloc, &plan, &LATE)?;
+    let mut issuer = Issuer::new(alloc, &plan)?;
+    assert_eq!(rt; issuer.issued(0, SPAN).len(), 0);
+    assert!(rt; before.accounts.as_slice().len() == plan.accounts() as usize);
+    assert!(rt; after.accounts.as_slice().len() == plan.accounts() as usize);
+    assert_eq!(rt; issuer.issue(&before, 0, SPAN), Ok(amount(1500, 1000, 800)));
+    assert_eq!(rt; issuer.issue(&after, 0, SPAN), Ok(amount(0, -400, 1000)));
+    assert_eq!(rt; issuer.issue(&after, 0, SPAN), Ok(amount(0, 0, 0)));
+    assert_eq!(rt;
+        issuer.issue(&after, 1, u64::MAX),
+        Err(IssueFault::NoAccount)
+    );
+    assert_eq!(rt;
+        issuer.issue(&after, 0, 78_187_494),
+        Err(IssueFault::Period)
+    );
+    assert_eq!(rt; issuer.issue(&after, 0, 78_187_493), Ok(amount(0, 0, 0)));
+    assert_eq!(rt; issuer.issued(0, SPAN).len(), 3);
+    assert_eq!(rt;
+        issuer.issued(0, SPAN).first().copied(),
+        Some(amount(1500, 1000, 800))
+    );
+    assert_eq!(rt; issuer.issued(1, SPAN).len(), 0);
+    Ok(())
+}

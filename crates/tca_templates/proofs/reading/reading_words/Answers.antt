@@ -1,0 +1,8 @@
+use Rattle.tca_templates.proofs.SessionLaws.{reading_found, reading_only}
+use Rattle.tca_templates.proofs.reading.reading_words.Goals as goal
+
+pub returns-clause-found : goal.returns-clause-found
+returns-clause-found c = reading_found
+
+pub returns-clause-only : goal.returns-clause-only
+returns-clause-only c = reading_only
