@@ -10,3 +10,4 @@ pub mod AccountLemmas
 pub mod PlanLemmas
 pub mod Memory
 pub mod TogetherLemmas
+pub mod Proper

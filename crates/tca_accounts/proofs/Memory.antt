@@ -11,6 +11,7 @@ use Rattle.tca_accounts.specs.declared.kind.Kind.{Kind}
 use Rattle.tca_accounts.specs.declared.kind.Kind.TheVariants as kind
 use Rattle.tca_accounts.specs.declared.fault.PlanFault.{PlanFault}
 use Rattle.tca_accounts.specs.declared.fault.PlanFault.TheVariants as fault
+use Rattle.tca_accounts.specs.Plans.{is_name}
 use Rattle.tca_accounts.specs.Documents as doc
 use Rattle.tca_accounts.specs.Documents.{◌>>=◌}
 use Rattle.tca_accounts.specs.Readings.{are_accounts, are_few, together}
@@ -65,7 +66,7 @@ other None = tt
 other (Some d) = step (doc.text_of key.Other (Some d)) doc.colour_named (text key.Other (Some d)) (λ word. choice (bytes_eq word (codes "green")) (Ok _) _ tt (choice (bytes_eq word (codes "yellow")) (Ok _) _ tt (choice (bytes_eq word (codes "red")) (Ok _) (Err (fault.Wrong key.Other)) tt (not_wrong key.Other))))
 
 name : (ms : Members) → Suffices (doc.name_in ms)
-name ms = step (doc.text_of key.Name (doc.at key.Name ms)) _ (text key.Name _) (λ s. step (doc.only_if (doc.is_name s) (fault.Wrong key.Name)) _ (tested _ _ (not_wrong key.Name)) (λ _. tt))
+name ms = step (doc.text_of key.Name (doc.at key.Name ms)) _ (text key.Name _) (λ s. step (doc.only_if (is_name s) (fault.Wrong key.Name)) _ (tested _ _ (not_wrong key.Name)) (λ _. tt))
 
 number : (k : Key) (ms : Members) → Suffices (doc.number_in k ms)
 number k ms = whole k 0 (2 ^ 63 - 1) (doc.at k ms)

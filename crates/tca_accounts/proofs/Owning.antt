@@ -1,15 +1,16 @@
 -- Entering the pairs of accounts one by one.
-use Rattle.std.proofs.Common.{◌≡◌, ℕ, ◌+◌, ◌<◌, Bool, true, false, ◌&&◌, ◌||◌, not, cond, eqb, List, [], ◌∷◌, ◌++◌, length, map, Option, Some, None, IfSome, suc, is_none, is_some, refl, sym, ap, ap₂, drop, get_or, add-one, append_assoc, ◌∙◌, arith}
+use Rattle.std.proofs.Common.{◌≡◌, ℕ, zero, ◌+◌, ◌<◌, ◌⊎◌, inl, inr, Bool, true, false, ◌&&◌, ◌||◌, not, cond, eqb, List, [], ◌∷◌, ◌++◌, length, map, Option, Some, None, IfSome, suc, is_none, is_some, refl, sym, ap, ap₂, drop, get_or, slice_get, add-one, append_assoc, ◌∙◌, arith}
 use Rattle.std.proofs.lemmas.Bool.Decides.{nat_tests}
-use Rattle.std.proofs.lemmas.Bool.{eq-eqb, ne_eqb}
+use Rattle.std.proofs.lemmas.Bool.{eq-eqb, false≢true, ne_eqb}
 use Rattle.std.proofs.lemmas.Cmp.{ranked}
 use Rattle.std.proofs.Math.Seq.{drop-cons}
 use Rattle.std.specs.List.{list_all, list_any, position_from}
 use Rattle.std.specs.BTreeMap.{is_at}
+use Rattle.std.specs.Str.{bytes_eq}
 use Rattle.std.specs.Ordering.{nat_cmp, ordering_then, is_eq, MatchOrdering}
 use Rattle.std.specs.declared.cmp.Ordering.{Ordering}
 use Rattle.std.specs.declared.cmp.Ordering.TheVariants.{Less, Equal, Greater}
-use Rattle.tca_accounts.specs.Plans.{PlannedAccount, all_differ, all_pairs, owns, same_pair}
+use Rattle.tca_accounts.specs.Plans.{PlannedAccount, all_differ, all_pairs, are_distinct, owns, same_pair}
 use Rattle.tca_accounts.specs.Owners.{AreOwners, GoesOn, IsTwice, are_new, or_else, owned, owner_among, owner_in, owner_then, pair_cmp}
 
 abbrev Pair : Type 0
@@ -209,3 +210,74 @@ from_zero len (Some m) h = omega (arith, h)
 -- an account that is found is one of the accounts
 pub owner_below : (pair : Pair) (accounts : List PlannedAccount) → IfSome (position_from (λ a. owns a pair) 0 accounts) (λ m. m < length accounts)
 owner_below pair accounts = from_zero (length accounts) (position_from (λ a. owns a pair) 0 accounts) (below_from pair 0 accounts)
+
+either : (a b : Bool) → (a || b) ≡ true → (a ≡ true) ⊎ (b ≡ true)
+either true b h = inl refl
+either false b h = inr h
+
+or_true : (a b : Bool) → b ≡ true → (a || b) ≡ true
+or_true true b h = refl
+or_true false b h = h
+
+and_false : (a b : Bool) → b ≡ false → (a && b) ≡ false
+and_false true b h = h
+and_false false b h = refl
+
+not_first : (a b : Bool) → a ≡ true → (not a && b) ≡ false
+not_first true b h = refl
+not_first false b h = absurd (false≢true h)
+
+not_true : (b : Bool) → (b ≡ true → false ≡ true) → b ≡ false
+not_true true h = absurd (false≢true (h refl))
+not_true false h = refl
+
+among_first : (pair : Pair) (ks others : List Pair) → list_any (same_pair pair) ks ≡ true → list_any (same_pair pair) (ks ++ others) ≡ true
+among_first pair [] others h = absurd (false≢true h)
+among_first pair (k ∷ ks) others h =
+    elim (either (same_pair pair k) (list_any (same_pair pair) ks) h) [
+      | inl here ↦ ap (λ b. b || list_any (same_pair pair) (ks ++ others)) here
+      | inr later ↦ or_true (same_pair pair k) (list_any (same_pair pair) (ks ++ others)) (among_first pair ks others later)
+    ]
+
+among_later : (pair : Pair) (ks others : List Pair) → list_any (same_pair pair) others ≡ true → list_any (same_pair pair) (ks ++ others) ≡ true
+among_later pair [] others h = h
+among_later pair (k ∷ ks) others h = or_true (same_pair pair k) (list_any (same_pair pair) (ks ++ others)) (among_later pair ks others h)
+
+-- a pair that is among the first and among the others stands twice
+among_both : (pair : Pair) (ks others : List Pair) → list_any (same_pair pair) ks ≡ true → list_any (same_pair pair) others ≡ true → all_differ same_pair (ks ++ others) ≡ false
+among_both pair [] others h g = absurd (false≢true h)
+among_both pair (k ∷ ks) others h g =
+    elim (either (same_pair pair k) (list_any (same_pair pair) ks) h) [
+      | inl here ↦ not_first (list_any (same_pair k) (ks ++ others)) (all_differ same_pair (ks ++ others)) (ap (λ (p : Pair). list_any (same_pair p) (ks ++ others)) (sym (same_one pair k here)) ∙ among_later pair ks others g)
+      | inr later ↦ and_false (not (list_any (same_pair k) (ks ++ others))) (all_differ same_pair (ks ++ others)) (among_both pair ks others later g)
+    ]
+
+others_differ : (ks others : List Pair) → all_differ same_pair (ks ++ others) ≡ true → all_differ same_pair others ≡ true
+others_differ [] others h = h
+others_differ (k ∷ ks) others h = others_differ ks others (both (not (list_any (same_pair k) (ks ++ others))) (all_differ same_pair (ks ++ others)) h).1
+
+module _ (pair : Pair) where
+  owned_there : (as_ : List PlannedAccount) (n : ℕ) (a : PlannedAccount) → slice_get as_ n ≡ Some a → owns a pair ≡ true → list_any (same_pair pair) (all_pairs as_) ≡ true
+  owned_there [] n a at h = absurd cc
+  owned_there (b ∷ rest) zero a at h =
+      let same : b ≡ a = cc in
+      among_first pair b.keys (all_pairs rest) (ap (λ (x : PlannedAccount). owns x pair) same ∙ h)
+  owned_there (b ∷ rest) (suc n) a at h = among_later pair b.keys (all_pairs rest) (owned_there rest n a at h)
+
+  -- where all pairs differ, an account that owns a pair is the first one that does
+  pub sole_owner : (first : ℕ) (as_ : List PlannedAccount) (n : ℕ) (a : PlannedAccount) → all_differ same_pair (all_pairs as_) ≡ true → slice_get as_ n ≡ Some a → owns a pair ≡ true
+      → position_from (λ a. owns a pair) first as_ ≡ Some (first + n)
+  sole_owner first [] n a differ at h = absurd cc
+  sole_owner first (b ∷ rest) zero a differ at h =
+      let same : b ≡ a = cc in
+      let place : first ≡ first + zero = omega arith in
+      ap (λ c. cond c (Some first) (position_from (λ a. owns a pair) (first + 1) rest)) (ap (λ (x : PlannedAccount). owns x pair) same ∙ h) ∙ ap Some place
+  sole_owner first (b ∷ rest) (suc n) a differ at h =
+      let there : list_any (same_pair pair) (all_pairs rest) ≡ true = owned_there rest n a at h in
+      let other : owns b pair ≡ false = not_true (owns b pair) (λ here. sym (among_both pair b.keys (all_pairs rest) here there) ∙ differ) in
+      let place : (first + 1) + n ≡ first + suc n = omega arith in
+      ap (λ c. cond c (Some first) (position_from (λ a. owns a pair) (first + 1) rest)) other ∙ sole_owner (first + 1) rest n a (others_differ b.keys (all_pairs rest) differ) at h ∙ ap Some place
+
+-- the pairs of accounts that are distinct all differ
+pub pairs_apart : (accounts : List PlannedAccount) → are_distinct accounts ≡ true → all_differ same_pair (all_pairs accounts) ≡ true
+pairs_apart accounts h = (both (all_differ same_pair (all_pairs accounts)) (all_differ (λ a b. bytes_eq a.name b.name) accounts) h).0

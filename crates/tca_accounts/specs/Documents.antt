@@ -1,6 +1,6 @@
 -- The plan that a TOML document is, or its first fault.
 use Rattle.std.specs.Prelude.{ℕ, ◌^◌, ◌-◌, suc, pos, Bool, true, false, ◌&&◌, List, [], ◌∷◌, length, Option, Some, None, Result, Ok, Err, codes, nat_le, if◌then◌else◌}
-use Rattle.std.specs.List.{list_any, list_all}
+use Rattle.std.specs.List.{list_any}
 use Rattle.std.specs.Str.{bytes_eq}
 use Rattle.toml.specs.Data.{Data, Items, Members, array, boolean, get_member, integer, item, member, no_items, no_members, string, table}
 use Rattle.tca_meters.specs.declared.any_meter.AnyMeter.{AnyMeter}
@@ -12,7 +12,7 @@ use Rattle.tca_meters.specs.MeterSpecs.{as_any}
 use Rattle.tca_meters.specs.SrTcm.{single_rate}
 use Rattle.tca_meters.specs.TrTcm.{peak_rate}
 use Rattle.tca_meters.specs.Rfc4115.{excess_rate}
-use Rattle.tca_accounts.specs.Plans.{AccountPlan, PlannedAccount, all_differ, all_pairs, same_pair}
+use Rattle.tca_accounts.specs.Plans.{AccountPlan, PlannedAccount, all_pairs, are_distinct, is_name}
 use Rattle.tca_accounts.specs.declared.key.Key.{Key}
 use Rattle.tca_accounts.specs.declared.key.Key.TheVariants as key
 use Rattle.tca_accounts.specs.declared.kind.Kind.{Kind}
@@ -96,14 +96,6 @@ kind_named word =
 -- the kind of an account's meter
 abbrev pub kind_in : Members → Result Kind PlanFault
 kind_in ms = text_of key.Meter (at key.Meter ms) >>= kind_named
-
--- a letter or digit of ASCII, a hyphen or an underscore
-abbrev pub is_name_octet : ℕ → Bool
-is_name_octet c = list_any (λ (range : ℕ × ℕ). nat_le range.0 c && nat_le c range.1) ((65, 90) ∷ (97, 122) ∷ (48, 57) ∷ (45, 45) ∷ (95, 95) ∷ [])
-
--- a name has 1 to 32 of these
-abbrev pub is_name : List ℕ → Bool
-is_name s = nat_le 1 (length s) && (nat_le (length s) 32 && list_all is_name_octet s)
 
 -- an account's name
 abbrev pub name_in : Members → Result (List ℕ) PlanFault
@@ -231,10 +223,6 @@ accounts_from n (item d ds) = do
   account ← account_in n d
   others ← accounts_from (suc n) ds
   Ok (account ∷ others)
-
--- no pair has two accounts, or one account twice, and no two accounts have one name
-abbrev pub are_distinct : List PlannedAccount → Bool
-are_distinct accounts = all_differ same_pair (all_pairs accounts) && all_differ (λ a b. bytes_eq a.name b.name) accounts
 
 -- a plan of these accounts
 abbrev pub plan_with : ℕ → List PlannedAccount → Result AccountPlan PlanFault

@@ -3,6 +3,8 @@ use Rattle.std.specs.Prelude.{◌≡◌, ℕ, ◌+◌, Bool, ◌&&◌, false, Li
 use Rattle.std.specs.List.{list_all, position_from}
 use Rattle.std.specs.Map.{lookup}
 use Rattle.std.specs.BTreeMap.{is_at}
+use Rattle.std.specs.Cmp.{IsTotalOrder, nat_cmp_total}
+use Rattle.std.proofs.lemmas.Cmp.{on_total, then_total}
 use Rattle.std.specs.Ordering.{nat_cmp, ordering_then}
 use Rattle.std.specs.declared.cmp.Ordering.{Ordering}
 use Rattle.tca_accounts.specs.Plans.{PlannedAccount, all_differ, owns, same_pair}
@@ -10,6 +12,10 @@ use Rattle.tca_accounts.specs.Plans.{PlannedAccount, all_differ, owns, same_pair
 -- by observation domain, and then by interface
 abbrev pub pair_cmp : ℕ × ℕ → ℕ × ℕ → Ordering
 pair_cmp p q = ordering_then (nat_cmp p.0 q.0) (nat_cmp p.1 q.1)
+
+-- that order is total
+pub pair_total : IsTotalOrder pair_cmp
+pair_total = then_total (on_total (λ p. p.0) nat_cmp_total) (on_total (λ p. p.1) nat_cmp_total)
 
 -- what the entries have for a pair
 abbrev pub owner_in : List ((ℕ × ℕ) × ℕ) → ℕ × ℕ → Option ℕ

@@ -1,6 +1,7 @@
 -- What a plan is: the length of a period, and accounts, each with a meter and the traffic that it owns.
-use Rattle.std.specs.Prelude.{ℕ, ◌<◌, ◌≤◌, ◌^◌, ◌==◌, Bool, true, ◌&&◌, not, List, [], ◌∷◌, length, Option}
-use Rattle.std.specs.List.{list_any, flat_map, position_from}
+use Rattle.std.specs.Prelude.{◌≡◌, ℕ, ◌<◌, ◌≤◌, ◌^◌, ◌==◌, Bool, true, ◌&&◌, not, List, [], ◌∷◌, length, nat_le, Option}
+use Rattle.std.specs.List.{AllByRecursion, list_all, list_any, flat_map, position_from}
+use Rattle.std.specs.Str.{bytes_eq}
 use Rattle.tca_meters.specs.declared.any_meter.AnyMeter.{AnyMeter}
 use Rattle.tca_meters.specs.declared.colour.Colour.{Colour}
 use Rattle.tca_report.specs.Reports.{PacketReport}
@@ -43,10 +44,26 @@ abbrev pub all_differ : {K : Type 0} → (K → K → Bool) → List K → Bool
 all_differ same [] = true
 all_differ same (k ∷ ks) = not (list_any (same k) ks) && all_differ same ks
 
--- a plan's period is 1 to 2^48-1 ms, and it has 1 to 256 accounts with 4,096 pairs at most
+-- no pair has two accounts, or one account twice, and no two accounts have one name
+abbrev pub are_distinct : List PlannedAccount → Bool
+are_distinct accounts = all_differ same_pair (all_pairs accounts) && all_differ (λ a b. bytes_eq a.name b.name) accounts
+
+-- a letter or digit of ASCII, a hyphen or an underscore
+abbrev pub is_name_octet : ℕ → Bool
+is_name_octet c = list_any (λ (range : ℕ × ℕ). nat_le range.0 c && nat_le c range.1) ((65, 90) ∷ (97, 122) ∷ (48, 57) ∷ (45, 45) ∷ (95, 95) ∷ [])
+
+-- a name has 1 to 32 of these
+abbrev pub is_name : List ℕ → Bool
+is_name s = nat_le 1 (length s) && (nat_le (length s) 32 && list_all is_name_octet s)
+
+-- a plan's period is 1 to 2^48-1 ms, it has 1 to 256 accounts with 4,096 pairs at most, each account has a name and a pair at least, and no
+-- pair and no name stands twice
 pub record IsPlan (plan : AccountPlan) : Type 0 where
   pub some_time : 0 < plan.period
   pub time : plan.period < 2 ^ 48
   pub some : 0 < length plan.accounts
   pub few : length plan.accounts ≤ 256
   pub pairs : length (all_pairs plan.accounts) ≤ 4096
+  pub named : AllByRecursion (λ a. is_name a.name ≡ true) plan.accounts
+  pub owning : AllByRecursion (λ a. 0 < length a.keys) plan.accounts
+  pub distinct : are_distinct plan.accounts ≡ true

@@ -12,7 +12,7 @@ use Rattle.tca_accounts.specs.declared.span.Span.{Span}
 abbrev pub Ascend : List Span → Type 0
 Ascend spans = IsStrictlySortedBy nat_cmp (map (λ s. s.index) spans)
 
--- the period of a time, counted from time 0
+-- the period of a report: its time by the length of a period, rounded down
 abbrev pub period_of : ℕ → PacketReport → ℕ
 period_of period r = r.time / period
 

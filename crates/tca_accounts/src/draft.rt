@@ -2,7 +2,8 @@
 ghost use Rattle.std.specs.Prelude.{◌≡◌, IfOk, IsOk};
 ghost use Rattle.std.specs.List.{list_all};
 ghost use Rattle.toml.specs.View.{table_view, view};
-ghost use Rattle.tca_accounts.specs.Documents.{account_in, colour_named, is_name, is_name_octet, name_in, other_of};
+ghost use Rattle.tca_accounts.specs.Documents.{account_in, colour_named, name_in, other_of};
+ghost use Rattle.tca_accounts.specs.Plans.{is_name, is_name_octet};
 ghost use Rattle.tca_accounts.specs.Faults.{Gives};
 ghost use Rattle.tca_accounts.specs.Readings.{account_read, drafted, found, mapped};
 

@@ -1,3 +1,4 @@
+//! Why a text is no plan.
 ghost use Rattle.std.specs.Prelude.{◌≡◌};
 ghost use Rattle.tca_accounts.specs.Faults.{plan_number};
 

@@ -1,3 +1,4 @@
+//! The keys of a plan's document.
 use std::fmt;
 
 /// A key of a plan's document.

@@ -1,3 +1,4 @@
+//! The kinds of meters that a plan names.
 /// The kind of an account's meter.
 #[derive(Clone, Copy, Debug, PartialEq, Eq)]
 pub enum Kind {

@@ -4,11 +4,12 @@ ghost use Rattle.tca_accounts.specs.Plans.{all_differ, all_pairs, same_pair};
 ghost use Rattle.tca_accounts.specs.Owners.{AreOwners, GoesOn, IsTwice};
 
 use crate::account::Account;
+use crate::point::Point;
 use std::alloc::{AllocError, Global};
 use std::collections::BTreeMap;
 
 /// The number of the account that owns each pair.
-pub(crate) type Owners = BTreeMap<(u32, u32), u32>;
+pub(crate) type Owners = BTreeMap<Point, u32>;
 
 // Enters the pairs of an account, unless one stands there already.
 fn enter(owners: &mut Owners, account: u32, keys: &[(u32, u32)]) -> Result<bool, AllocError>
@@ -16,7 +17,7 @@ fn enter(owners: &mut Owners, account: u32, keys: &[(u32, u32)]) -> Result<bool,
     ensures twice { IfOk result (λ b. b ≡ false → IsTwice owners.old.entries (map (λ k. (k, account)) keys.now)) }
 {
     for pair in keys {
-        if owners.insert(*pair, account)?.is_some() {
+        if owners.insert(Point::new(*pair), account)?.is_some() {
             return Ok(false);
         }
     }

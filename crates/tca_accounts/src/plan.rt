@@ -1,12 +1,14 @@
 //! A plan.
-ghost use Rattle.std.specs.Prelude.{◌≡◌, ◌<◌, ◌≤◌, ◌^◌, IfOk, IfSome, Some, slice_get, length, map};
-ghost use Rattle.tca_accounts.specs.Plans.{IsPlan, account_of};
+ghost use Rattle.std.specs.Prelude.{◌≡◌, ℕ, ◌<◌, ◌≤◌, ◌^◌, IfOk, IfSome, Some, slice_get, length, map, true};
+ghost use Rattle.std.specs.List.{AllByRecursion};
+ghost use Rattle.tca_accounts.specs.Plans.{IsPlan, PlannedAccount, account_of, is_name, owns, pair_of};
 ghost use Rattle.tca_accounts.specs.Documents.{plan_with};
 ghost use Rattle.tca_accounts.specs.Faults.{Gives};
 
 use crate::account::{Account, are_few, copied, names_differ};
 use crate::fault::PlanFault;
 use crate::owners::{Owners, owners_of};
+use crate::point::Point;
 use std::alloc::{AllocError, Global};
 use std::marker::Model;
 use tca_meters::{AnyMeter, Colour};
@@ -40,6 +42,8 @@ impl Plan {
         requires time { period < 2 ^ 48 }
         requires some { 0 < length accounts.items }
         requires few { length accounts.items ≤ 256 }
+        requires named { AllByRecursion (λ a. is_name a.name ≡ true) accounts.items }
+        requires owning { AllByRecursion (λ a. 0 < length a.keys) accounts.items }
         ensures { Gives (λ p. p) result (plan_with period accounts.items) }
     {
         if !are_few(&accounts) {
@@ -58,13 +62,13 @@ impl Plan {
         }
     }
 
-    /// The account, counted from 0, that owns a report, found in logarithmic time.
+    /// The account, counted from 0, that owns a report, found in logarithmic time. No other account owns it.
     pub fn account_of(&self, report: &Report) -> Option<u32>
         ensures account { result ≡ account_of self.now report.now }
         ensures below { IfSome result (λ n. n < length self.now.accounts) }
+        ensures only { (n : ℕ) (a : PlannedAccount) → slice_get self.now.accounts n ≡ Some a → owns a (pair_of report.now) ≡ true → result ≡ Some n }
     {
-        let pair = (report.identity().domain, report.content().iface);
-        self.owners.get(&pair).copied()
+        self.owners.get(&Point::of(report)).copied()
     }
 
     /// How many accounts there are.

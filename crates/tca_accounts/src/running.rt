@@ -1,10 +1,10 @@
 //! Metering one account.
-ghost use Rattle.std.specs.Prelude.{◌≡◌, ℕ, ◌<◌, ◌≤◌, List, ◌∷◌, IfOk, OnOk, IfSome};
+ghost use Rattle.std.specs.Prelude.{◌≡◌, ℕ, ◌<◌, ◌≤◌, List, ◌∷◌, IfOk, OnOk, IfSome, Some};
 ghost use Rattle.tca_report.specs.Reports.{PacketReport};
 ghost use Rattle.tca_meters.specs.declared.colour.Colour.{Colour};
 ghost use Rattle.tca_meters.specs.Packets.{colours};
 ghost use Rattle.tca_meters.specs.AnyMeters.{any_rule};
-ghost use Rattle.tca_accounts.specs.Sums.{packet_of};
+ghost use Rattle.tca_accounts.specs.Sums.{packet_of, with_packet};
 ghost use Rattle.tca_accounts.specs.Spans.{Ascend};
 ghost use Rattle.tca_accounts.specs.Metering.{CanAdd, HasRoom, IsRunning, closed_by, sums_in, tally_so_far, with_last};
 
@@ -63,10 +63,14 @@ impl Running {
         let pre = precolour(content.dscp, self.other);
         let (colour, state) = self.meter.offer(filled, content.octets, pre);
         let index = content.time / period;
-        let mut sums = go_on(self.current, index, &mut self.ended)?;
-        sums.count(colour, content.octets);
+        count_in(
+            &mut self.current,
+            &mut self.ended,
+            index,
+            colour,
+            content.octets,
+        )?;
         self.total.count(colour, content.octets);
-        self.current = Some(Span { index, sums });
         self.state = state;
         self.time = content.time;
         Ok(())
@@ -85,21 +89,30 @@ impl Running {
     }
 }
 
-// The sums of a period so far. Where another period went on, it has ended.
-fn go_on(current: Option<Span>, index: u64, ended: &mut Vec<Span>) -> Result<Sums, AllocError>
-    requires few { IfSome current (λ s. HasRoom s.sums) }
-    ensures sums { IfOk result (λ sums. sums ≡ sums_in current index) }
-    ensures ended { OnOk result (ended.new.items ≡ closed_by current index ended.old.items) }
-    ensures few { IfOk result HasRoom }
+// Counts a packet in the span of a period. Where that of another one went on, it has ended.
+fn count_in(
+    current: &mut Option<Span>,
+    ended: &mut Vec<Span>,
+    index: u64,
+    colour: Colour,
+    octets: u32,
+) -> Result<(), AllocError>
+    requires few { IfSome current.old (λ s. HasRoom s.sums) }
+    requires size { octets ≤ 65575 }
+    ensures current { OnOk result (current.new ≡ Some (record { index = index; sums = with_packet colour octets (sums_in current.old index) })) }
+    ensures ended { OnOk result (ended.new.items ≡ closed_by current.old index ended.old.items) }
 {
-    match current {
-        Some(span) if span.index == index => Ok(span.sums),
-        Some(span) => {
-            ended.push(span)?;
-            Ok(Sums::new())
+    if let Some(span) = current {
+        if span.index == index {
+            span.sums.count(colour, octets);
+            return Ok(());
         }
-        None => Ok(Sums::new()),
+        ended.push(*span)?;
     }
+    let mut sums = Sums::new();
+    sums.count(colour, octets);
+    *current = Some(Span { index, sums });
+    Ok(())
 }
 
 // The spans that ended, and the one that goes on.

@@ -4,7 +4,6 @@ pub mod Each
 pub mod Gathering
 pub mod Logs
 pub mod Noting
-pub mod Packing
 pub mod Parts
 pub mod Places
 pub mod Ranks
@@ -13,3 +12,4 @@ pub mod Ties
 pub mod Undisputed
 pub mod Uniting
 pub mod Whole
+pub mod Alone

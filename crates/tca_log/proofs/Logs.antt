@@ -18,7 +18,7 @@ use Rattle.tca_log.specs.declared.answer.Added.TheVariants.{Fresh, Repeat, NewDi
 use Rattle.tca_log.specs.declared.by_identity.ByIdentity.{ByIdentity}
 use Rattle.tca_log.specs.Chunks.{tied}
 use Rattle.tca_log.specs.Disputes.{contents, rivals, added, among_rivals}
-use Rattle.tca_log.specs.Logs.{index_cmp, indexed, count_at, IsLog, answered, index_after, disputes_after}
+use Rattle.tca_log.specs.Logs.{index_cmp, indexed, count_at, IsKept, IsLog, answered, index_after, disputes_after}
 use Rattle.tca_log.proofs.Places.{length_put}
 use Rattle.tca_log.proofs.Search.{has_tied, put_there, tied_is, all_tied}
 use Rattle.tca_log.proofs.Contents.{tests_alike, count_put, has-disputed, disputed_rises, disputed_is, rivals_are, has-filter}
@@ -36,6 +36,25 @@ nothing = record {
   disputes = disputed_is [] [] tt (λ i. refl);
   fewer = omega arith;
   fewer_disputes = omega arith;
+}
+
+pub nothing_kept : IsKept [] None []
+nothing_kept = record {
+  rises = nothing.rises;
+  limit = nothing.limit;
+  disputes = nothing.disputes;
+  fewer_disputes = nothing.fewer_disputes;
+  indexed = tt;
+}
+
+-- a log that keeps its index
+pub kept : {rs : List PacketReport} {index : List ByIdentity} {doubled : List Identity} → IsLog rs index doubled → IsKept rs (Some index) doubled
+kept log = record {
+  rises = log.rises;
+  limit = log.limit;
+  disputes = log.disputes;
+  fewer_disputes = log.fewer_disputes;
+  indexed = log;
 }
 
 -- a report that is there

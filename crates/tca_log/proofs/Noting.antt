@@ -78,7 +78,7 @@ noted_end index disputes [] (suc i) n h = refl
 noted_end index disputes (k ∷ keys) zero n h = absurd (omega arith)
 noted_end index disputes (k ∷ keys) (suc i) n h = noted_end index disputes keys i n (omega arith)
 
-count_snoc : (rs : List PacketReport) (r : PacketReport) (i : Identity) → count_at (rs ++ r ∷ []) i ≡ count_at rs i + cond (eq_by_cmp identity_cmp i (identity_of r)) 1 0
+pub count_snoc : (rs : List PacketReport) (r : PacketReport) (i : Identity) → count_at (rs ++ r ∷ []) i ≡ count_at rs i + cond (eq_by_cmp identity_cmp i (identity_of r)) 1 0
 unfolding contents
 count_snoc rs r i =
     ap length (filter-append (λ x. eq_by_cmp identity_cmp i (identity_of x)) rs (r ∷ []))

@@ -17,11 +17,11 @@ use Rattle.tca_report.proofs.Identities.{identity_total}
 use Rattle.tca_report.specs.declared.report.Identity.{Identity}
 use Rattle.tca_log.specs.declared.by_identity.ByIdentity.{ByIdentity}
 use Rattle.tca_log.specs.Chunks.{put_each, without_each, AreApart}
-use Rattle.tca_log.specs.Disputes.{contents}
+use Rattle.tca_log.specs.Disputes.{contents, disputed}
 use Rattle.tca_log.specs.Logs.{index_cmp, indexed, count_at, IsLog, AreNotes, Noted, noted_all, reports_of}
-use Rattle.tca_log.proofs.Each.{has-put_each, rises_put_each, all_put_each, length-put_each, still_apart, beyond_rises, beyond_apart}
+use Rattle.tca_log.proofs.Each.{has-put_each, rises_put_each, all_put_each, length-put_each, still_apart, beyond_rises, beyond_apart, apart_none, put_each_none}
 use Rattle.tca_log.proofs.Contents.{length-filter_put, disputed_rises, disputed_is, has-filter}
-use Rattle.tca_log.proofs.Logs.{index_total}
+use Rattle.tca_log.proofs.Logs.{index_total, nothing}
 use Rattle.tca_log.proofs.Noting.{notes_all, or_comm, or_true, put_each_longest}
 
 reports_back : (rs : List PacketReport) → reports_of (map indexed rs) ≡ rs
@@ -110,3 +110,11 @@ module _ {K : Type 0} (R : K → K → Ordering) (o : IsTotalOrder R) (exact : C
 
   pub union_length : (rs others : List K) → IsStrictlySortedBy R rs → IsStrictlySortedBy R others → length (in_order R (rs ++ others)) ≡ length rs + length (without_each R rs others)
   union_length rs others s t = sym (ap length (union_is rs others s)) ∙ length-put_each R o (without_each R rs others) rs (beyond_rises R o rs others t) (beyond_apart R o rs others)
+
+-- the index of reports by themselves
+pub index_made : (rs : List PacketReport) (keys : List ByIdentity) (n : Noted) → IsPermutation (map indexed rs) keys → n ≡ noted_all [] [] keys (record { fresh = []; twice = [] })
+    → IsStrictlySortedBy report_cmp rs → length rs ≤ 4194304 → (doubled : List Identity) → doubled ≡ disputed rs → IsLog rs (put_each index_cmp n.fresh []) doubled
+index_made rs keys n same is rises few doubled all =
+    let whole = united_log [] [] [] rs keys n nothing same is rises (apart_none report_cmp report_total rs) (omega (arith, few)) in
+    let log : IsLog rs (put_each index_cmp n.fresh []) (put_each identity_cmp n.twice []) = subst (λ (l : List PacketReport). IsLog l (put_each index_cmp n.fresh []) (put_each identity_cmp n.twice [])) (put_each_none report_cmp report_total rs rises) whole in
+    subst (IsLog rs (put_each index_cmp n.fresh [])) (log.disputes ∙ sym all) log

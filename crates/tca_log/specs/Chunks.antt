@@ -58,7 +58,7 @@ pub record Ordered (K : Type 0) : Type 0 where
   pub rows : List K
   pub ready : Bool
 
--- a container of at most 4,194,304, that counts them; the spare chunk is empty, and there is a place for it
+-- a container of at most 4,194,304 rows, which it counts. Its spare chunk is empty, and there is a place for it
 pub record AreRows {K : Type 0} (R : K → K → Ordering) (cs : List (List K)) (extra : Option (List K)) (number room : ℕ) : Type 0 where
   pub chunks : AreChunks R cs
   pub count : number ≡ length (joined cs)

@@ -1,5 +1,5 @@
 -- A log's set, with what is kept beside it: a content of each identity, and the identities that are disputed.
-use Rattle.std.specs.Prelude.{◌≡◌, ℕ, ◌+◌, ◌≤◌, ◌||◌, if◌then◌else◌, Bool, true, false, List, [], ◌∷◌, length, map, nat_lt, Option, Some, None}
+use Rattle.std.specs.Prelude.{◌≡◌, ℕ, ◌+◌, ◌≤◌, ◌||◌, if◌then◌else◌, Bool, true, false, List, [], ◌∷◌, length, map, nat_lt, option_map, IfSome, Option, Some, None}
 use Rattle.std.specs.List.{AllByRecursion}
 use Rattle.std.specs.List.Sorted.{IsStrictlySortedBy}
 use Rattle.std.specs.declared.cmp.Ordering.{Ordering}
@@ -10,7 +10,7 @@ use Rattle.tca_report.specs.declared.report.Identity.{Identity}
 use Rattle.tca_log.specs.declared.answer.Added.{Added}
 use Rattle.tca_log.specs.declared.answer.Added.TheVariants.{Fresh, NewDispute, MoreDispute}
 use Rattle.tca_log.specs.declared.by_identity.ByIdentity.{ByIdentity}
-use Rattle.tca_log.specs.Chunks.{tied, AreApart}
+use Rattle.tca_log.specs.Chunks.{tied, AreApart, Ordered}
 use Rattle.tca_log.specs.Disputes.{by_identity_cmp, contents, disputed}
 
 -- the order of the index
@@ -34,6 +34,18 @@ pub record IsLog (rs : List PacketReport) (index : List ByIdentity) (doubled : L
   pub disputes : doubled ≡ disputed rs
   pub fewer : length index ≤ length rs
   pub fewer_disputes : length doubled ≤ length rs
+
+-- the rows of an index, where there is one
+abbrev pub index_rows : Option (Ordered ByIdentity) → Option (List ByIdentity)
+index_rows index = option_map (λ o. o.rows) index
+
+-- a log's set and its disputed identities agree, and its index with both, where it has one
+pub record IsKept (rs : List PacketReport) (index : Option (List ByIdentity)) (doubled : List Identity) : Type 0 where
+  pub rises : IsStrictlySortedBy report_cmp rs
+  pub limit : length rs ≤ 4194304
+  pub disputes : doubled ≡ disputed rs
+  pub fewer_disputes : length doubled ≤ length rs
+  pub indexed : IfSome index (λ ix. IsLog rs ix doubled)
 
 -- the content that the index has of a report's identity
 abbrev pub first_of : List ByIdentity → PacketReport → Option ByIdentity

@@ -37,6 +37,16 @@ impl<K: Ord + Copy, A: Allocator> Chunk<K, A> {
         })
     }
 
+    /// A chunk of these rows.
+    pub(crate) fn of(alloc: A, rows: &[K]) -> Result<Chunk<K, A>, AllocError>
+        requires { length rows.now ≤ 256 }
+        ensures { IfOk result (λ c. c ≡ rows.now) }
+    {
+        let mut chunk = Vec::with_capacity(alloc, CHUNK)?;
+        chunk.extend_from_slice(rows)?;
+        Ok(Chunk { rows: chunk })
+    }
+
     /// How many rows there are.
     pub(crate) fn len(&self) -> usize
         ensures length { result ≡ length self.now }

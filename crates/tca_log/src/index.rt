@@ -1,9 +1,13 @@
 //! What a log keeps beside its reports: a content of each identity, and the identities that are disputed.
-ghost use Rattle.std.specs.Prelude.{◌≡◌, ◌<◌, length, IfOk, OnOk, OnErr};
-ghost use Rattle.tca_log.specs.Logs.{first_of, is_disputed, answered, index_after, disputes_after};
+ghost use Rattle.std.specs.Prelude.{◌≡◌, ◌<◌, ◌≤◌, List, length, IfOk, OnOk, OnErr};
+ghost use Rattle.std.specs.List.Sorted.{IsStrictlySortedBy};
+ghost use Rattle.tca_report.specs.Reports.{report_cmp};
+ghost use Rattle.tca_report.specs.declared.report.Identity.{Identity};
+ghost use Rattle.tca_log.specs.Logs.{first_of, is_disputed, answered, index_after, disputes_after, index_rows, IsKept, IsLog};
 
 use crate::answer::Added;
 use crate::by_identity::ByIdentity;
+use crate::notes::notes_of;
 use crate::rows::Rows;
 use std::alloc::{AllocError, Allocator};
 use tca_report::{Identity, Report};
@@ -37,4 +41,35 @@ pub(crate) fn enter<A: Allocator + Copy>(
     Ok(Added::NewDispute {
         withdrawn: first.report,
     })
+}
+
+/// The index that a log keeps, or that of its reports where it keeps none.
+pub(crate) fn index_of<A: Allocator + Copy>(
+    rows: &Rows<Report, A>,
+    kept: Option<Rows<ByIdentity, A>>,
+) -> Result<Rows<ByIdentity, A>, AllocError>
+    requires rises { IsStrictlySortedBy report_cmp rows.now.rows }
+    requires few { length rows.now.rows ≤ 4194304 }
+    ensures { IfOk result (λ index. (disputes : List Identity) → IsKept rows.now.rows (index_rows kept) disputes → IsLog rows.now.rows index.rows disputes) }
+{
+    if let Some(index) = kept {
+        return Ok(index);
+    }
+    let alloc = rows.allocator();
+    let mut index = Rows::new(alloc);
+    let notes = notes_of(&index, &Rows::new(alloc), rows)?;
+    index.take_all(notes.fresh)?;
+    Ok(index)
+}
+
+/// The index that a log keeps once more, or none where it keeps none.
+pub(crate) fn copied<A: Allocator + Copy>(
+    kept: &Option<Rows<ByIdentity, A>>,
+) -> Result<Option<Rows<ByIdentity, A>>, AllocError>
+    ensures { IfOk result (λ copy. index_rows copy ≡ index_rows kept.now) }
+{
+    match kept {
+        Some(index) => Ok(Some(index.copy()?)),
+        None => Ok(None),
+    }
 }

@@ -7,11 +7,12 @@
 //!
 //! - `rows`: the ordered container, with `chunk`, `locate` and `iter` beneath it;
 //! - `log`, `union`: the log, one report and many reports at a time;
-//! - `index`, `notes`, `by_identity`: which identities the log knows, and which are disputed;
+//! - `index`, `notes`, `by_identity`, `ascending`: which identities the log knows, and which are disputed;
 //! - `settled`: the reports that no other disputes; `answer`, `fault`: what a log answers.
 #![tactic(auto)]
 
 mod answer;
+mod ascending;
 mod by_identity;
 mod chunk;
 mod fault;

@@ -10,7 +10,7 @@ ghost use Rattle.tca_log.specs.Faults.{IsAddRefused};
 use crate::answer::Added;
 use crate::by_identity::ByIdentity;
 use crate::fault::LogFault;
-use crate::index::enter;
+use crate::index::{copied, enter, index_of};
 use crate::iter::RowsIter;
 use crate::rows::{LIMIT, Rows};
 use crate::settled::Settled;
@@ -21,24 +21,26 @@ use tca_report::{Identity, Report};
 /// A finite set of packet reports, at most 4,194,304, in their order. It keeps all contents of an identity;
 /// two or more of them dispute one another, and none of these is settled.
 ///
-/// Adding a report costs a search among the reports and one among the identities, whatever their values are.
+/// Adding a report costs a search among the reports and one among the identities, whatever their values are. The
+/// index of the identities is made when it is first needed: a log that is given reports once, in a list in which the places
+/// of each domain ascend, never makes it.
 #[derive(Drop)]
 pub struct Log<A: Allocator + Copy = Global> {
     pub(crate) rows: Rows<Report, A>,
-    pub(crate) index: Rows<ByIdentity, A>,
+    pub(crate) index: Option<Rows<ByIdentity, A>>,
     pub(crate) disputed: Rows<Identity, A>,
 }
 
 impl<A: Allocator + Copy> Model for Log<A> {
     ghost use Rattle.std.specs.Prelude.{List};
     ghost use Rattle.tca_report.specs.Reports.{PacketReport};
-    ghost use Rattle.tca_log.specs.Logs.{IsLog};
+    ghost use Rattle.tca_log.specs.Logs.{IsKept, index_rows};
 
     ghost Value = { List PacketReport };
 
     ghost view = { λ l. l.rows.rows };
 
-    ghost invariant = { λ l. IsLog l.rows.rows l.index.rows l.disputed.rows };
+    ghost invariant = { λ l. IsKept l.rows.rows (index_rows l.index) l.disputed.rows };
 }
 
 impl<A: Allocator + Copy> Log<A> {
@@ -48,7 +50,7 @@ impl<A: Allocator + Copy> Log<A> {
     {
         Log {
             rows: Rows::new(alloc),
-            index: Rows::new(alloc),
+            index: None,
             disputed: Rows::new(alloc),
         }
     }
@@ -110,7 +112,10 @@ impl<A: Allocator + Copy> Log<A> {
             return Err(LogFault::Full);
         }
         self.rows.reserve()?;
-        let answer = enter(&mut self.index, &mut self.disputed, report)?;
+        let mut index = index_of(&self.rows, self.index.take())?;
+        let entered = enter(&mut index, &mut self.disputed, report);
+        self.index = Some(index);
+        let answer = entered?;
         self.rows.put(report);
         Ok(answer)
     }
@@ -121,7 +126,7 @@ impl<A: Allocator + Copy> Log<A> {
     {
         Ok(Log {
             rows: self.rows.copy()?,
-            index: self.index.copy()?,
+            index: copied(&self.index)?,
             disputed: self.disputed.copy()?,
         })
     }

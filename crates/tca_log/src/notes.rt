@@ -1,5 +1,6 @@
 //! What new reports add to a log's index and to its disputed identities.
-ghost use Rattle.std.specs.Prelude.{◌≡◌, ◌<◌, ◌≤◌, [], length, map, IfOk, OnOk};
+ghost use Rattle.std.specs.Prelude.{◌≡◌, ◌<◌, ◌≤◌, List, [], length, map, IfOk, OnOk};
+ghost use Rattle.tca_log.specs.declared.by_identity.ByIdentity.{ByIdentity};
 ghost use Rattle.std.specs.List.Sorted.{IsPermutation};
 ghost use Rattle.tca_log.specs.Logs.{indexed, noted, noted_all};
 
@@ -60,8 +61,8 @@ impl<A: Allocator + Copy> Notes<A> {
     }
 }
 
-/// What all these add.
-pub(crate) fn note_all<A: Allocator + Copy>(
+// What all these add.
+fn note_all<A: Allocator + Copy>(
     alloc: A,
     index: &Rows<ByIdentity, A>,
     disputed: &Rows<Identity, A>,
@@ -77,8 +78,8 @@ pub(crate) fn note_all<A: Allocator + Copy>(
     Ok(notes)
 }
 
-/// The reports in the order of their identities, so that those that are searched for lie side by side.
-pub(crate) fn by_identity<A: Allocator + Copy>(
+// The reports in the order of their identities, so that those that are searched for lie side by side.
+fn by_identity<A: Allocator + Copy>(
     alloc: A,
     reports: &Rows<Report, A>,
 ) -> Result<Vec<ByIdentity, A>, AllocError>
@@ -90,4 +91,18 @@ pub(crate) fn by_identity<A: Allocator + Copy>(
     }
     keys.sort_unstable();
     Ok(keys)
+}
+
+/// What reports that are new add to a log's index and to its disputed identities.
+pub(crate) fn notes_of<A: Allocator + Copy>(
+    index: &Rows<ByIdentity, A>,
+    disputed: &Rows<Identity, A>,
+    news: &Rows<Report, A>,
+) -> Result<Notes<A>, AllocError>
+    requires few { length news.now.rows ≤ 4194304 }
+    ensures { IfOk result (λ n. (keys : List ByIdentity) × IsPermutation (map indexed news.now.rows) keys
+        × (n ≡ noted_all index.now.rows disputed.now.rows keys (record { fresh = []; twice = [] }))) }
+{
+    let keys = by_identity(news.allocator(), news)?;
+    note_all(news.allocator(), index, disputed, &keys)
 }

@@ -1,5 +1,6 @@
 //! An ordered set that makes room first, and then takes no memory.
 ghost use Rattle.std.specs.Prelude.{◌≡◌, ℕ, true, false, ◌+◌, ◌-◌, ◌<◌, ◌≤◌, [], ◌∷◌, ◌++◌, length, drop, OnOk, OnErr, IfOk, IsTrue, Some, is_some, IfSome, vec_len, vec_capacity, option_copied};
+ghost use Rattle.std.specs.List.{All};
 ghost use Rattle.std.specs.List.Sorted.{IsStrictlySortedBy};
 ghost use Rattle.tca_join.specs.Sets.{has, put};
 ghost use Rattle.tca_log.specs.Chunks.{without, rank, tied, put_each, without_each, AreApart, joined, AreChunks, Ordered};
@@ -43,6 +44,19 @@ impl<K: Ord + Copy, A: Allocator + Copy> Rows<K, A> {
             spare: None,
             count: 0,
         }
+    }
+
+    /// A container of rows that ascend. It copies them chunk by chunk.
+    pub(crate) fn of_ascending(alloc: A, rows: &[K]) -> Result<Rows<K, A>, AllocError>
+        requires rises { IsStrictlySortedBy K.cmp rows.now }
+        requires few { length rows.now ≤ 4194304 }
+        ensures { IfOk result (λ all. all.rows ≡ rows.now) }
+    {
+        Ok(Rows {
+            chunks: cut(alloc, rows)?,
+            spare: None,
+            count: rows.len(),
+        })
     }
 
     /// Where its memory comes from.
@@ -222,6 +236,21 @@ impl<K: Ord + Copy, A: Allocator + Copy> Rows<K, A> {
         copy.put_all(self)?;
         Ok(copy)
     }
+}
+
+// Rows cut into chunks, all of them full but the last.
+fn cut<K: Ord + Copy, A: Allocator + Copy>(
+    alloc: A,
+    rows: &[K],
+) -> Result<Vec<Chunk<K, A>, A>, AllocError>
+    ensures joined { IfOk result (λ chunks. joined chunks.items ≡ rows.now) }
+    ensures some { IfOk result (λ chunks. All (λ c. 0 < length c) chunks.items) }
+{
+    let mut chunks = Vec::new(alloc);
+    for part in rows.chunks(CHUNK) {
+        chunks.push(Chunk::of(alloc, part)?)?;
+    }
+    Ok(chunks)
 }
 
 // Puts a row in its chunk, or splits the chunk where it is full.

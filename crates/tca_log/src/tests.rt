@@ -460,6 +460,54 @@ fn a_refused_dispute_leaves_the_log_as_it_was(rt: HostRuntime) -> Result<(), Fai
     Ok(())
 }
 
+// A second content of the second of three reports that came as one list, whose places ascend. All four are given in order.
+fn late_rival_step(small: &LocalHeap, list: &[Report], all: &[Report]) -> Result<Step, AllocError> {
+    let [_, second, _, rival] = all else {
+        return Ok(Step::Wrong);
+    };
+    let Ok(given) = Vec::from_slice(small, list) else {
+        return Ok(Step::Before);
+    };
+    let mut log = Log::new(small);
+    if log.add_all(given).is_err() {
+        return Ok(Step::Before);
+    }
+    Ok(match log.add(*rival) {
+        Ok(answer) if answer != (Added::NewDispute { withdrawn: *second }) => Step::Wrong,
+        Ok(_) if !has_settled(&log, all) => Step::Wrong,
+        Ok(_) => done(&log, all, 1),
+        Err(fault) => refused(&log, fault, list, small.used()),
+    })
+}
+
+fn late_rival_steps(alloc: Global, rival: Report) -> Result<Vec<Step>, AllocError> {
+    let list = rows(alloc, 3)?;
+    let mut all = rows(alloc, 3)?;
+    all.push(rival)?;
+    let mut met = Vec::new(alloc);
+    for size in 1..1024 {
+        let small = LocalHeap::new(alloc, STEP * size)?;
+        let step = late_rival_step(&small, &list, &all)?;
+        met.push(step)?;
+        if step == Step::Done {
+            break;
+        }
+    }
+    Ok(met)
+}
+
+#[test]
+fn a_list_in_order_is_disputed_later(rt: HostRuntime) -> Result<(), Fail> {
+    if let Some(rival) = report(1, 300, 60) {
+        let met = late_rival_steps(rt.alloc(), rival)?;
+        // Refused to the reports, to the index that is made now, to the disputed identities' list of chunks, and to a chunk
+        // of these.
+        assert_eq!(rt; kept(rt.alloc(), &met)?.len(), 4);
+        assert!(rt; met.contains(&Step::Done) && !met.contains(&Step::Wrong));
+    }
+    Ok(())
+}
+
 // The calls that take many reports.
 #[derive(Clone, Copy)]
 enum Call {

@@ -7,14 +7,14 @@ ghost use Rattle.tca_report.specs.Identities.{identity_cmp};
 ghost use Rattle.tca_log.specs.Arrivals.{Many, after};
 ghost use Rattle.tca_log.specs.Chunks.{put_each, without_each, AreApart};
 ghost use Rattle.tca_log.specs.Faults.{IsUnionRefused, IsRefusedBy};
-ghost use Rattle.tca_log.specs.Logs.{index_cmp, indexed, noted_all, IsLog};
-ghost use Rattle.tca_log.specs.declared.by_identity.ByIdentity.{ByIdentity};
-ghost use Rattle.std.specs.List.Sorted.{IsPermutation};
+ghost use Rattle.tca_log.specs.Logs.{index_cmp, index_rows, IsKept, IsLog};
 
+use crate::ascending::places_ascend;
 use crate::by_identity::ByIdentity;
 use crate::fault::LogFault;
+use crate::index::index_of;
 use crate::log::Log;
-use crate::notes::{Notes, by_identity, note_all};
+use crate::notes::{Notes, notes_of};
 use crate::rows::{LIMIT, Rows};
 use std::alloc::{AllocError, Allocator};
 use tca_report::{Identity, Report};
@@ -114,7 +114,7 @@ fn is_over<A: Allocator + Copy>(rows: &Rows<Report, A>, reports: &[Report]) -> b
     reports.len() > room && count_new(rows, reports) > room
 }
 
-// Those of a set that are not among the rows.
+// Those of a set that are not among the rows: all of it where there are none.
 fn news_of<A: Allocator + Copy>(
     alloc: A,
     rows: &Rows<Report, A>,
@@ -125,6 +125,9 @@ fn news_of<A: Allocator + Copy>(
     ensures news { IfOk result (λ news. news.rows ≡ without_each report_cmp rows.now.rows set.now) }
     ensures nothing { length (without_each report_cmp rows.now.rows set.now) ≡ 0 → IsOk result }
 {
+    if rows.len() == 0 && !set.is_empty() {
+        return Rows::of_ascending(alloc, set);
+    }
     let mut news = Rows::new(alloc);
     for report in set {
         if !rows.contains(report) {
@@ -135,22 +138,34 @@ fn news_of<A: Allocator + Copy>(
     Ok(news)
 }
 
-// What reports that are new add to a log's index and to its disputed identities.
-fn notes_of<A: Allocator + Copy>(
-    index: &Rows<ByIdentity, A>,
-    disputed: &Rows<Identity, A>,
-    news: &Rows<Report, A>,
-) -> Result<Notes<A>, AllocError>
-    requires few { length news.now.rows ≤ 4194304 }
-    ensures { IfOk result (λ n. (keys : List ByIdentity) × IsPermutation (map indexed news.now.rows) keys
-        × (n ≡ noted_all index.now.rows disputed.now.rows keys (record { fresh = []; twice = [] }))) }
+// Puts reports that are new into a log's parts. A log without reports takes them without an index where places ascend.
+fn take_in<A: Allocator + Copy>(
+    rows: &mut Rows<Report, A>,
+    index: &mut Option<Rows<ByIdentity, A>>,
+    disputed: &mut Rows<Identity, A>,
+    news: Rows<Report, A>,
+) -> Result<(), AllocError>
+    requires log { IsKept rows.old.rows (index_rows index.old) disputed.old.rows }
+    requires rises { IsStrictlySortedBy report_cmp news.rows }
+    requires apart { AreApart report_cmp news.rows rows.old.rows }
+    requires few { length rows.old.rows + length news.rows ≤ 4194304 }
+    ensures ok { OnOk result (rows.new.rows ≡ put_each report_cmp news.rows rows.old.rows) }
+    ensures err { OnErr result (rows.new.rows ≡ rows.old.rows) }
+    ensures log { IsKept rows.new.rows (index_rows index.new) disputed.new.rows }
 {
-    let keys = by_identity(news.allocator(), news)?;
-    note_all(news.allocator(), index, disputed, &keys)
+    if rows.len() == 0 && places_ascend(news.allocator(), &news)? {
+        *rows = news;
+        *index = None;
+        return Ok(());
+    }
+    let mut kept = index_of(rows, index.take())?;
+    let outcome = take_noted(rows, &mut kept, disputed, news);
+    *index = Some(kept);
+    outcome
 }
 
 // Puts reports that are new into a log's three parts. A log without reports takes them as they are.
-fn take_in<A: Allocator + Copy>(
+fn take_noted<A: Allocator + Copy>(
     rows: &mut Rows<Report, A>,
     index: &mut Rows<ByIdentity, A>,
     disputed: &mut Rows<Identity, A>,

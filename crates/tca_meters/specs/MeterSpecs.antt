@@ -1,7 +1,7 @@
 -- The text that names a meter: its RFC, its parameters and its mode, with colons between.
-use Rattle.std.specs.Prelude.{ℕ, ◌==◌, Bool, true, false, ◌&&◌, nat_le, List, [], ◌∷◌, length, codes, Option, Some, None, option_and_then, Result, Ok, Err, if◌then◌else◌}
+use Rattle.std.specs.Prelude.{◌≡◌, ℕ, ◌≤◌, ◌==◌, Bool, true, false, not, ◌&&◌, nat_le, List, [], ◌∷◌, ◌++◌, length, codes, Option, Some, None, option_and_then, Result, Ok, Err, if◌then◌else◌}
 use Rattle.std.specs.Str.{bytes_eq}
-use Rattle.std.specs.List.{list_all}
+use Rattle.std.specs.List.{list_all, AllByRecursion}
 use Rattle.std.specs.Char.{is_ascii_digit}
 use Rattle.std.specs.Str.Parse.{digits_value}
 use Rattle.tca_meters.specs.declared.any_meter.AnyMeter.{AnyMeter}
@@ -27,6 +27,24 @@ onto_first c (part ∷ parts) = (c ∷ part) ∷ parts
 unfoldable pub parts_of : List ℕ → List (List ℕ)
 parts_of [] = [] ∷ []
 parts_of (c ∷ cs) = if c == 58 then [] ∷ parts_of cs else onto_first c (parts_of cs)
+
+-- a part of a text has no colon
+abbrev pub IsPart : List ℕ → Type 0
+IsPart part = list_all (λ c. not (c == 58)) part ≡ true
+
+-- these parts, with a colon between each two
+unfoldable pub with_colons : List (List ℕ) → List ℕ
+with_colons [] = []
+with_colons (part ∷ []) = part
+with_colons (part ∷ next ∷ parts) = part ++ (58 ∷ with_colons (next ∷ parts))
+
+-- the parts of a text make it, with colons between, and are parts
+abbrev pub PartsMakeText : Type 0
+PartsMakeText = (text : List ℕ) → (with_colons (parts_of text) ≡ text) × AllByRecursion IsPart (parts_of text)
+
+-- and no others do
+abbrev pub OnlyParts : Type 0
+OnlyParts = (parts : List (List ℕ)) → 1 ≤ length parts → AllByRecursion IsPart parts → parts_of (with_colons parts) ≡ parts
 
 -- a number has 1 to 13 decimal digits
 abbrev pub is_number : List ℕ → Bool

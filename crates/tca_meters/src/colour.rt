@@ -7,8 +7,11 @@ ghost use Rattle.tca_meters.specs.declared.colour.Colour.{Colour};
 /// The colour of a packet, from better to worse.
 #[derive(Clone, Copy, Debug, PartialEq, Eq, PartialOrd, Ord)]
 pub enum Colour {
+    /// Within the committed tokens.
     Green,
+    /// Above them, but within the excess or the peak tokens.
     Yellow,
+    /// Above both.
     Red,
 }
 

@@ -27,7 +27,7 @@ pub use fault::MeterFault;
 pub use levels::Levels;
 pub use meter::Meter;
 pub use rfc4115::Rfc4115;
-pub use spec::{SpecFault, meter_spec};
+pub use spec::{SpecFault, meter_spec, spec_words};
 pub use srtcm::SrTcm;
 pub use trtcm::TrTcm;
 

@@ -2,7 +2,7 @@
 ghost use Rattle.std.specs.Prelude.{◌≡◌, ◌≢◌, ◌∷◌, [], MatchOption, length};
 ghost use Rattle.std.specs.List.{list_all};
 ghost use Rattle.std.specs.Char.{is_ascii_digit};
-ghost use Rattle.tca_meters.specs.MeterSpecs.{spec_number, parts_of, is_number, number_in, mode_in, fit_in, single_rate_in, peak_rate_in, excess_rate_in, meter_in, spec_in};
+ghost use Rattle.tca_meters.specs.MeterSpecs.{spec_number, parts_of, is_number, number_in, mode_in, fit_in, single_rate_in, peak_rate_in, excess_rate_in, meter_in, spec_in, PartsMakeText, OnlyParts};
 
 use crate::any_meter::AnyMeter;
 use crate::fault::MeterFault;
@@ -181,3 +181,9 @@ pub fn meter_spec(text: &str) -> Result<AnyMeter, SpecFault>
         .ok_or(SpecFault::Text)?
         .map_err(SpecFault::Meter)
 }
+
+/// The law of specs: the parts of a text make it with colons between, none has a colon, and no other such parts make it.
+pub fn spec_words()
+    ensures parts { PartsMakeText }
+    ensures only { OnlyParts }
+{}

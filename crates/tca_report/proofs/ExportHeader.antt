@@ -7,11 +7,12 @@ use Rattle.std.proofs.lemmas.Bool.Decides.{nat_tests}
 use Rattle.std.proofs.lemmas.List.{take-append-drop, length-take, length-drop, drop-drop}
 use Rattle.std.proofs.lemmas.List.Concat.{flat_map-cons}
 use Rattle.std.proofs.lemmas.Nat.{be_bytes_2, from_be_bytes-to_be_bytes_4}
+use Rattle.tca_wire.specs.Walks.{Gives}
 use Rattle.tca_report.specs.declared.export.ExportFault.{ExportFault}
 use Rattle.tca_report.specs.declared.export.ExportFault.TheVariants.{Magic, Version, Count, Cut, Range, Order, Memory}
 use Rattle.tca_report.specs.Reports.{PacketReport}
 use Rattle.tca_report.specs.Export.{record_octets, header_octets, export, magic, most_reports, IsExportable}
-use Rattle.tca_report.specs.ExportReading.{Gives, records_at, has_magic, count_of, after_header, reading}
+use Rattle.tca_report.specs.ExportReading.{records_at, has_magic, count_of, after_header, reading}
 use Rattle.tca_report.proofs.ExportLaws.{IsBytes, octets_drop, octets_take, front4, list_again, list_takes}
 
 pub length-records : (rs : List PacketReport) → length (flat_map record_octets rs) ≡ 25 * length rs
@@ -153,10 +154,10 @@ one_spelling a b ha hb e =
     let step = ap reading e in
     cc
 
-pub found_spelled : {X : Type 0} (view : X → List PacketReport) (result : Result X ExportFault) (octets : List ℕ) → IsBytes octets → Gives view result (reading octets) → IfOk result (λ v. IsExportable (view v) × (octets ≡ export (view v)))
+pub found_spelled : {X : Type 0} (view : X → List PacketReport) (result : Result X ExportFault) (octets : List ℕ) → IsBytes octets → Gives Memory view result (reading octets) → IfOk result (λ v. IsExportable (view v) × (octets ≡ export (view v)))
 found_spelled view (Ok v) octets fits h = reading_takes octets (view v) fits h
 found_spelled view (Err e) octets fits h = tt
 
-pub only_spelled : {X : Type 0} (view : X → List PacketReport) (result : Result X ExportFault) (octets : List ℕ) → Gives view result (reading octets) → (rs : List PacketReport) → IsExportable rs → octets ≡ export rs → MatchResult result (λ v. view v ≡ rs) (λ e. e ≡ Memory)
+pub only_spelled : {X : Type 0} (view : X → List PacketReport) (result : Result X ExportFault) (octets : List ℕ) → Gives Memory view result (reading octets) → (rs : List PacketReport) → IsExportable rs → octets ≡ export rs → MatchResult result (λ v. view v ≡ rs) (λ e. e ≡ Memory)
 only_spelled view (Ok v) octets h rs ok e = let again = ap reading e ∙ reading-export rs ok in cc
 only_spelled view (Err f) octets h rs ok e = memory_only f (reading octets) rs h (ap reading e ∙ reading-export rs ok)

@@ -11,3 +11,4 @@ pub mod Hearing
 pub mod Taking
 pub mod Keeping
 pub mod Pieces
+pub mod CaptureLaws

@@ -2,11 +2,11 @@
 use Rattle.std.specs.Prelude.{◌≡◌, ◌⊎◌, ◌≤◌, ◌+◌, ◌-◌, ◌^◌, ℕ, List, length, Option, Result, Ok, Err}
 use Rattle.std.specs.Io.KnownBytes.{Consumes}
 
--- the highest count of failed calls, at which each call fails
+-- the highest count, of failed calls or of reads, at which each call fails
 abbrev pub most_failures : ℕ
 most_failures = 2 ^ 64 - 1
 
--- one more failure was counted, or the count stands at its end, where each call fails
+-- one more was counted, or the count stands at its end, where each call fails
 abbrev pub Rises : ℕ → ℕ → Type 0
 Rises old new = (new ≡ old + 1) ⊎ ((old ≡ most_failures) × (new ≡ old))
 
@@ -28,7 +28,8 @@ abbrev pub ConsumesWithin : ℕ → ℕ → Option (List ℕ) → Option (List �
 ConsumesWithin least most old new =
     (octets : List ℕ) × Consumes old new octets × (least ≤ length octets) × (length octets ≤ most)
 
--- a device of std, and how many of its calls have failed
+-- a device of std, how many of its calls have failed, and how many reads there were
 pub record Hosted (D : Type 0) : Type 0 where
   pub device : D
   pub failures : ℕ
+  pub reads : ℕ

@@ -1,15 +1,11 @@
 -- What octets say as an export, or the first thing from the left that is wrong with them.
-use Rattle.std.specs.Prelude.{◌≡◌, ◌≢◌, ℕ, zero, suc, ◌+◌, ◌*◌, List, [], ◌∷◌, length, take, drop, slice_index, Option, Some, None, Result, Ok, Err, MatchResult, Bool, true, not, ◌&&◌, nat_lt, ◌==◌, if◌then◌else◌}
+use Rattle.std.specs.Prelude.{ℕ, zero, suc, ◌+◌, ◌*◌, List, [], ◌∷◌, length, take, drop, slice_index, Option, Some, None, Result, Ok, Err, Bool, true, not, ◌&&◌, nat_lt, ◌==◌, if◌then◌else◌}
 use Rattle.std.specs.Int.{w16, w32, w64, from_be_bytes}
 use Rattle.std.specs.Ordering.{is_lt}
 use Rattle.tca_report.specs.Reports.{PacketReport, report_cmp, in_range}
 use Rattle.tca_report.specs.Export.{most_reports}
 use Rattle.tca_report.specs.declared.export.ExportFault.{ExportFault}
-use Rattle.tca_report.specs.declared.export.ExportFault.TheVariants.{Magic, Version, Count, Cut, Range, Order, Memory}
-
--- the result, seen by view, is what the octets say, unless memory ran out
-abbrev pub Gives : {X Y : Type 0} → (X → Y) → Result X ExportFault → Result Y ExportFault → Type 0
-Gives view result said = MatchResult result (λ x. said ≡ Ok (view x)) (λ e. e ≢ Memory → said ≡ Err e)
+use Rattle.tca_report.specs.declared.export.ExportFault.TheVariants.{Magic, Version, Count, Cut, Range, Order}
 
 -- what the first 25 octets say, and the octets after them
 abbrev pub record_at : List ℕ → PacketReport × List ℕ

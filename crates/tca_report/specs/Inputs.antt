@@ -1,6 +1,6 @@
 -- What an input says: a log export, or a capture, which is IPFIX messages one after the other (the layout of an IPFIX File of
 -- RFC 5655).
-use Rattle.std.specs.Prelude.{ℕ, ◌+◌, ◌==◌, Bool, ◌&&◌, if◌then◌else◌, nat_le, List, [], ◌∷◌, ◌++◌, length, take, map, slice_index, Option, Some, None, Result, Ok, Err}
+use Rattle.std.specs.Prelude.{ℕ, ◌+◌, ◌==◌, Bool, ◌&&◌, if◌then◌else◌, nat_le, List, [], ◌∷◌, ◌++◌, length, take, map, Option, Some, None, Result, Ok, Err}
 use Rattle.std.specs.List.{concat}
 use Rattle.tca_wire.specs.Messages.{message_of}
 use Rattle.tca_wire.specs.Frames.{Framing, Holds, Failed, frames_of}
@@ -13,7 +13,7 @@ use Rattle.tca_templates.specs.Records.{PlacedView}
 use Rattle.tca_templates.specs.Reading.{Seen, read_of}
 use Rattle.tca_templates.specs.declared.fault.DecodeFault.{DecodeFault}
 use Rattle.tca_report.specs.Reports.{PacketReport}
-use Rattle.tca_report.specs.ExportReading.{reading}
+use Rattle.tca_report.specs.ExportReading.{has_magic, reading}
 use Rattle.tca_report.specs.Extract.{extract_of}
 use Rattle.tca_report.specs.FaultNumbers.{reason_number}
 use Rattle.tca_report.specs.declared.export.ExportFault.{ExportFault}
@@ -107,11 +107,9 @@ ended at (Failed fault) h = Err (Wire at fault)
 abbrev pub capture_of : List ℕ → Result Heard InputFault
 capture_of octets = and_then (ended (length (concat (frames_of octets).0)) (frames_of octets).1) (all_heard 0 nothing (frames_of octets).0)
 
--- whether the first four octets are TCAX
+-- whether there are four octets or more, the first four of which are TCAX
 abbrev pub is_export : List ℕ → Bool
-is_export octets =
-    nat_le 4 (length octets)
-    && (slice_index octets 0 == 84 && (slice_index octets 1 == 67 && (slice_index octets 2 == 65 && slice_index octets 3 == 88)))
+is_export octets = nat_le 4 (length octets) && has_magic octets
 
 -- the reports of a log export, which has no notes
 abbrev pub exported : Result (List PacketReport) ExportFault → Result Heard InputFault

@@ -6,5 +6,6 @@ pub mod Identities
 pub mod Reports
 pub mod Extract
 pub mod Inputs
+pub mod Captures
 pub mod Gathering
 pub mod Progress

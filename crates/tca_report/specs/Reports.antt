@@ -24,7 +24,7 @@ pub record InRange (r : PacketReport) : Type 0 where
   pub place : r.place < 2 ^ 32
   pub iface : r.iface < 2 ^ 32
 
--- the same range as a test
+-- the same range as a test, of numbers that have their types: domain, place and interface have 32 bits
 abbrev pub in_range : PacketReport → Bool
 in_range r = nat_lt r.time (2 ^ 48) && (nat_le 1 r.octets && (nat_le r.octets 65575 && nat_le r.dscp 63))
 

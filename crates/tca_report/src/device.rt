@@ -1,7 +1,7 @@
 //! What octets come from and go to, with a count of the calls that failed.
-ghost use Rattle.std.specs.Prelude.{◌≡◌, ◌<◌, ◌≤◌, ℕ, List, Option, IfOk, OnOk, length};
+ghost use Rattle.std.specs.Prelude.{◌≡◌, ◌<◌, ◌≤◌, ◌+◌, ℕ, List, Option, IfOk, OnOk, length};
 ghost use Rattle.std.specs.Io.KnownBytes.{ReadConsumes, WriteAppends};
-ghost use Rattle.tca_report.specs.Devices.{CountsFailure, Hosted, most_failures};
+ghost use Rattle.tca_report.specs.Devices.{CountsFailure, Hosted, Rises, most_failures};
 
 use std::io;
 use std::marker::Model;
@@ -14,13 +14,18 @@ pub trait Read {
     // How many calls have failed. At 2^64 - 1 each call fails, and the count stays.
     ghost failures: { Self → ℕ };
 
+    // How many calls were made. At 2^64 - 1 each call fails, and the count stays.
+    ghost reads: { Self → ℕ };
+
     /// Fills the front of `into` with the next octets and gives their number, which is 0 at the
     /// end or where `into` is empty. An `Err` takes no octet.
     fn read(&mut self, into: &mut [u8]) -> io::Result<usize>
         ensures bound { IfOk result (λ n. n ≤ length into.new) }
         ensures octets { ReadConsumes (left self.old) (left self.new) result into.new }
         ensures count { CountsFailure result (failures self.old) (failures self.new) }
-        ensures alive { OnOk result (failures self.old < most_failures) };
+        ensures alive { OnOk result (failures self.old < most_failures) }
+        ensures reads { Rises (reads self.old) (reads self.new) }
+        ensures one { OnOk result (reads self.new ≡ reads self.old + 1) };
 }
 
 /// What octets go to: std's `write`, with a count of the calls that failed.
@@ -41,12 +46,13 @@ pub trait Write {
         ensures alive { OnOk result (failures self.old < most_failures) };
 }
 
-/// A reader or a writer of std, with the count of its failures. A call of the device that fails is
+/// A reader or a writer of std, with the counts of its reads and of its failures. A call of the device that fails is
 /// not tried again here, also where it was interrupted.
 #[derive(Drop)]
 pub struct Host<D> {
     device: D,
     failures: u64,
+    reads: u64,
 }
 
 impl<D> Model for Host<D> {
@@ -54,17 +60,18 @@ impl<D> Model for Host<D> {
 
     ghost Value = { Hosted D };
 
-    ghost view = { λ h. record { device = h.device; failures = h.failures } };
+    ghost view = { λ h. record { device = h.device; failures = h.failures; reads = h.reads } };
 }
 
 impl<D> Host<D> {
     /// The device, none of whose calls has failed yet.
     pub fn new(device: D) -> Host<D>
-        ensures { result ≡ record { device = device; failures = 0 } }
+        ensures { result ≡ record { device = device; failures = 0; reads = 0 } }
     {
         Host {
             device,
             failures: 0,
+            reads: 0,
         }
     }
 
@@ -88,10 +95,15 @@ impl<D: io::Read> Read for Host<D> {
 
     ghost failures = { λ h. h.failures };
 
+    ghost reads = { λ h. h.reads };
+
     fn read(&mut self, into: &mut [u8]) -> io::Result<usize> {
-        if self.failures == u64::MAX {
+        if self.failures == u64::MAX || self.reads == u64::MAX {
+            self.failures = self.failures.saturating_add(1);
+            self.reads = self.reads.saturating_add(1);
             return Err(io::Error::from(io::ErrorKind::Other));
         }
+        self.reads += 1;
         match self.device.read(into) {
             Ok(n) => Ok(n),
             Err(error) => {

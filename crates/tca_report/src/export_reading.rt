@@ -1,9 +1,10 @@
 //! Reading a log export.
 ghost use Rattle.std.specs.Prelude.{◌≡◌, ◌≢◌, ◌<◌, ◌≤◌, ◌+◌, ◌*◌, List, [], Ok, Err, None, OnOk, IfOk, IfErr, IsErrOf, IsOkAnd, MatchResult, length, take, drop, vec_len, vec_capacity};
 ghost use Rattle.std.specs.Int.{w32, w64, from_be_bytes};
+ghost use Rattle.tca_wire.specs.Walks.{Gives};
 ghost use Rattle.tca_report.specs.Reports.{PacketReport, reported, ranged};
 ghost use Rattle.tca_report.specs.Export.{IsExportable, export};
-ghost use Rattle.tca_report.specs.ExportReading.{Gives, above, count_of, reading, record_at, records_at};
+ghost use Rattle.tca_report.specs.ExportReading.{above, count_of, reading, record_at, records_at};
 ghost use Rattle.tca_report.specs.declared.export.ExportFault.{ExportFault};
 ghost use Rattle.tca_report.specs.declared.export.ExportFault.TheVariants.{Memory};
 
@@ -164,7 +165,7 @@ fn header_count(octets: &[u8]) -> Result<u32, ExportFault>
 
 /// The reports of an export, or its first fault.
 fn read_whole(alloc: Global, octets: &[u8]) -> Result<Vec<Report>, ExportFault>
-    ensures exact { Gives (λ v. v.items) result (reading octets.now) }
+    ensures exact { Gives Memory (λ v. v.items) result (reading octets.now) }
     ensures memory { IsErrOf result Memory → IsOkAnd (reading octets.now) (λ rs. 0 < length rs) }
 {
     let count = header_count(octets)?;
@@ -186,7 +187,7 @@ pub fn read_export(alloc: Global, octets: &[u8]) -> Result<Vec<Report>, ExportFa
     ensures found { IfOk result (λ v. IsExportable v.items × (octets.now ≡ export v.items)) }
     ensures only { (rs : List PacketReport) → IsExportable rs → octets.now ≡ export rs
         → MatchResult result (λ v. v.items ≡ rs) (λ e. e ≡ Memory) }
-    ensures exact { Gives (λ v. v.items) result (reading octets.now) }
+    ensures exact { Gives Memory (λ v. v.items) result (reading octets.now) }
 
     // Memory is wanted for the whole list alone, where it isn't empty and has no fault.
     ensures memory { IsErrOf result Memory → IsOkAnd (reading octets.now) (λ rs. 0 < length rs) }

@@ -353,7 +353,7 @@ pub(crate) fn extract_fields(
 ///
 /// Of each element the first field counts that no enterprise has, and of these are taken
 /// - as time the first that is there of observationTimeMilliseconds, observationTimeMicroseconds,
-///   observationTimeNanoseconds and observationTimeSeconds (RFC 5477, section 8.3), cut to milliseconds. The low 11
+///   observationTimeNanoseconds and observationTimeSeconds (RFC 5477), cut to milliseconds. The low 11
 ///   bits of a fraction of microseconds count as zero (RFC 7011, section 6.1.9), and no time is in a later NTP era
 ///   than the first;
 /// - as octets the first of ipTotalLength, totalLengthIPv4, octetDeltaCount and what ipHeaderPacketSection gives;

@@ -26,19 +26,19 @@ pub(crate) const IP_DIFF_SERV_CODE_POINT: u16 = 195;
 /// ipTotalLength.
 pub(crate) const IP_TOTAL_LENGTH: u16 = 224;
 
-/// ipHeaderPacketSection: the first octets of the packet, from its IP header on (RFC 5477, section 8.5.3).
+/// ipHeaderPacketSection: the first octets of the packet, from its IP header on (RFC 5477).
 pub(crate) const IP_HEADER_PACKET_SECTION: u16 = 313;
 
-/// observationTimeSeconds (RFC 5477, section 8.3.1).
+/// observationTimeSeconds (RFC 5477).
 pub(crate) const OBSERVATION_TIME_SECONDS: u16 = 322;
 
-/// observationTimeMilliseconds (RFC 5477, section 8.3.2).
+/// observationTimeMilliseconds (RFC 5477).
 pub(crate) const OBSERVATION_TIME_MILLISECONDS: u16 = 323;
 
-/// observationTimeMicroseconds (RFC 5477, section 8.3.3).
+/// observationTimeMicroseconds (RFC 5477).
 pub(crate) const OBSERVATION_TIME_MICROSECONDS: u16 = 324;
 
-/// observationTimeNanoseconds (RFC 5477, section 8.3.4).
+/// observationTimeNanoseconds (RFC 5477).
 pub(crate) const OBSERVATION_TIME_NANOSECONDS: u16 = 325;
 
 /// A field of a data record, in the octets of its message or with octets of its own.

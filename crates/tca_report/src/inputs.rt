@@ -1,8 +1,10 @@
 //! Inputs: log exports and captures.
-ghost use Rattle.std.specs.Prelude.{◌≡◌, ◌<◌, ◌≤◌, IsErrOf, IsTrue, length};
+ghost use Rattle.std.specs.Prelude.{◌≡◌, ◌<◌, ◌≤◌, List, ℕ, Ok, IsErrOf, IsTrue, length};
+ghost use Rattle.std.specs.List.{AllByRecursion};
 ghost use Rattle.tca_wire.specs.Walks.{Gives};
 ghost use Rattle.tca_report.specs.FaultNumbers.{input_number};
-ghost use Rattle.tca_report.specs.Inputs.{input_of, is_export, nothing};
+ghost use Rattle.tca_report.specs.Inputs.{Heard, input_of, is_export, nothing};
+ghost use Rattle.tca_report.specs.Captures.{IsInput};
 ghost use Rattle.tca_report.specs.Gathering.{said, gathered, notes_of};
 
 use crate::capture::read_capture;
@@ -129,3 +131,10 @@ pub fn gather(alloc: Global, octets: &[u8]) -> Result<Gathered, InputFault>
         Err(fault) => Err(InputFault::Export(fault)),
     }
 }
+
+/// The law of inputs: what is read of an input from the left is what it is, the octets of a log export, or messages one after the
+/// other, each of which is what RFC 7011 says of it in the session of those before it.
+pub fn input_words()
+    ensures found { (octets : List ℕ) (after : Heard) → AllByRecursion (λ (b : ℕ). b < 256) octets → input_of octets ≡ Ok after → IsInput octets after }
+    ensures only { (octets : List ℕ) (after : Heard) → IsInput octets after → input_of octets ≡ Ok after }
+{}

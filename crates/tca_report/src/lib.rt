@@ -28,7 +28,7 @@ pub use export::{ExportFault, spelling_is_unique};
 pub use export_reading::read_export;
 pub use export_writing::write_export;
 pub use extraction::{NotReport, extract};
-pub use inputs::{Gathered, InputFault, Notes, gather};
+pub use inputs::{Gathered, InputFault, Notes, gather, input_words};
 pub use octets::{ReadFault, WriteFault, put_all, read_octets};
 pub use report::{Content, Identity, Report, order_is_total};
 

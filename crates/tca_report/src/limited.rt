@@ -1,8 +1,8 @@
 //! A reader that is read a limited number of times. Its fields are seen here alone, so whoever is
 //! lent a `Limited` makes no more reads than are left.
-ghost use Rattle.std.specs.Prelude.{◌≡◌, ◌<◌, ◌≤◌, ◌+◌, IfOk, length};
+ghost use Rattle.std.specs.Prelude.{◌≡◌, ◌<◌, ◌≤◌, ◌+◌, IfOk, OnOk, length};
 ghost use Rattle.std.specs.Io.KnownBytes.{ReadConsumes};
-ghost use Rattle.tca_report.specs.Devices.{CountsFailure};
+ghost use Rattle.tca_report.specs.Devices.{CountsFailure, Rises};
 
 use crate::device::Read;
 use std::io;
@@ -43,6 +43,8 @@ impl<'r, R: Read> Limited<'r, R> {
             result into.new }
         ensures count { CountsFailure result (R.failures self.old.reader.now)
             (R.failures self.new.reader.now) }
+        ensures reads { Rises (R.reads self.old.reader.now) (R.reads self.new.reader.now) }
+        ensures one { OnOk result (R.reads self.new.reader.now ≡ R.reads self.old.reader.now + 1) }
     {
         self.reads_left -= 1;
         self.reader.read(into)

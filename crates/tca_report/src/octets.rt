@@ -101,12 +101,14 @@ fn read_all<R: Read>(
     ensures all { OnOk result (IsAtEnd (R.left from.new.reader.now)) }
 
     ensures reads { from.new.reads_left ≤ from.old.reads_left }
+    ensures counted { R.reads from.new.reader.now ≤ R.reads from.old.reader.now + (from.old.reads_left - from.new.reads_left) }
 
     // Each read takes a buffer at most, and each but the last at least one octet.
     ensures most { ConsumesWithin 0
         (length buffer.old * (from.old.reads_left - from.new.reads_left))
         (R.left from.old.reader.now) (R.left from.new.reader.now) }
     ensures turns { IsErrOf result ReadFault.Turns → (from.new.reads_left ≡ 0)
+        × (R.reads from.new.reader.now ≡ R.reads from.old.reader.now + from.old.reads_left)
         × ConsumesWithin from.old.reads_left (length buffer.old * from.old.reads_left)
         (R.left from.old.reader.now) (R.left from.new.reader.now) }
     ensures failed { IsErrOf result ReadFault.Read
@@ -138,10 +140,12 @@ pub fn read_octets<R: Read>(alloc: Global, reader: &mut R) -> Result<Vec<u8>, Re
     ensures octets { IfOk result (λ v. Consumes (R.left reader.old) (R.left reader.new) v.items) }
     ensures all { OnOk result (IsAtEnd (R.left reader.new)) }
 
+    ensures reads { R.reads reader.new ≤ R.reads reader.old + most_reads }
+
     // Also on an `Err` no more is consumed than the reads may take.
     ensures most { ConsumesWithin 0 (read_size * most_reads) (R.left reader.old) (R.left reader.new) }
-    ensures turns { IsErrOf result ReadFault.Turns
-        → ConsumesWithin most_reads (read_size * most_reads) (R.left reader.old) (R.left reader.new) }
+    ensures turns { IsErrOf result ReadFault.Turns → (R.reads reader.new ≡ R.reads reader.old + most_reads)
+        × ConsumesWithin most_reads (read_size * most_reads) (R.left reader.old) (R.left reader.new) }
     ensures failed { IsErrOf result ReadFault.Read
         → Rises (R.failures reader.old) (R.failures reader.new) }
     ensures quiet { result ≢ Err ReadFault.Read

@@ -3,7 +3,7 @@ ghost use Rattle.std.specs.Prelude.{◌≡◌};
 ghost use Rattle.std.specs.Cmp.{IsTotalOrder};
 ghost use Rattle.std.specs.declared.cmp.Ordering.TheVariants.{Equal};
 ghost use Rattle.tca_report.specs.Reports.{PacketReport, InRange, reported, ranged, report_cmp};
-ghost use Rattle.tca_report.specs.Identities.{identity_cmp};
+ghost use Rattle.tca_report.specs.Identities.{identity_cmp, identity_of};
 ghost use Rattle.tca_report.specs.declared.report.Identity.{Identity};
 
 use std::marker::Model;
@@ -12,7 +12,9 @@ use std::marker::Model;
 /// its place among the domain's data records, modulo 2^32.
 #[derive(Clone, Copy, Debug, PartialEq, Eq, PartialOrd, Ord)]
 pub struct Identity {
+    /// The observation domain.
     pub domain: u32,
+    /// The place in the domain, modulo 2^32.
     pub place: u32,
 }
 
@@ -78,7 +80,7 @@ impl Report {
 
     /// Which record the report is of.
     pub fn identity(&self) -> Identity
-        ensures { result ≡ record { domain = self.now.domain; place = self.now.place } }
+        ensures { result ≡ identity_of self.now }
     {
         Identity {
             domain: self.domain,

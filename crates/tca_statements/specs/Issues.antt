@@ -3,7 +3,8 @@ use Rattle.std.specs.Prelude.{ℕ, ℤ, pos, ◌≤ℤ◌, ◌+ℤ◌, ◌-ℤ�
 use Rattle.std.specs.List.{find}
 use Rattle.std.specs.Map.{lookup}
 use Rattle.std.specs.BTreeMap.{is_at}
-use Rattle.tca_accounts.specs.Owners.{pair_cmp}
+use Rattle.std.specs.Ordering.{nat_cmp, ordering_then}
+use Rattle.std.specs.declared.cmp.Ordering.{Ordering}
 use Rattle.tca_accounts.specs.Sums.{ColourSums}
 use Rattle.tca_accounts.specs.declared.bill.Bill.{Bill}
 use Rattle.tca_accounts.specs.declared.span.Span.{Span}
@@ -68,13 +69,18 @@ pub record Issued : Type 0 where
   pub period : ℕ
   pub entries : List ((ℕ × ℕ) × List Amount)
 
+-- the order of the entries: by account, and then by period
+abbrev pub entry_cmp : ℕ × ℕ → ℕ × ℕ → Ordering
+entry_cmp p q = ordering_then (nat_cmp p.0 q.0) (nat_cmp p.1 q.1)
+
+-- what was found, or nothing
 abbrev pub or_none : Option (List Amount) → List Amount
 or_none None = []
 or_none (Some amounts) = amounts
 
 -- the amounts issued for an account and a period, in their order
 unfoldable pub issued_for : Issued → ℕ → ℕ → List Amount
-issued_for issued account span = or_none (lookup (is_at (pair_cmp (account, span))) issued.entries)
+issued_for issued account span = or_none (lookup (is_at (entry_cmp (account, span))) issued.entries)
 
 -- the next amount: what is due now less what was issued before
 abbrev pub next_amount : Bill → Issued → ℕ → ℕ → Amount

@@ -1,3 +1,4 @@
+//! Why no amount was issued.
 ghost use Rattle.std.specs.Prelude.{◌≡◌};
 ghost use Rattle.tca_statements.specs.Issues.{issue_number};
 

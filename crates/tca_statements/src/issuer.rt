@@ -1,5 +1,5 @@
 //! Issuing amounts. A period of a bill, and what was issued for it, are found in logarithmic time.
-ghost use Rattle.std.specs.Prelude.{◌≡◌, ◌≢◌, ◌<◌, ◌==◌, ◌∷◌, ◌++◌, ℕ, [], IfOk, OnOk, OnErr, MatchResult, option_copied, Some, None, false, length};
+ghost use Rattle.std.specs.Prelude.{◌≡◌, ◌≢◌, ◌<◌, ◌==◌, ◌∷◌, ◌++◌, ℕ, [], IfOk, IsErrOf, OnOk, OnErr, MatchResult, option_copied, Some, None, false, length};
 ghost use Rattle.std.specs.List.{find};
 ghost use Rattle.tca_accounts.specs.Plans.{same_pair};
 ghost use Rattle.tca_accounts.specs.Spans.{Ascend};
@@ -60,8 +60,9 @@ impl Issuer {
         // Nothing else changes.
         ensures others { OnOk result ((n s : ℕ) → same_pair (account, span) (n, s) ≡ false → issued_for self.new n s ≡ issued_for self.old n s) }
         ensures plan { (self.new.accounts ≡ self.old.accounts) × (self.new.period ≡ self.old.period) }
-        // Which fault it is, and what it leaves.
+        // Which fault it is, want of memory last, and what it leaves.
         ensures fault { MatchResult result (λ _. issue_fault self.old account span ≡ None) (λ e. e ≢ Memory → issue_fault self.old account span ≡ Some e) }
+        ensures memory { IsErrOf result Memory → issue_fault self.old account span ≡ None }
         ensures err { OnErr result (self.new ≡ self.old) }
     {
         if account >= self.accounts {

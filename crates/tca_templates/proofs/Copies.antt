@@ -12,7 +12,7 @@ use Rattle.tca_templates.specs.declared.template.Template.{Template}
 turned_number : (m n : ℕ) → (m == n) ≡ (n == m)
 turned_number m n = grind (arith, nat_tests)
 
-turned : (a b : Key) → same_key a b ≡ same_key b a
+pub turned : (a b : Key) → same_key a b ≡ same_key b a
 turned a b = ap (λ t. t && (a.1 == b.1)) (turned_number a.0 b.0) ∙ ap (λ t. (b.0 == a.0) && t) (turned_number a.1 b.1)
 
 -- the entries up to i, and the one there

@@ -11,3 +11,4 @@ pub mod PartLaws
 pub mod TemplateSetLaws
 pub mod DataSetLaws
 pub mod SessionLaws
+pub mod SessionMaps

@@ -32,7 +32,7 @@ known_has k (x ∷ xs) t all e = go (λ h. known_has k xs t all.1 h) (same_key k
     go others true e = subst (λ (u : TemplateView). 0 < shortest_of u.specs) (same_some x.1 t e) all.0
     go others false e = others e
 
-define_has : (k : Key) (t : TemplateView) (ts : Templates) → 0 < shortest_of t.specs → HaveOctets ts → HaveOctets (define k t ts)
+pub define_has : (k : Key) (t : TemplateView) (ts : Templates) → 0 < shortest_of t.specs → HaveOctets ts → HaveOctets (define k t ts)
 unfolding define
 define_has k t [] some all = (some, tt)
 define_has k t (x ∷ xs) some all = go (define_has k t xs some all.1) (same_key k x.0)
@@ -41,7 +41,7 @@ define_has k t (x ∷ xs) some all = go (define_has k t xs some all.1) (same_key
     go others true = (some, all.1)
     go others false = (all.0, others)
 
-withdraw_has : (k : Key) (ts : Templates) → HaveOctets ts → HaveOctets (withdraw k ts)
+pub withdraw_has : (k : Key) (ts : Templates) → HaveOctets ts → HaveOctets (withdraw k ts)
 unfolding withdraw
 withdraw_has k [] all = tt
 withdraw_has k (x ∷ xs) all = go (withdraw_has k xs all.1) (same_key k x.0)
@@ -50,7 +50,7 @@ withdraw_has k (x ∷ xs) all = go (withdraw_has k xs all.1) (same_key k x.0)
     go others true = all.1
     go others false = (all.0, others)
 
-filter_has : (p : Key × TemplateView → Bool) (ts : Templates) → HaveOctets ts → HaveOctets (filter p ts)
+pub filter_has : (p : Key × TemplateView → Bool) (ts : Templates) → HaveOctets ts → HaveOctets (filter p ts)
 filter_has p [] all = tt
 filter_has p (x ∷ xs) all = go (filter_has p xs all.1) (p x)
   where

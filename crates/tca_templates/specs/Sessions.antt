@@ -1,9 +1,11 @@
 -- What a message is in a session: its sets take effect in their order (RFC 7011, section 3.1).
-use Rattle.std.specs.Prelude.{◌≡◌, ◌≢◌, ⊤, ℕ, ◌+◌, ◌≤◌, ◌<◌, true, false, List, [], ◌∷◌, Some, None}
+use Rattle.std.specs.Prelude.{◌≡◌, ◌≢◌, ⊤, ℕ, ◌+◌, ◌%◌, ◌^◌, ◌≤◌, ◌<◌, Bool, true, false, if◌then◌else◌, List, [], ◌∷◌, length, Option, Some, None}
+use Rattle.std.specs.List.{IsDistinct, AllByRecursion}
+use Rattle.std.specs.Map.{keys_of}
 use Rattle.tca_wire.specs.declared.message.Header.{Header}
 use Rattle.tca_wire.specs.declared.message.SetSpan.{SetSpan}
-use Rattle.tca_templates.specs.Templates.{Templates, TemplateView, known, shortest_of}
-use Rattle.tca_templates.specs.Records.{FieldView}
+use Rattle.tca_templates.specs.Templates.{Key, Templates, TemplateView, same_key, stays, known, shortest_of}
+use Rattle.tca_templates.specs.Records.{FieldView, PlacedView}
 use Rattle.tca_templates.specs.Reading.{Seen, body_of, before}
 use Rattle.tca_templates.specs.TemplateSets.{IsTemplateSet}
 use Rattle.tca_templates.specs.DataSets.{IsDataSet, placed_behind}
@@ -12,6 +14,25 @@ use Rattle.tca_templates.specs.DataSets.{IsDataSet, placed_behind}
 abbrev pub HaveOctets : Templates → Type 0
 HaveOctets [] = ⊤
 HaveOctets (e ∷ es) = (0 < shortest_of e.1.specs) × HaveOctets es
+
+-- What a session may know is a finite map from observation domain and identifier to a template: no two templates of one of these, at
+-- most 4,096 over all domains, and each of at most 512 fields and with records that have an octet.
+pub record IsSession (ts : Templates) : Type 0 where
+  pub once : IsDistinct same_key (keys_of ts)
+  pub few : length ts ≤ 4096
+  pub fields : AllByRecursion (λ (e : Key × TemplateView). length e.1.specs ≤ 512) ts
+  pub octets : HaveOctets ts
+
+-- a template of an identifier, unless it is of this domain and kind
+abbrev pub of_others : ℕ → Bool → Key → Option TemplateView → Option TemplateView
+of_others domain options k None = None
+of_others domain options k (Some t) = if stays domain options (k, t) then Some t else None
+
+-- Records of the message's observation domain, the first of which has so many before it: each has the place of the sequence number
+-- and the count of those before it, modulo 2^32.
+abbrev pub ArePlaced : Header → ℕ → List PlacedView → Type 0
+ArePlaced h i [] = ⊤
+ArePlaced h i (r ∷ rs) = (r.domain ≡ h.domain) × (r.place ≡ (h.sequence + i) % 2 ^ 32) × ArePlaced h (i + 1) rs
 
 -- One set, and what has come of the message before it and with it.
 pub data IsSet (h : Header) (octets : List ℕ) (seen after : Seen) (s : SetSpan) : Type 0 where

@@ -29,7 +29,7 @@ pub use decoder::Decoder;
 pub use fault::DecodeFault;
 pub use iter::TemplatesIter;
 pub use outcome::{FieldValue, Outcome, PlacedFields};
-pub use reading::reading_words;
+pub use reading::{reading_words, session_words};
 pub use record::{Field, Row};
 
 #[cfg(test)]

@@ -1,10 +1,12 @@
 //! The sets of a message, one after the other.
-ghost use Rattle.std.specs.Prelude.{◌≡◌, ◌<◌, ◌≤◌, ◌+◌, ◌^◌, List, ℕ, [], length, OnOk, IfOk, Ok, Err, true, false};
+ghost use Rattle.std.specs.Prelude.{◌≡◌, ◌<◌, ◌≤◌, ◌+◌, ◌++◌, ◌∷◌, ◌^◌, List, ℕ, Bool, [], length, if◌then◌else◌, OnOk, IfOk, Some, None, Ok, Err, true, false};
+ghost use Rattle.std.specs.Option.{is_none};
+ghost use Rattle.std.specs.Map.{keys_of};
 ghost use Rattle.std.specs.List.{list_any};
 ghost use Rattle.tca_wire.specs.Walks.{Gives};
 ghost use Rattle.tca_templates.specs.Reading.{Seen, body_of, set_of, read_of};
-ghost use Rattle.tca_templates.specs.Sessions.{HaveOctets, IsReading};
-ghost use Rattle.tca_templates.specs.Templates.{Templates};
+ghost use Rattle.tca_templates.specs.Sessions.{HaveOctets, IsSession, of_others, ArePlaced, IsReading};
+ghost use Rattle.tca_templates.specs.Templates.{Key, Templates, TemplateView, same_key, define, withdraw, withdraw_all, known};
 ghost use Rattle.tca_wire.specs.declared.message.Header.{Header};
 ghost use Rattle.tca_wire.specs.declared.message.SetSpan.{SetSpan};
 ghost use Rattle.tca_templates.specs.Fields.{seen_of, counted, templates_of, is_template_set, is_read};
@@ -131,4 +133,20 @@ pub fn reading_words()
         → read_of ts h octets ss ≡ Ok seen → IsReading ts h octets ss seen }
     ensures only { (ts : Templates) (h : Header) (octets : List ℕ) (ss : List SetSpan) (seen : Seen) → IsReading ts h octets ss seen
         → read_of ts h octets ss ≡ Ok seen }
+{}
+
+/// The law of sessions: what a session knows is a finite map from observation domain and ID to a template, within its limits, and
+/// every message that is read leaves it one. A definition sets its key, which keeps its place where it is known and else goes last,
+/// and withdrawals remove theirs. Record `i` of a message, from 0, has the place of the message's sequence number and `i`.
+pub fn session_words()
+    ensures opens { IsSession [] }
+    ensures stays { (ts : Templates) (h : Header) (octets : List ℕ) (ss : List SetSpan) (seen : Seen) → IsSession ts
+        → IsReading ts h octets ss seen → IsSession seen.templates }
+    ensures defined { (k j : Key) (t : TemplateView) (ts : Templates) → known j (define k t ts) ≡ (if same_key j k then Some t else known j ts) }
+    ensures order { (k : Key) (t : TemplateView) (ts : Templates) → keys_of (define k t ts) ≡ (if is_none (known k ts) then keys_of ts ++ k ∷ [] else keys_of ts) }
+    ensures withdrawn { (k j : Key) (ts : Templates) → IsSession ts → known j (withdraw k ts) ≡ (if same_key j k then None else known j ts) }
+    ensures all_withdrawn { (domain : ℕ) (options : Bool) (j : Key) (ts : Templates) → IsSession ts
+        → known j (withdraw_all domain options ts) ≡ of_others domain options j (known j ts) }
+    ensures places { (ts : Templates) (h : Header) (octets : List ℕ) (ss : List SetSpan) (seen : Seen) → IsReading ts h octets ss seen
+        → ArePlaced h 0 seen.records }
 {}

@@ -3,3 +3,4 @@ pub mod Sets
 pub mod Tiles
 pub mod Framings
 pub mod FramesOf
+pub mod FirstFaults

@@ -26,7 +26,7 @@ number_same m n h = grind (arith, nat_tests, h)
 le_true : (m n : ℕ) → m ≤ n → nat_le m n ≡ true
 le_true m n h = grind (arith, nat_tests, h)
 
-stands_found : (at : ℕ) (octets : List ℕ) (s : SetSpan) → judged at octets ≡ Ok s → stands at s octets ≡ true
+pub stands_found : (at : ℕ) (octets : List ℕ) (s : SetSpan) → judged at octets ≡ Ok s → stands at s octets ≡ true
 stands_found at octets s e =
     let j = judged_ok at octets s e in
     let a = number_same s.at at (ap (λ (x : SetSpan). x.at) j.is) in
@@ -40,10 +40,10 @@ same_number m n h = grind (arith, nat_tests, h)
 le_told : (m n : ℕ) → nat_le m n ≡ true → m ≤ n
 le_told m n h = grind (arith, nat_tests, h)
 
-not_lt : (m n : ℕ) → n ≤ m → nat_lt m n ≡ false
+pub not_lt : (m n : ℕ) → n ≤ m → nat_lt m n ≡ false
 not_lt m n h = grind (arith, nat_tests, h)
 
-stands_only : (at : ℕ) (octets : List ℕ) (s : SetSpan) → stands at s octets ≡ true → (judged at octets ≡ Ok s) × (4 ≤ s.length) × (s.length ≤ length octets)
+pub stands_only : (at : ℕ) (octets : List ℕ) (s : SetSpan) → stands at s octets ≡ true → (judged at octets ≡ Ok s) × (4 ≤ s.length) × (s.length ≤ length octets)
 stands_only at octets s h =
     let n = big_number 2 (drop 2 octets) in
     let a = parts _ _ h in

@@ -1,6 +1,6 @@
 -- Each step of a walk.
 use Rattle.std.proofs.Common.{◌≡◌, ℕ, zero, suc, ◌+◌, ◌<◌, List, length, drop, Result, Ok, Err, refl, ap, ◌∙◌, arith}
-use Rattle.std.specs.Prelude.{IfOk}
+use Rattle.std.specs.Prelude.{◌≢◌, IfOk, IfErr}
 use Rattle.std.proofs.lemmas.List.{length-drop}
 use Rattle.tca_wire.specs.Walks.{Front, Ends, Bad, Next, by_front, walk_for, walk, Advances, Gives}
 
@@ -40,3 +40,9 @@ pub gives_ok : {X Y F : Type 0} (memory : F) (view : X → Y) (P : Y → Type 0)
     → ((y : Y) → given ≡ Ok y → P y) → Gives memory view r given → IfOk r (λ x. P (view x))
 gives_ok memory view P (Ok x) given all h = all (view x) h
 gives_ok memory view P (Err e) given all h = tt
+
+-- and what holds of each fault that it gives holds of the fault that was answered, unless memory ran out
+pub gives_err : {X Y F : Type 0} (memory : F) (view : X → Y) (P : F → Type 0) (r : Result X F) (given : Result Y F)
+    → ((f : F) → given ≡ Err f → P f) → Gives memory view r given → IfErr r (λ f. f ≢ memory → P f)
+gives_err memory view P (Ok x) given all h = tt
+gives_err memory view P (Err f) given all h = λ other. all f (h other)

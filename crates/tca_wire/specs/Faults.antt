@@ -3,6 +3,7 @@ use Rattle.std.specs.Prelude.{ℕ}
 use Rattle.tca_wire.specs.declared.fault.WireFault.{WireFault}
 use Rattle.tca_wire.specs.declared.fault.WireFault.TheVariants as wire
 
+-- the number of each fault
 abbrev pub wire_number : WireFault → ℕ
 wire_number wire.Short = 1
 wire_number (wire.BadVersion v) = 2

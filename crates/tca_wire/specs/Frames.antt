@@ -49,6 +49,7 @@ abbrev pub framing : List ℕ → Option WireFault → Framing
 framing held None = Holds held
 framing held (Some fault) = Failed fault
 
+-- the fault, where there is one
 abbrev pub fault_of : Framing → Option WireFault
 fault_of (Holds held) = None
 fault_of (Failed fault) = Some fault
@@ -59,6 +60,7 @@ ending (Holds []) = Ok tt
 ending (Holds (b ∷ bs)) = Err Short
 ending (Failed fault) = Err fault
 
+-- the octets of each message of a list
 abbrev pub octets_of : List (Vec ℕ) → List (List ℕ)
 octets_of messages = map (λ m. m.items) messages
 
@@ -68,6 +70,7 @@ pub data AtFront : Type 0 where
   Part : AtFront
   Faulty : WireFault → AtFront
 
+-- which of them it is
 abbrev pub at_front : List ℕ → AtFront
 at_front octets =
     if nat_lt (length octets) 16 then Part
@@ -76,6 +79,7 @@ at_front octets =
     else (if nat_lt (length octets) (length_at octets) then Part
     else Whole (length_at octets))))
 
+-- a stream with one frame more before its first
 abbrev pub in_front : List ℕ → List (List ℕ) × Framing → List (List ℕ) × Framing
 in_front frame stream = (frame ∷ stream.0, stream.1)
 

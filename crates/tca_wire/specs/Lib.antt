@@ -1,4 +1,5 @@
 pub mod Walks
 pub mod Messages
 pub mod Frames
+pub mod FirstFaults
 pub mod Faults

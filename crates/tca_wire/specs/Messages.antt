@@ -7,10 +7,11 @@ use Rattle.tca_wire.specs.declared.message.SetSpan.{SetSpan}
 use Rattle.tca_wire.specs.declared.fault.WireFault.{WireFault}
 use Rattle.tca_wire.specs.declared.fault.WireFault.TheVariants.{Short, BadVersion, BadLength, SetLength, SetPastEnd, Trailing}
 
--- what the first two octets of a header say, and what the next two say
+-- the version, which the first two octets of a header say
 abbrev pub version_at : List ℕ → ℕ
 version_at octets = big_number 2 octets
 
+-- the length, which the next two say
 abbrev pub length_at : List ℕ → ℕ
 length_at octets = big_number 2 (drop 2 octets)
 
@@ -24,6 +25,7 @@ unfoldable pub tile : ℕ → List SetSpan → List ℕ → Bool
 tile at [] octets = length octets == 0
 tile at (s ∷ ss) octets = stands at s octets && tile (at + s.length) ss (drop s.length octets)
 
+-- the four numbers that a header says behind its version
 abbrev pub header_at : List ℕ → Header
 header_at octets = record {
   length = length_at octets;
@@ -62,17 +64,21 @@ pub record IsMessage (octets : List ℕ) (h : Header) (ss : List SetSpan) : Type
   pub whole : h.length ≤ length octets
   pub sets : tile 16 ss (drop 16 (take h.length octets)) ≡ true
 
+-- with the set that was judged as the last, or its fault
 abbrev pub after : List SetSpan → Result SetSpan WireFault → Front (List SetSpan) WireFault
 after sets (Ok s) = Next (sets ++ s ∷ []) s.length
 after sets (Err f) = Bad f
 
+-- what stands at the front of the octets behind some sets
 unfoldable pub set_front : List SetSpan → ℕ → List ℕ → Front (List SetSpan) WireFault
 set_front sets at [] = Ends
 set_front sets at (b ∷ bs) = after sets (judged at (b ∷ bs))
 
+-- the sets of a message's octets behind its header, or the first fault among them
 abbrev pub sets_of : List ℕ → Result (List SetSpan) WireFault
 sets_of octets = walk set_front [] 16 octets
 
+-- a header with the sets behind it, or their fault
 abbrev pub with_header : Header → Result (List SetSpan) WireFault → Result (Header × List SetSpan) WireFault
 with_header h (Ok ss) = Ok (h, ss)
 with_header h (Err f) = Err f

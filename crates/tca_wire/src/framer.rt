@@ -24,16 +24,16 @@ pub struct Framer {
     fault: Option<WireFault>,
 }
 
-// Contracts see the octets held, which are less than a message, or the fault.
+// Contracts see the octets held, which are less than a message, or the fault, behind which none are held.
 impl Model for Framer {
-    ghost use Rattle.std.specs.Prelude.{IfNone};
+    ghost use Rattle.std.specs.Prelude.{◌≡◌, [], IfNone, IfSome};
     ghost use Rattle.tca_wire.specs.Frames.{Framing, IsPart, framing};
 
     ghost Value = { Framing };
 
     ghost view = { λ f. framing f.held.items f.fault };
 
-    ghost invariant = { λ f. IfNone f.fault (IsPart f.held.items) };
+    ghost invariant = { λ f. IfNone f.fault (IsPart f.held.items) × IfSome f.fault (λ _. f.held.items ≡ []) };
 }
 
 /// The length of the message at the front, None where it isn't there whole.

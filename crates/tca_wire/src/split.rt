@@ -1,7 +1,8 @@
 //! Reading one message.
-ghost use Rattle.std.specs.Prelude.{List, ℕ, Ok, IfOk, IfErr, IsOk, IsErrOf, ◌≡◌, ◌≢◌, ◌<◌, ◌≤◌, ◌+◌, ◌^◌, length, take};
+ghost use Rattle.std.specs.Prelude.{List, ℕ, Ok, Err, IfOk, IfErr, IsOk, IsErrOf, ◌≡◌, ◌≢◌, ◌<◌, ◌≤◌, ◌+◌, ◌^◌, length, take};
 ghost use Rattle.tca_wire.specs.Walks.{Gives};
 ghost use Rattle.tca_wire.specs.Messages.{judged, judged_header, sets_of, message_of, HasSet, IsMessage};
+ghost use Rattle.tca_wire.specs.FirstFaults.{IsFirstFault};
 ghost use Rattle.tca_wire.specs.declared.message.Header.{Header};
 ghost use Rattle.tca_wire.specs.declared.message.SetSpan.{SetSpan};
 
@@ -109,6 +110,7 @@ pub fn split_message(alloc: Global, octets: &[u8]) -> Result<Message<'_>, WireFa
         Gives WireFault.Memory (λ m. (m.header, m.sets.items)) result (Ok found) }
     // Which fault it is.
     ensures exact { Gives WireFault.Memory (λ m. (m.header, m.sets.items)) result (message_of octets.now) }
+    ensures first { IfErr result (λ f. f ≢ WireFault.Memory → IsFirstFault octets.now f) }
     ensures octets { IfOk result (λ m. m.octets.now ≡ take m.header.length octets.now) }
     // Memory is wanted for the sets alone, where there is one.
     ensures memory { IsErrOf result WireFault.Memory → HasSet octets.now }
@@ -116,8 +118,11 @@ pub fn split_message(alloc: Global, octets: &[u8]) -> Result<Message<'_>, WireFa
     split(alloc, octets)
 }
 
-/// The law of messages: what is found from the left is what the grammar of RFC 7011, section 3, has.
+/// The law of messages: what is found from the left is what the grammar of RFC 7011, section 3, has, and where it has none,
+/// the one fault before which all is right.
 pub fn message_words()
     ensures found { (octets : List ℕ) (h : Header) (ss : List SetSpan) → message_of octets ≡ Ok (h, ss) → IsMessage octets h ss }
     ensures only { (octets : List ℕ) (h : Header) (ss : List SetSpan) → IsMessage octets h ss → message_of octets ≡ Ok (h, ss) }
+    ensures fault { (octets : List ℕ) (f : WireFault) → message_of octets ≡ Err f → IsFirstFault octets f }
+    ensures no_other { (octets : List ℕ) (f : WireFault) → IsFirstFault octets f → message_of octets ≡ Err f }
 {}

@@ -1,11 +1,12 @@
 -- Gathering the inputs one by one.
-use Rattle.std.proofs.Common.{◌≡◌, ◌∙◌, ℕ, suc, ◌+◌, ◌<◌, ◌≤◌, List, ◌∷◌, length, get_or, map, drop, Result, Ok, sym, ap, add-one}
+use Rattle.std.proofs.Common.{◌≡◌, ◌∙◌, ℕ, suc, ◌+◌, ◌<◌, ◌≤◌, List, [], ◌∷◌, ◌++◌, length, get_or, map, take, drop, Option, Some, Result, Ok, Err, is_ok, refl, sym, ap, ap₂, add-one, arith}
+use Rattle.std.proofs.lemmas.List.{length-map, length-take-le, map-append, take-map, take_more}
 use Rattle.std.proofs.Math.Seq.{drop-cons}
 use Rattle.std.proofs.Math.ListN.{drop_of_length-le}
 use Rattle.tca_report.specs.Reports.{PacketReport}
 use Rattle.tca_report.specs.Inputs.{input_of}
 use Rattle.tcacct.specs.declared.fault.RunFault.{RunFault}
-use Rattle.tcacct.specs.Runs.{IsRefusedAs, and_then, gathered, with_input}
+use Rattle.tcacct.specs.Runs.{IsInTurn, IsRefusedAs, and_then, gathered, with_input}
 
 cut : {X : Type 0} (f : X → List ℕ) (xs : List X) (i : ℕ) (x : X) → i < length xs → x ≡ get_or xs i x → map f (drop i xs) ≡ f x ∷ map f (drop (i + 1) xs)
 cut f xs i x h is = rw add-one (ap (map f) (drop-cons xs i x h) ∙ ap (λ y. f y ∷ map f (drop (suc i) xs)) (sym is))
@@ -30,3 +31,42 @@ module _ {X : Type 0} (f : X → List ℕ) (inputs : List X) (n : ℕ) (held : L
   pub all_in : length inputs ≤ n → total ≡ Ok held
   unfolding gathered
   all_in h = sym so_far ∙ ap (λ (rest : List X). gathered n held (map f rest)) (drop_of_length-le inputs h)
+
+same_held : (a b : List PacketReport) (r : Result (List PacketReport) RunFault) → r ≡ Ok a → r ≡ Ok b → a ≡ b
+same_held a b r one other = let both : Ok a ≡ Ok b = sym one ∙ other in cc
+
+-- where the one goes on to its end, so does the other
+through : (r : Result (List PacketReport) RunFault) (f g : List PacketReport → Result (List PacketReport) RunFault) (b c : List PacketReport)
+    → and_then r f ≡ Ok b → ((a : List PacketReport) → f a ≡ Ok b → g a ≡ Ok c) → and_then r g ≡ Ok c
+through (Ok a) f g b c done more = more a done
+through (Err e) f g b c done more = absurd cc
+
+-- one input more at the end
+one_behind : (first n : ℕ) (held : List PacketReport) (inputs : List (List ℕ)) (input : List ℕ) (so_far more : List PacketReport) → first + length inputs ≡ n
+    → gathered first held inputs ≡ Ok so_far → with_input n so_far (input_of input) ≡ Ok more → gathered first held (inputs ++ input ∷ []) ≡ Ok more
+unfolding gathered
+one_behind first n held [] input so_far more count taken next =
+    let place : first ≡ n = omega (arith, count) in
+    let same : held ≡ so_far = same_held held so_far (gathered first held []) refl taken in
+    ap (λ r. and_then r (λ rs. gathered (first + 1) rs [])) (ap₂ (λ k rs. with_input k rs (input_of input)) place same ∙ next)
+one_behind first n held (x ∷ xs) input so_far more count taken next =
+    through (with_input first held (input_of x)) (λ rs. gathered (first + 1) rs xs) (λ rs. gathered (first + 1) rs (xs ++ input ∷ [])) so_far more taken
+    (λ rs on. one_behind (first + 1) n rs xs input so_far more (omega (arith, count)) on next)
+
+-- before the first input
+pub none_taken : gathered 0 [] [] ≡ Ok []
+unfolding gathered
+none_taken = refl
+
+module _ {X : Type 0} (f : X → List ℕ) (inputs : List X) (n : ℕ) (so_far : List PacketReport) (inside : n < length inputs) (taken : gathered 0 [] (map f (take n inputs)) ≡ Ok so_far) where
+  -- once an input was taken all up to it were
+  pub one_taken : (input : X) (more : List PacketReport) → input ≡ get_or inputs n input → with_input n so_far (input_of (f input)) ≡ Ok more → gathered 0 [] (map f (take (n + 1) inputs)) ≡ Ok more
+  one_taken input more is next =
+      let cut : map f (take (n + 1) inputs) ≡ map f (take n inputs) ++ f input ∷ [] =
+      ap (map f) (take_more inputs n input inside) ∙ map-append f (take n inputs) (get_or inputs n input ∷ []) ∙ ap (λ x. map f (take n inputs) ++ f x ∷ []) (sym is) in
+      let count : 0 + length (map f (take n inputs)) ≡ n = omega (arith, length-map (take n inputs) f, length-take-le n inputs (omega (arith, inside))) in
+      ap (gathered 0 []) cut ∙ one_behind 0 n [] (map f (take n inputs)) (f input) so_far more count taken next
+
+  -- a refusal that names the next input
+  pub in_turn : (named : Option ℕ) → named ≡ Some n → IsInTurn (map f inputs) named
+  in_turn named is = rw is (omega (arith, inside, length-map inputs f), ap is_ok (ap (gathered 0 []) (take-map f n inputs) ∙ taken))

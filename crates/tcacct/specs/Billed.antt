@@ -1,6 +1,6 @@
 -- What the command `bill` writes, and what it is refused for.
 use Rattle.std.proofs.Common.{inl, inr}
-use Rattle.std.specs.Prelude.{◌≡◌, ◌⊎◌, ℕ, List, [], Option, Some, None, Ok, Err, IsUtf8, false, option_map}
+use Rattle.std.specs.Prelude.{◌≡◌, ◌≢◌, ◌⊎◌, ℕ, List, [], Option, Some, None, Ok, Err, IsUtf8, false, option_map}
 use Rattle.std.specs.Borrow.{MutBor}
 use Rattle.std.specs.Io.KnownBytes.{Appends}
 use Rattle.toml.specs.Parse.{parse_document}
@@ -13,7 +13,7 @@ use Rattle.tca_accounts.specs.Documents.{plan_in}
 use Rattle.tca_accounts.specs.Bills.{bill_of}
 use Rattle.tca_accounts.specs.Faults.{plan_number}
 use Rattle.tca_accounts.specs.declared.fault.PlanFault.{PlanFault}
-use Rattle.tca_accounts.specs.declared.fault.PlanFault.TheVariants.{Syntax}
+use Rattle.tca_accounts.specs.declared.fault.PlanFault.TheVariants.{Syntax, Memory}
 use Rattle.tca_statements.specs.Statements.{statement_text}
 use Rattle.tcacct.specs.declared.fault.RunFault.{RunFault}
 use Rattle.tcacct.specs.declared.fault.Family.TheVariants as family
@@ -24,9 +24,9 @@ use Rattle.tcacct.specs.Noted.{AreNotes}
 abbrev pub IsPlanOf : List ℕ → AccountPlan → Type 0
 IsPlanOf text p = IsUtf8 text × (plan_in (parse_document text) ≡ Ok p)
 
--- a text is refused as a plan with this fault
+-- a text is refused as a plan with this fault, or memory ran out
 abbrev pub RefusesPlan : List ℕ → PlanFault → Type 0
-RefusesPlan text f = (IsUtf8 text → plan_in (parse_document text) ≡ Err f) × (¬ IsUtf8 text → f ≡ Syntax)
+RefusesPlan text f = f ≢ Memory → (IsUtf8 text → plan_in (parse_document text) ≡ Err f) × (¬ IsUtf8 text → f ≡ Syntax)
 
 -- the statement of a set of reports under a plan
 abbrev pub statement_under : AccountPlan → List PacketReport → List ℕ

@@ -1,5 +1,5 @@
 -- What the inputs of a command hold together, and what they are refused for.
-use Rattle.std.specs.Prelude.{◌≡◌, ◌==◌, ℕ, ◌+◌, ◌<◌, Bool, true, false, ◌||◌, ◌&&◌, List, [], ◌∷◌, ◌++◌, length, take, Option, Some, is_none, is_some, Result, Ok, Err, nat_lt, if◌then◌else◌}
+use Rattle.std.specs.Prelude.{◌≡◌, ◌==◌, ℕ, ◌+◌, ◌<◌, Bool, true, false, ◌||◌, ◌&&◌, List, [], ◌∷◌, ◌++◌, length, take, Option, Some, None, is_some, Result, Ok, Err, IsOk, nat_lt, if◌then◌else◌}
 use Rattle.std.specs.Io.KnownBytes.{Appends}
 use Rattle.std.specs.List.{flat_map}
 use Rattle.tca_join.specs.Sets.{in_order}
@@ -81,17 +81,18 @@ is_family family.Spec family.Spec = true
 is_family family.Read family.Read = true
 is_family _ _ = false
 
--- want of memory: number 1 of a family of its own, number 2 of the log as it takes an input, and number 8 of the plan, which is
--- no input
+-- want of memory: number 1 of a family of its own, and number 2 of the log as it takes an input
 abbrev pub wants_memory : RunFault → Bool
-wants_memory e =
-    (is_family e.family family.Memory && (e.number == 1))
-    || ((is_family e.family family.Log && ((e.number == 2) && is_some e.input))
-    || (is_family e.family family.Plan && ((e.number == 8) && is_none e.input)))
+wants_memory e = (is_family e.family family.Memory && (e.number == 1)) || (is_family e.family family.Log && ((e.number == 2) && is_some e.input))
 
 -- a refusal is the one that was to come, unless memory ran out
 abbrev pub IsRefusedAs : {A : Type 0} → RunFault → Result A RunFault → Type 0
 IsRefusedAs e said = wants_memory e ≡ false → said ≡ Err e
+
+-- what a refusal names: no input, or one of these where all before it were taken
+abbrev pub IsInTurn : List (List ℕ) → Option ℕ → Type 0
+IsInTurn inputs None = Unit {0}
+IsInTurn inputs (Some n) = (n < length inputs) × IsOk (gathered 0 [] (take n inputs))
 
 -- a write that failed
 abbrev pub is_write : RunFault → Bool

@@ -4,7 +4,8 @@ ghost use Rattle.tca_report.specs.Devices.{Rises};
 ghost use Rattle.tca_accounts.specs.Plans.{AccountPlan};
 ghost use Rattle.tcacct.specs.Billed.{AppendsIfGiven, IsBillCutOff, IsBilled, IsBillRefused, IsPlanOf, RisesGiven, after, before, statement_under};
 ghost use Rattle.tcacct.specs.Noted.{AreNotes};
-ghost use Rattle.tcacct.specs.Runs.{IsUnion, is_write};
+ghost use Rattle.tcacct.specs.Runs.{IsInTurn, IsUnion, is_family, is_write};
+ghost use Rattle.tcacct.specs.declared.fault.Family.TheVariants as family;
 
 use crate::combine::listed;
 use crate::fault::RunFault;
@@ -35,6 +36,8 @@ fn billed(
     ensures noted { IfOk result (λ x. AreNotes (map (λ v. v.items) inputs.now) x.2.items) }
     ensures no_write { IfErr result (λ e. is_write e ≡ false) }
     ensures refused { IfErr result (IsBillRefused plan.now (map (λ v. v.items) inputs.now)) }
+    ensures plan_first { IfErr result (λ e. is_family e.family family.Plan ≡ false → (p : AccountPlan) × IsPlanOf plan.now p) }
+    ensures turn { IfErr result (λ e. IsInTurn (map (λ v. v.items) inputs.now) e.input) }
 {
     let plan = match Plan::from_text(alloc, plan) {
         Ok(plan) => plan,
@@ -65,6 +68,8 @@ fn run_exported<W: Write, V: Write>(
     ensures calm { OnOk result ((V.failures export.new ≡ V.failures export.old) × (W.failures out.new ≡ W.failures out.old)) }
     ensures refused { IfErr result (λ e. is_write e ≡ false
         → IsBillRefused plan.now (map (λ v. v.items) inputs.now) e) }
+    ensures plan_first { IfErr result (λ e. is_family e.family family.Plan ≡ false → (p : AccountPlan) × IsPlanOf plan.now p) }
+    ensures turn { IfErr result (λ e. IsInTurn (map (λ v. v.items) inputs.now) e.input) }
     ensures untouched { IfErr result (λ e. is_write e ≡ false
         → (V.written export.new ≡ V.written export.old) × (W.written out.new ≡ W.written out.old)) }
     ensures quiet { IfErr result (λ e. is_write e ≡ false
@@ -105,6 +110,8 @@ fn run_alone<W: Write>(
     ensures calm { OnOk result (W.failures out.new ≡ W.failures out.old) }
     ensures refused { IfErr result (λ e. is_write e ≡ false
         → IsBillRefused plan.now (map (λ v. v.items) inputs.now) e) }
+    ensures plan_first { IfErr result (λ e. is_family e.family family.Plan ≡ false → (p : AccountPlan) × IsPlanOf plan.now p) }
+    ensures turn { IfErr result (λ e. IsInTurn (map (λ v. v.items) inputs.now) e.input) }
     ensures untouched { IfErr result (λ e. is_write e ≡ false
         → (W.written out.new ≡ W.written out.old) × (W.failures out.new ≡ W.failures out.old)) }
     ensures failed { IfErr result (λ e. is_write e ≡ true
@@ -144,6 +151,9 @@ pub fn run_bill_plain<W: Write, V: Write>(
     ensures calm { OnOk result ((after V.failures export.exit ≡ before V.failures export.entry) × (W.failures out.new ≡ W.failures out.old)) }
     ensures refused { IfErr result (λ e. is_write e ≡ false
         → IsBillRefused plan.now (map (λ v. v.items) inputs.now) e) }
+    // No refusal comes before the plan's, nor before that of an earlier input, also for want of memory.
+    ensures plan_first { IfErr result (λ e. is_family e.family family.Plan ≡ false → (p : AccountPlan) × IsPlanOf plan.now p) }
+    ensures turn { IfErr result (λ e. IsInTurn (map (λ v. v.items) inputs.now) e.input) }
     ensures untouched { IfErr result (λ e. is_write e ≡ false
         → (after V.written export.exit ≡ before V.written export.entry) × (W.written out.new ≡ W.written out.old)) }
     ensures quiet { IfErr result (λ e. is_write e ≡ false

@@ -5,7 +5,7 @@ ghost use Rattle.tca_report.specs.Devices.{Rises};
 ghost use Rattle.tca_report.specs.Reports.{report_cmp};
 ghost use Rattle.tcacct.specs.Combined.{IsCombined, IsCombiningCutOff};
 ghost use Rattle.tcacct.specs.Texts.{combine_text};
-ghost use Rattle.tcacct.specs.Runs.{IsRefusedAs, IsUnion, gathered, is_write};
+ghost use Rattle.tcacct.specs.Runs.{IsInTurn, IsRefusedAs, IsUnion, gathered, is_write};
 
 use crate::fault::RunFault;
 use crate::inputs::gather_all;
@@ -35,6 +35,7 @@ fn union_of(alloc: Global, inputs: &[Vec<u8>]) -> Result<(Vec<Report>, String), 
     ensures limit { IfOk result (λ x. length x.0.items ≤ 4194304) }
     ensures line { IfOk result (λ x. string_bytes x.1 ≡ combine_text (length x.0.items)) }
     ensures no_write { IfErr result (λ e. is_write e ≡ false) }
+    ensures turn { IfErr result (λ e. IsInTurn (map (λ v. v.items) inputs.now) e.input) }
     ensures exact { MatchResult result (λ x. gathered 0 [] (map (λ v. v.items) inputs.now) ≡ Ok x.0.items)
         (λ e. IsRefusedAs e (gathered 0 [] (map (λ v. v.items) inputs.now))) }
 {
@@ -70,6 +71,8 @@ pub fn run_combine<W: Write, V: Write>(
     ensures calm { OnOk result ((V.failures export.new ≡ V.failures export.old) × (W.failures out.new ≡ W.failures out.old)) }
     ensures refused { IfErr result (λ e. is_write e ≡ false
         → IsRefusedAs e (gathered 0 [] (map (λ v. v.items) inputs.now))) }
+    // No refusal comes before that of an earlier input, also for want of memory.
+    ensures turn { IfErr result (λ e. IsInTurn (map (λ v. v.items) inputs.now) e.input) }
     ensures untouched { IfErr result (λ e. is_write e ≡ false
         → (V.written export.new ≡ V.written export.old) × (W.written out.new ≡ W.written out.old)) }
     ensures quiet { IfErr result (λ e. is_write e ≡ false

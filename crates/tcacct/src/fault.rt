@@ -11,6 +11,7 @@ use tca_accounts::PlanFault;
 use tca_log::LogFault;
 use tca_meters::SpecFault;
 use tca_report::InputFault;
+use thiserror::Error;
 
 /// Which kind of refusal a fault line names.
 #[derive(Clone, Copy, Debug, PartialEq, Eq)]
@@ -53,7 +54,8 @@ impl fmt::Display for Family {
 
 /// Why a command was refused: the input at fault, counted from 0, if one was; the family, and the
 /// number of the fault in it.
-#[derive(Clone, Copy, Debug, PartialEq, Eq)]
+#[derive(Clone, Copy, Debug, PartialEq, Eq, Error)]
+#[error("{family} {number}")]
 pub struct RunFault {
     pub input: Option<u32>,
     pub family: Family,
@@ -107,7 +109,8 @@ impl RunFault {
 
     /// An input with a fault.
     pub(crate) fn input(input: u32, fault: InputFault) -> RunFault
-        ensures { result ≡ input_refusal input fault }
+        ensures fault { result ≡ input_refusal input fault }
+        ensures named { result.input ≡ Some input }
     {
         let (family, number) = match fault {
             InputFault::Export(fault) => (Family::Export, fault.number()),

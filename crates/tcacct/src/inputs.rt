@@ -1,11 +1,11 @@
 //! The inputs of a command, gathered one by one.
-ghost use Rattle.std.specs.Prelude.{◌≡◌, ◌<◌, ◌^◌, ◌++◌, List, Ok, [], IfErr, IfOk, OnOk, false, length, map, MatchResult};
+ghost use Rattle.std.specs.Prelude.{◌≡◌, ◌<◌, ◌^◌, ◌++◌, List, Ok, Some, [], IfErr, IfOk, OnOk, false, length, map, MatchResult};
 ghost use Rattle.std.specs.List.Sorted.{IsStrictlySortedBy};
 ghost use Rattle.tca_join.specs.Sets.{in_order};
 ghost use Rattle.tca_report.specs.Reports.{PacketReport, report_cmp};
 ghost use Rattle.tca_report.specs.Inputs.{input_of};
 ghost use Rattle.tcacct.specs.Noted.{AreNotes, IsNoted};
-ghost use Rattle.tcacct.specs.Runs.{IsRefusedAs, IsUnion, Says, gathered, is_write, with_input};
+ghost use Rattle.tcacct.specs.Runs.{IsInTurn, IsRefusedAs, IsUnion, Says, gathered, is_write, with_input};
 
 use crate::fault::RunFault;
 use std::alloc::Global;
@@ -19,6 +19,7 @@ fn add_input(alloc: Global, n: u32, octets: &[u8], log: &mut Log) -> Result<Note
     ensures found { OnOk result ((rs : List PacketReport) × Says octets.now rs
         × (log.new ≡ in_order report_cmp (log.old ++ rs))) }
     ensures no_write { IfErr result (λ e. is_write e ≡ false) }
+    ensures named { IfErr result (λ e. e.input ≡ Some n) }
     ensures rises { OnOk result (IsStrictlySortedBy report_cmp log.new) }
     ensures noted { IfOk result (λ notes. IsNoted octets.now notes) }
 {
@@ -43,6 +44,7 @@ pub fn gather_noted(alloc: Global, inputs: &[Vec<u8>]) -> Result<(Log, Vec<Notes
     ensures found { IfOk result (λ x. IsUnion (map (λ v. v.items) inputs.now) x.0) }
     ensures noted { IfOk result (λ x. AreNotes (map (λ v. v.items) inputs.now) x.1.items) }
     ensures no_write { IfErr result (λ e. is_write e ≡ false) }
+    ensures turn { IfErr result (λ e. IsInTurn (map (λ v. v.items) inputs.now) e.input) }
     ensures exact { MatchResult result (λ x. gathered 0 [] (map (λ v. v.items) inputs.now) ≡ Ok x.0)
         (λ e. IsRefusedAs e (gathered 0 [] (map (λ v. v.items) inputs.now))) }
 {
@@ -66,6 +68,7 @@ pub fn gather_all(alloc: Global, inputs: &[Vec<u8>]) -> Result<Log, RunFault>
     requires { length inputs.now < 2 ^ 32 }
     ensures found { IfOk result (λ log. IsUnion (map (λ v. v.items) inputs.now) log) }
     ensures no_write { IfErr result (λ e. is_write e ≡ false) }
+    ensures turn { IfErr result (λ e. IsInTurn (map (λ v. v.items) inputs.now) e.input) }
     ensures exact { MatchResult result (λ log. gathered 0 [] (map (λ v. v.items) inputs.now) ≡ Ok log)
         (λ e. IsRefusedAs e (gathered 0 [] (map (λ v. v.items) inputs.now))) }
 {

@@ -34,10 +34,23 @@ const REFUSED: u8 = 1;
 const WRONG_LINE: u8 = 2;
 
 fn main(rt: HostRuntime) -> io::Result<ExitCode> {
-    let words: Vec<String> = env::args(&rt)?.collect(rt.alloc())?;
+    let args = match env::args(&rt) {
+        Ok(args) => args,
+        Err(error) if error.kind() == io::ErrorKind::InvalidData => {
+            eprintln!(rt; "error: a word of the command line is not UTF-8")?;
+            return Ok(ExitCode::from(WRONG_LINE));
+        }
+        Err(_) => return tell_no_memory(&rt),
+    };
+    let words: Vec<String> = match args.collect(rt.alloc()) {
+        Ok(words) => words,
+        Err(_) => return tell_no_memory(&rt),
+    };
     let mut texts: Vec<&str> = Vec::new(rt.alloc());
     for word in &words {
-        texts.push(word.as_str())?;
+        if texts.push(word.as_str()).is_err() {
+            return tell_no_memory(&rt);
+        }
     }
     match read_line(rt.alloc(), &texts) {
         Ok(Line::Meter { spec, inputs }) => {
@@ -66,11 +79,14 @@ fn main(rt: HostRuntime) -> io::Result<ExitCode> {
             print!(rt; "{text}")?;
             Ok(ExitCode::SUCCESS)
         }
-        Err(LineFault::Memory) => {
-            eprintln!(rt; "tcacct: tcacct: memory 1")?;
-            Ok(ExitCode::from(REFUSED))
-        }
+        Err(LineFault::Memory) => tell_no_memory(&rt),
     }
+}
+
+// The line that tells of want of memory before a command is known.
+fn tell_no_memory(rt: &HostRuntime) -> io::Result<ExitCode> {
+    eprintln!(rt; "tcacct: tcacct: memory 1")?;
+    Ok(ExitCode::from(REFUSED))
 }
 
 fn meter_files(rt: &HostRuntime, spec: &str, paths: &[&str]) -> Result<(), RunFault> {
@@ -143,7 +159,7 @@ fn tell<'a>(
         (None, Some(judged)) if is_judgement(fault.family) => judged,
         _ => command,
     };
-    eprintln!(rt; "tcacct: {word}: {} {}", fault.family, fault.number)?;
+    eprintln!(rt; "tcacct: {word}: {fault}")?;
     Ok(ExitCode::from(REFUSED))
 }
 

@@ -699,6 +699,9 @@ fn names_families(rt: HostRuntime) -> Result<(), Fail> {
         let text = format!(in rt.alloc(); "{family}")?;
         assert_eq!(rt; text.as_str(), name);
     }
+    let fault = refusal(Some(3), Family::Wire, 1);
+    let text = format!(in rt.alloc(); "{fault}")?;
+    assert_eq!(rt; text.as_str(), "wire 1");
     Ok(())
 }
 

@@ -52,6 +52,7 @@ fn texts_name_meters(rt: HostRuntime) -> Result<(), Fail> {
         assert!(rt; meter.is_ok());
         assert_eq!(rt; meter_spec(text).ok(), meter.ok(), "{text}");
     }
+    spec_words();
     Ok(())
 }
 

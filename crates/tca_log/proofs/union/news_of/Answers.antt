@@ -1,11 +1,30 @@
-use Rattle.std.proofs.Common.{◌+◌, [], drop, subst, sym, ◌∙◌, arith}
-use Rattle.tca_report.specs.Reports.{report_cmp}
+use Rattle.std.proofs.Common.{List, ◌+◌, [], length, drop, subst, sym, ap, ◌∙◌, arith}
+use Rattle.std.proofs.lemmas.List.{nil_from_length}
+use Rattle.tca_report.specs.Reports.{PacketReport, report_cmp}
 use Rattle.tca_report.proofs.Order.{report_total}
 use Rattle.tca_log.specs.Chunks.{without_each}
-use Rattle.tca_log.proofs.Each.{ArePutting, putting_none, putting_new, putting_more, putting_some, putting_all, beyond_rises, apart_none, put_each_none}
+use Rattle.tca_log.proofs.Each.{ArePutting, putting_none, putting_new, putting_more, putting_some, putting_all, beyond_rises, apart_none, put_each_none, without_none}
 use Rattle.tca_log.proofs.Gathering.{new_next, held_next, none_left}
 use Rattle.tca_log.proofs.union.news_of.Goals as goal
 use Rattle.tca_log.proofs.union.news_of.Goals.{then-not-contains+in_ok-reserve, else-not-contains}
+
+pub of_ascending-requires-clause-few : goal.of_ascending-requires-clause-few
+of_ascending-requires-clause-few g c =
+    let none = nil_from_length c.args.rows.now.rows (omega (arith, c.len.ensures.length, c.if-len-eq0.true)) in
+    let same = ap (λ (l : List PacketReport). without_each report_cmp l c.args.set.now) none ∙ without_none report_cmp report_total c.args.set.now in
+    omega (arith, c.requires.few, ap length same)
+
+pub returns-then-not-is_empty-clause-news : goal.returns-then-not-is_empty-clause-news
+returns-then-not-is_empty-clause-news g c =
+    let none = nil_from_length c.args.rows.now.rows (omega (arith, c.len.ensures.length, c.if-len-eq0.true)) in
+    let same = ap (λ (l : List PacketReport). without_each report_cmp l c.args.set.now) none ∙ without_none report_cmp report_total c.args.set.now in
+    rw same c.of_ascending.ensures
+
+pub returns-then-not-is_empty-clause-nothing : goal.returns-then-not-is_empty-clause-nothing
+returns-then-not-is_empty-clause-nothing g c e =
+    let none = nil_from_length c.args.rows.now.rows (omega (arith, c.len.ensures.length, c.if-len-eq0.true)) in
+    let same = ap (λ (l : List PacketReport). without_each report_cmp l c.args.set.now) none ∙ without_none report_cmp report_total c.args.set.now in
+    absurd (grind (arith, ap length same, e, c.is_empty.ensures, c.if-not-is_empty.true))
 
 pub loop-report-init : goal.loop-report-init
 loop-report-init g c =

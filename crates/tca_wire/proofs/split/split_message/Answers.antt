@@ -6,8 +6,10 @@ use Rattle.tca_wire.specs.declared.message.Header.{Header}
 use Rattle.tca_wire.specs.declared.message.SetSpan.{SetSpan}
 use Rattle.tca_wire.specs.declared.fault.WireFault.{WireFault}
 use Rattle.tca_wire.specs.declared.fault.WireFault.TheVariants.{Memory}
-use Rattle.tca_wire.proofs.Walking.{gives_ok}
+use Rattle.tca_wire.specs.FirstFaults.{IsFirstFault}
+use Rattle.tca_wire.proofs.Walking.{gives_ok, gives_err}
 use Rattle.tca_wire.proofs.Tiles.{message_found, message_only}
+use Rattle.tca_wire.proofs.FirstFaults.{fault_found}
 use Rattle.tca_wire.proofs.split.split_message.Goals as goal
 
 pub returns-clause-found : goal.returns-clause-found
@@ -18,3 +20,8 @@ returns-clause-found c =
 pub returns-clause-only : goal.returns-clause-only
 returns-clause-only c = λ header sets m.
     subst (λ (given : Result (Header × List SetSpan) WireFault). Gives Memory (λ m. (m.header, m.sets.items)) c.split.result given) (message_only c.args.octets.now header sets m) c.split.ensures.exact
+
+pub returns-clause-first : goal.returns-clause-first
+returns-clause-first c =
+    gives_err Memory (λ m. (m.header, m.sets.items)) (λ (f : WireFault). IsFirstFault c.args.octets.now f) c.split.result (message_of c.args.octets.now)
+    (fault_found c.args.octets.now) c.split.ensures.exact

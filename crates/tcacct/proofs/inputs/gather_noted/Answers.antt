@@ -1,12 +1,18 @@
-use Rattle.std.proofs.Common.{◌≡◌, ◌∷◌, ◌++◌, [], sym, subst, rules}
+use Rattle.std.proofs.Common.{◌≡◌, ◌∷◌, ◌++◌, [], refl, sym, subst, rules}
 use Rattle.std.proofs.Math.ListN.{drop_of_length-le}
-use Rattle.tcacct.proofs.Gathering.{goes_on, refused, all_in, cut_here}
+use Rattle.tcacct.proofs.Gathering.{all_in, cut_here, goes_on, in_turn, none_taken, one_taken, refused}
 use Rattle.tcacct.proofs.GatheredLaws.{IsUnionWith, in_front, no_input, as_union}
 use Rattle.tcacct.proofs.NotedLaws.{all_noted, one_noted}
 use Rattle.tcacct.proofs.inputs.gather_noted.Goals as goal
 
+pub loop-n-init : goal.loop-n-init
+loop-n-init c = rw (c.new-log.ensures, c.new-all.ensures.items) (record { exact = refl; taken = none_taken; union = λ rs all. all; noted = λ more all. all; rises = search rules })
+
 pub returns-in-Err-clause-exact : goal.returns-in-Err-clause-exact
 returns-in-Err-clause-exact c = refused (λ v. v.items) c.args.inputs.now c.loop-n.n c.loop-n.log _ c.loop-n.invariant.exact c.index-inputs-n.result c.in-Err.fault c.loop-n-test.true c.index-inputs-n.is (rw c.deref.ensures.value at c.in-Err.ensures.exact)
+
+pub returns-in-Err-clause-turn : goal.returns-in-Err-clause-turn
+returns-in-Err-clause-turn c = in_turn (λ v. v.items) c.args.inputs.now c.loop-n.n c.loop-n.log c.loop-n-test.true c.loop-n.invariant.taken c.in-Err.fault.input c.in-Err.ensures.named
 
 pub loop-n-preserved : goal.loop-n-preserved
 loop-n-preserved c =
@@ -17,6 +23,7 @@ loop-n-preserved c =
     let pushed : c.push.new.self.items ≡ l.all.items ++ (c.in-Ok.notes ∷ []) = search rules in
     record {
       exact = goes_on (λ v. v.items) c.args.inputs.now l.n l.log _ l.invariant.exact input c.add_input.new.log c.loop-n-test.true c.index-inputs-n.is (rw c.deref.ensures.value at c.in-Ok.ensures.exact);
+      taken = one_taken (λ v. v.items) c.args.inputs.now l.n l.log c.loop-n-test.true l.invariant.taken input c.add_input.new.log c.index-inputs-n.is (rw c.deref.ensures.value at c.in-Ok.ensures.exact);
       union = λ rs all. l.invariant.union rs (subst (λ z. IsUnionWith l.log z rs) (sym cut) (in_front l.log told.0 c.add_input.new.log rs input.items _ told.1 told.2 all));
       noted = rw pushed (one_noted _ _ input.items l.all.items c.in-Ok.notes (rw c.deref.ensures.value at c.in-Ok.ensures.noted) (rw cut at l.invariant.noted));
       rises = c.in-Ok.ensures.rises;

@@ -15,7 +15,7 @@ returns-clause-running c =
       other = refl;
       state = refl;
       time = ap (λ content. content.time) told;
-      total = rw told at c.count-2.ensures;
-      ended = rw told at c.in_ok-sums.ensures.ended;
-      current = rw (c.count.ensures, c.in_ok-sums.ensures.sums, told) refl;
+      total = rw told at c.count.ensures;
+      ended = rw told at c.in_ok-count_in.ensures.ended;
+      current = rw told at c.in_ok-count_in.ensures.current;
     })

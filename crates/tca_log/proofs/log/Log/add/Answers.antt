@@ -1,5 +1,7 @@
-use Rattle.std.proofs.Common.{◌<◌, length, sym, ◌∙◌, arith}
-use Rattle.tca_log.proofs.Logs.{repeat, repeat_put, next_log, next_answer}
+use Rattle.std.proofs.Common.{◌<◌, List, length, sym, subst, ◌∙◌, arith}
+use Rattle.tca_report.specs.Reports.{PacketReport}
+use Rattle.tca_log.specs.Logs.{IsLog}
+use Rattle.tca_log.proofs.Logs.{repeat, repeat_put, kept, next_log, next_answer}
 use Rattle.tca_log.proofs.log.Log.add.Goals as goal
 
 pub returns-then-contains-clause-answer : goal.returns-then-contains-clause-answer
@@ -12,10 +14,18 @@ returns-then-contains-clause-ok g c =
 
 pub invariant_of-self-2 : goal.invariant_of-self-2
 invariant_of-self-2 g c =
-    let few : length c.self.inside.rows.rows < 4194304 = omega arith in
-    rw (c.put.ensures, c.in_ok-reserve.ensures.rows, c.in_ok-answer.ensures.index, c.in_ok-answer.ensures.disputed) (next_log c.self.inside.rows.rows c.self.inside.index.rows c.self.inside.disputed.rows c.args.report c.self.invariant (sym c.contains.ensures ∙ c.if-contains.false) few)
+    let rs = c.self.inside.rows.rows in
+    let index = c.in_ok-index.index.rows in
+    let doubled = c.self.inside.disputed.rows in
+    let few : length rs < 4194304 = omega arith in
+    let log : IsLog rs index doubled = subst (λ (l : List PacketReport). IsLog l index doubled) c.in_ok-reserve.ensures.rows (c.in_ok-index.ensures doubled (rw (c.in_ok-reserve.ensures.rows, c.take.ensures.value) c.self.invariant)) in
+    rw (c.put.ensures, c.in_ok-reserve.ensures.rows, c.in_ok-answer.ensures.index, c.in_ok-answer.ensures.disputed) (kept (next_log rs index doubled c.args.report log (sym c.contains.ensures ∙ c.if-contains.false) few))
 
 pub returns-clause-answer : goal.returns-clause-answer
 returns-clause-answer g c =
-    let few : length c.self.inside.rows.rows < 4194304 = omega arith in
-    rw (← c.self.view_is) (c.in_ok-answer.ensures.answer ∙ next_answer c.self.inside.rows.rows c.self.inside.index.rows c.self.inside.disputed.rows c.args.report c.self.invariant (sym c.contains.ensures ∙ c.if-contains.false) few)
+    let rs = c.self.inside.rows.rows in
+    let index = c.in_ok-index.index.rows in
+    let doubled = c.self.inside.disputed.rows in
+    let few : length rs < 4194304 = omega arith in
+    let log : IsLog rs index doubled = subst (λ (l : List PacketReport). IsLog l index doubled) c.in_ok-reserve.ensures.rows (c.in_ok-index.ensures doubled (rw (c.in_ok-reserve.ensures.rows, c.take.ensures.value) c.self.invariant)) in
+    rw (← c.self.view_is) (c.in_ok-answer.ensures.answer ∙ next_answer rs index doubled c.args.report log (sym c.contains.ensures ∙ c.if-contains.false) few)

@@ -1,7 +1,6 @@
 use Rattle.std.proofs.Common.{rules, ◌≡◌, ◌∙◌, ◌++◌, [], ◌∷◌, Some, None, sym, ap, refl}
 use Rattle.std.specs.BTreeMap.{get_by}
-use Rattle.tca_accounts.specs.Owners.{pair_cmp}
-use Rattle.tca_statements.specs.Issues.{Issued, less, sum_of}
+use Rattle.tca_statements.specs.Issues.{Issued, entry_cmp, less, sum_of}
 use Rattle.tca_statements.proofs.IssuedEntries.{issued_elsewhere, issued_more, issued_sum, next_is, on_err, same_entries}
 use Rattle.tca_statements.proofs.issuer.Issuer.issue.Goals as goal
 
@@ -42,7 +41,7 @@ pub returns-clause-listed : goal.returns-clause-listed
 returns-clause-listed c =
     let same = sym c.get_mut.follows.holds-at-none in
     let was = ap (λ (i : Issued). i.entries) (sym c.self.view_is) ∙ ap (λ m. m.entries) same in
-    let looked = c.in_default.ensures.value ∙ ap (get_by (pair_cmp (c.args.account, c.args.span))) same in
+    let looked = c.in_default.ensures.value ∙ ap (get_by (entry_cmp (c.args.account, c.args.span))) same in
     let listed = c.in_ok-amount.ensures.listed ∙ ap (λ amounts. amounts ++ c.in_ok-amount.amount ∷ []) c.new-amounts.ensures in
     issued_more c.args.self.now _ c.args.account c.args.span c.get_mut.follows.lender-at-none c.insert.new.self None was looked refl c.make-2.new.self c.in_ok-insert.ensures.updates c.in_ok-amount.amount listed
 
@@ -53,5 +52,5 @@ pub returns-clause-others : goal.returns-clause-others
 returns-clause-others c =
     let same = sym c.get_mut.follows.holds-at-none in
     let was = ap (λ (i : Issued). i.entries) (sym c.self.view_is) ∙ ap (λ m. m.entries) same in
-    let looked = c.in_default.ensures.value ∙ ap (get_by (pair_cmp (c.args.account, c.args.span))) same in
+    let looked = c.in_default.ensures.value ∙ ap (get_by (entry_cmp (c.args.account, c.args.span))) same in
     issued_elsewhere c.args.self.now _ c.args.account c.args.span c.get_mut.follows.lender-at-none c.insert.new.self None was looked refl c.make-2.new.self c.in_ok-insert.ensures.updates

@@ -1,0 +1,28 @@
+//! Reports whose places ascend.
+ghost use Rattle.std.specs.Prelude.{◌≡◌, true, [], IfOk};
+ghost use Rattle.tca_log.specs.Disputes.{disputed};
+
+use crate::rows::Rows;
+use std::alloc::{AllocError, Allocator};
+use std::collections::BTreeMap;
+use tca_report::Report;
+
+/// Whether each report's place is above those of all reports of its domain before it, as an exporter counts. Then
+/// no two have one identity. It takes memory for one number of each domain.
+pub(crate) fn places_ascend<A: Allocator + Copy>(
+    alloc: A,
+    reports: &Rows<Report, A>,
+) -> Result<bool, AllocError>
+    ensures { IfOk result (λ ascend. ascend ≡ true → disputed reports.now.rows ≡ []) }
+{
+    let mut last = BTreeMap::new(alloc);
+    for report in reports.iter() {
+        let identity = report.identity();
+        if let Some(before) = last.insert(identity.domain, identity.place)? {
+            if identity.place <= before {
+                return Ok(false);
+            }
+        }
+    }
+    Ok(true)
+}
