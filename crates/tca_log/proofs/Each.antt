@@ -11,17 +11,11 @@ use Rattle.std.proofs.lemmas.List.{append-nil}
 use Rattle.std.proofs.lemmas.List.Kept.{IsStrictlySortedBy-filter}
 use Rattle.tca_join.specs.Sets.{by_order, has, put}
 use Rattle.tca_join.proofs.Sets.{has-put, rises_put, all_put, or_swap}
-use Rattle.tca_log.specs.Chunks.{without, without_each, put_each, AreApart}
-use Rattle.tca_log.proofs.Parts.{put_past, without_absent}
+use Rattle.tca_log.specs.Ordered.{without, without_each, put_each, AreApart}
+use Rattle.tca_log.proofs.Parts.{or_parts, put_past, without_absent}
 use Rattle.tca_log.proofs.Places.{length_put}
 
-not_or : (a b : Bool) → not (a || b) ≡ (not b && not a)
-not_or true true = refl
-not_or true false = refl
-not_or false true = refl
-not_or false false = refl
-
-pub filter_filter : {K : Type 0} (p q : K → Bool) (xs : List K) → filter p (filter q xs) ≡ filter (λ x. q x && p x) xs
+filter_filter : {K : Type 0} (p q : K → Bool) (xs : List K) → filter p (filter q xs) ≡ filter (λ x. q x && p x) xs
 filter_filter p q [] = refl
 filter_filter p q (x ∷ xs) =
     elim (q x) as (λ b. filter p (cond b (x ∷ filter q xs) (filter q xs)) ≡ cond (b && p x) (x ∷ filter (λ y. q y && p y) xs) (filter (λ y. q y && p y) xs)) [
@@ -30,11 +24,11 @@ filter_filter p q (x ∷ xs) =
     ]
 
 -- two tests that answer alike keep the same
-pub filter_alike : {K : Type 0} (p q : K → Bool) (xs : List K) → ((x : K) → p x ≡ q x) → filter p xs ≡ filter q xs
+filter_alike : {K : Type 0} (p q : K → Bool) (xs : List K) → ((x : K) → p x ≡ q x) → filter p xs ≡ filter q xs
 filter_alike p q [] h = refl
 filter_alike p q (x ∷ xs) h = (λ i. cond (h x i) (x ∷ filter_alike p q xs h i) (filter_alike p q xs h i))
 
-pub filter_all : {K : Type 0} (p : K → Bool) (xs : List K) → AllByRecursion (λ x. p x ≡ true) xs → filter p xs ≡ xs
+filter_all : {K : Type 0} (p : K → Bool) (xs : List K) → AllByRecursion (λ x. p x ≡ true) xs → filter p xs ≡ xs
 filter_all p [] h = refl
 filter_all p (x ∷ xs) h = rw (h.0) (ap (λ (l : List _). x ∷ l) (filter_all p xs h.1))
 
@@ -104,20 +98,16 @@ module _ {K : Type 0} (R : K → K → Ordering) (o : IsTotalOrder R) where
       more [] h = tt
       more (e ∷ es) h = (ap (λ b. eq_by_cmp R e k || b) h.0 ∙ or_true (eq_by_cmp R e k), more es h.1)
 
-  or_false : (a b : Bool) → (a || b) ≡ false → (a ≡ false) × (b ≡ false)
-  or_false true b h = absurd cc
-  or_false false b h = (refl, h)
-
   none_ties : (js : List K) (x : K) (xs : List K) → AreApart R js (x ∷ xs) → has R js x ≡ false
   unfolding has
   none_ties [] x xs g = refl
   none_ties (j ∷ js) x xs g =
-      ap (λ b. b || has R js x) ((eq_by_cmp_equiv o).symm x j ∙ (or_false (eq_by_cmp R j x) (has R xs j) g.0).0) ∙ none_ties js x xs g.1
+      ap (λ b. b || has R js x) ((eq_by_cmp_equiv o).symm x j ∙ (or_parts (eq_by_cmp R j x) (has R xs j) g.0).0) ∙ none_ties js x xs g.1
 
   apart_less : (js : List K) (x : K) (xs : List K) → AreApart R js (x ∷ xs) → AreApart R js xs
   unfolding has
   apart_less [] x xs g = tt
-  apart_less (j ∷ js) x xs g = ((or_false (eq_by_cmp R j x) (has R xs j) g.0).1, apart_less js x xs g.1)
+  apart_less (j ∷ js) x xs g = ((or_parts (eq_by_cmp R j x) (has R xs j) g.0).1, apart_less js x xs g.1)
 
   apart_absent : (ks xs : List K) → AreApart R ks xs → AllByRecursion (λ x. not (has R ks x) ≡ true) xs
   apart_absent ks [] h = tt

@@ -7,14 +7,14 @@ use Rattle.std.specs.List.Sorted.{IsPermutation, IsSorted}
 use Rattle.std.specs.Ordering.{nat_cmp, ordering_then, eq_by_cmp, is_eq}
 use Rattle.std.specs.Cmp.{IsTotalOrder, Equal-is, unsigned_tied}
 use Rattle.std.specs.declared.cmp.Ordering.{Ordering}
-use Rattle.std.specs.declared.cmp.Ordering.TheVariants.{Less, Equal, Greater}
 use Rattle.std.proofs.lemmas.List.Kept.{IsStrictlySortedBy-dedup}
 use Rattle.std.proofs.lemmas.List.Sorted.{list_any-IsPermutation}
 use Rattle.std.proofs.lemmas.Map.Lookups.{CmpEqualImpliesEq}
 use Rattle.tca_join.specs.Sets.{has, in_order}
 use Rattle.tca_join.proofs.Sets.{has-append, has-in_order, rises_in_order, only_one, or_again}
 use Rattle.tca_join.proofs.Merge.{in_order_alike}
-use Rattle.tca_log.specs.Chunks.{without_each}
+use Rattle.tca_log.specs.Ordered.{without_each}
+use Rattle.tca_log.proofs.Contents.{is_eq_then}
 use Rattle.tca_log.proofs.Each.{beyond_new, beyond_held, beyond_none}
 use Rattle.tca_report.specs.Reports.{PacketReport, report_cmp}
 use Rattle.tca_report.proofs.Order.{report_total, report_exact}
@@ -49,11 +49,6 @@ same_report a b = (a.time == b.time) && ((a.domain == b.domain) && ((a.place == 
 pub same_tied : (a b : PacketReport) → same_report a b ≡ eq_by_cmp report_cmp a b
 same_tied a b = field a.time b.time _ _ (field a.domain b.domain _ _ (field a.place b.place _ _ (field a.octets b.octets _ _ (field a.dscp b.dscp _ _ (sym (unsigned_tied a.iface b.iface))))))
   where
-    is_eq_then : (a b : Ordering) → is_eq (ordering_then a b) ≡ (is_eq a && is_eq b)
-    is_eq_then Less b = refl
-    is_eq_then Equal b = refl
-    is_eq_then Greater b = refl
-
     field : (m n : ℕ) (b : Bool) (r : Ordering) → b ≡ is_eq r → ((m == n) && b) ≡ is_eq (ordering_then (nat_cmp m n) r)
     field m n b r e = sym (is_eq_then (nat_cmp m n) r ∙ (λ i. unsigned_tied m n i && sym e i))
 

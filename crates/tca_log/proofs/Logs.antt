@@ -16,12 +16,12 @@ use Rattle.tca_report.proofs.Identities.{identity_total, identity_exact}
 use Rattle.tca_report.specs.declared.report.Identity.{Identity}
 use Rattle.tca_log.specs.declared.answer.Added.TheVariants.{Fresh, Repeat, NewDispute, MoreDispute}
 use Rattle.tca_log.specs.declared.by_identity.ByIdentity.{ByIdentity}
-use Rattle.tca_log.specs.Chunks.{tied}
-use Rattle.tca_log.specs.Disputes.{contents, rivals, added, among_rivals}
+use Rattle.tca_log.specs.Ordered.{tied}
+use Rattle.tca_log.specs.Disputes.{has_identity, contents, added, added_to}
 use Rattle.tca_log.specs.Logs.{index_cmp, indexed, count_at, IsKept, IsLog, answered, index_after, disputes_after}
 use Rattle.tca_log.proofs.Places.{length_put}
 use Rattle.tca_log.proofs.Search.{has_tied, put_there, tied_is, all_tied}
-use Rattle.tca_log.proofs.Contents.{tests_alike, count_put, has-disputed, disputed_rises, disputed_is, rivals_are, has-filter}
+use Rattle.tca_log.proofs.Contents.{tests_alike, count_put, has-disputed, disputed_rises, disputed_is, has_identity_is, has-filter}
 
 pub index_total : IsTotalOrder index_cmp
 index_total = on_total (λ b. identity_of b.report) identity_total
@@ -60,7 +60,7 @@ kept log = record {
 -- a report that is there
 pub repeat : (rs : List PacketReport) (r : PacketReport) → has report_cmp rs r ≡ true → Repeat ≡ added rs r
 unfolding added
-repeat rs r h = sym (ap (λ b. cond b Repeat (among_rivals (rivals rs r))) h)
+repeat rs r h = sym (ap (λ b. cond b Repeat (added_to (contents rs (identity_of r)))) h)
 
 pub repeat_put : (rs : List PacketReport) (r : PacketReport) → IsStrictlySortedBy report_cmp rs → has report_cmp rs r ≡ true → rs ≡ put report_cmp r rs
 repeat_put rs r s h = sym (put_there report_cmp report_total r rs s h)
@@ -178,16 +178,16 @@ module _ (rs : List PacketReport) (index : List ByIdentity) (doubled : List Iden
       ] (has_tied index_cmp index_total (indexed r) index)
 
 -- the answer, by how many members the identity has
-answer_by : (xs : List PacketReport) → length xs ≡ 0 → Fresh ≡ among_rivals xs
+answer_by : (xs : List PacketReport) → length xs ≡ 0 → Fresh ≡ added_to xs
 answer_by [] h = refl
 answer_by (x ∷ xs) h = absurd (omega arith)
 
-answer_many : (xs : List PacketReport) → 1 < length xs → MoreDispute ≡ among_rivals xs
+answer_many : (xs : List PacketReport) → 1 < length xs → MoreDispute ≡ added_to xs
 answer_many [] h = absurd (omega arith)
 answer_many (x ∷ []) h = absurd (omega arith)
 answer_many (x ∷ y ∷ xs) h = refl
 
-answer_one : (xs : List PacketReport) (q : PacketReport) → length xs ≤ 1 → has report_cmp xs q ≡ true → NewDispute q ≡ among_rivals xs
+answer_one : (xs : List PacketReport) (q : PacketReport) → length xs ≤ 1 → has report_cmp xs q ≡ true → NewDispute q ≡ added_to xs
 unfolding has
 answer_one [] q h m = absurd cc
 answer_one (x ∷ []) q h m = ap NewDispute (report_exact q x ((Equal-is (report_cmp q x)).0 (or_none (eq_by_cmp report_cmp q x) ∙ m)))
@@ -198,28 +198,28 @@ answer_one (x ∷ []) q h m = ap NewDispute (report_exact q x ((Equal-is (report
 answer_one (x ∷ y ∷ xs) q h m = absurd (omega arith)
 
 module _ (rs : List PacketReport) (index : List ByIdentity) (doubled : List Identity) (r : PacketReport) (log : IsLog rs index doubled) (new : has report_cmp rs r ≡ false) (few : length rs < 4194304) where
-  opened : among_rivals (contents rs (identity_of r)) ≡ added rs r
+  opened : added_to (contents rs (identity_of r)) ≡ added rs r
   unfolding added
-  opened = ap among_rivals (sym (rivals_are rs r)) ∙ sym (ap (λ b. cond b Repeat (among_rivals (rivals rs r))) new)
+  opened = sym (ap (λ b. cond b Repeat (added_to (contents rs (identity_of r)))) new)
 
-  first_answer : has index_cmp index (indexed r) ≡ false → Fresh ≡ among_rivals (contents rs (identity_of r))
+  first_answer : has index_cmp index (indexed r) ≡ false → Fresh ≡ added_to (contents rs (identity_of r))
   first_answer absent = answer_by (contents rs (identity_of r)) (none rs index doubled r log new few absent)
 
-  further_answer : has identity_cmp doubled (identity_of r) ≡ true → MoreDispute ≡ among_rivals (contents rs (identity_of r))
+  further_answer : has identity_cmp doubled (identity_of r) ≡ true → MoreDispute ≡ added_to (contents rs (identity_of r))
   further_answer double = answer_many (contents rs (identity_of r)) (ltb-true 1 (count_at rs (identity_of r)) (sym (is_doubled rs index doubled r log new few (identity_of r)) ∙ double))
 
-  second_answer : (first : ByIdentity) → tied index_cmp (indexed r) index ≡ Some first → has identity_cmp doubled (identity_of r) ≡ false → NewDispute first.report ≡ among_rivals (contents rs (identity_of r))
+  second_answer : (first : ByIdentity) → tied index_cmp (indexed r) index ≡ Some first → has identity_cmp doubled (identity_of r) ≡ false → NewDispute first.report ≡ added_to (contents rs (identity_of r))
   unfolding contents
   second_answer first e single =
       let there : has report_cmp rs first.report ≡ true = all_tied index_cmp index_total (λ b. has report_cmp rs b.report ≡ true) (indexed r) index first log.among e in
-      let ties : eq_by_cmp identity_cmp (identity_of r) (identity_of first.report) ≡ true = tied_is index_cmp index_total (indexed r) index first e in
-      answer_one (filter (λ x. eq_by_cmp identity_cmp (identity_of r) (identity_of x)) rs) first.report (ltb-false 1 (count_at rs (identity_of r)) (sym (is_doubled rs index doubled r log new few (identity_of r)) ∙ single))
-      (has-filter report_cmp report_exact (λ x. eq_by_cmp identity_cmp (identity_of r) (identity_of x)) rs first.report ∙ (λ i. ties i && there i))
+      let ties : has_identity (identity_of r) first.report ≡ true = has_identity_is (identity_of r) first.report ∙ tied_is index_cmp index_total (indexed r) index first e in
+      answer_one (filter (has_identity (identity_of r)) rs) first.report (ltb-false 1 (count_at rs (identity_of r)) (sym (is_doubled rs index doubled r log new few (identity_of r)) ∙ single))
+      (has-filter report_cmp report_exact (has_identity (identity_of r)) rs first.report ∙ (λ i. ties i && there i))
 
   pub next_answer : answered (tied index_cmp (indexed r) index) (has identity_cmp doubled (identity_of r)) ≡ added rs r
   next_answer =
-      elim (tied index_cmp (indexed r) index) as (λ t. tied index_cmp (indexed r) index ≡ t → has index_cmp index (indexed r) ≡ is_some t → answered t (has identity_cmp doubled (identity_of r)) ≡ among_rivals (contents rs (identity_of r))) [
+      elim (tied index_cmp (indexed r) index) as (λ t. tied index_cmp (indexed r) index ≡ t → has index_cmp index (indexed r) ≡ is_some t → answered t (has identity_cmp doubled (identity_of r)) ≡ added_to (contents rs (identity_of r))) [
         | None ↦ λ e h. first_answer h
-        | Some first ↦ λ e h. elim (has identity_cmp doubled (identity_of r)) as (λ b. has identity_cmp doubled (identity_of r) ≡ b → answered (Some first) b ≡ among_rivals (contents rs (identity_of r))) [ true ↦ λ d. further_answer d | false ↦ λ d. second_answer first e d ] refl
+        | Some first ↦ λ e h. elim (has identity_cmp doubled (identity_of r)) as (λ b. has identity_cmp doubled (identity_of r) ≡ b → answered (Some first) b ≡ added_to (contents rs (identity_of r))) [ true ↦ λ d. further_answer d | false ↦ λ d. second_answer first e d ] refl
       ] refl (has_tied index_cmp index_total (indexed r) index)
       ∙ opened

@@ -18,15 +18,13 @@ use Rattle.tca_report.proofs.Order.{report_total}
 use Rattle.tca_report.proofs.Identities.{identity_total, identity_exact}
 use Rattle.tca_report.specs.declared.report.Identity.{Identity}
 use Rattle.tca_log.specs.declared.by_identity.ByIdentity.{ByIdentity}
-use Rattle.tca_log.specs.Chunks.{put_each}
-use Rattle.tca_log.specs.Disputes.{contents}
-use Rattle.tca_log.specs.Logs.{index_cmp, indexed, count_at, IsLog, AreNotes, Noted, noted, noted_all, reports_of}
-use Rattle.tca_log.proofs.Contents.{has-disputed}
+use Rattle.tca_log.specs.Ordered.{put_each}
+use Rattle.tca_log.specs.Disputes.{has_identity, contents}
+use Rattle.tca_log.specs.Logs.{index_cmp, indexed, count_at, IsLog}
+use Rattle.tca_log.specs.Noting.{AreNotes, Noted, noted, noted_all, reports_in}
+use Rattle.tca_log.proofs.Contents.{has-disputed, has_identity_is}
+use Rattle.tca_log.proofs.Parts.{or_parts}
 use Rattle.tca_log.proofs.Logs.{index_total, one_more, one_more_there, first_one, second_one, further_one}
-
-or_false : (a b : Bool) → (a || b) ≡ false → (a ≡ false) × (b ≡ false)
-or_false true b h = absurd cc
-or_false false b h = (refl, h)
 
 pub or_comm : (a b : Bool) → (a || b) ≡ (b || a)
 or_comm true true = refl
@@ -81,9 +79,9 @@ noted_end index disputes (k ∷ keys) (suc i) n h = noted_end index disputes key
 pub count_snoc : (rs : List PacketReport) (r : PacketReport) (i : Identity) → count_at (rs ++ r ∷ []) i ≡ count_at rs i + cond (eq_by_cmp identity_cmp i (identity_of r)) 1 0
 unfolding contents
 count_snoc rs r i =
-    ap length (filter-append (λ x. eq_by_cmp identity_cmp i (identity_of x)) rs (r ∷ []))
-    ∙ length-append (filter (λ x. eq_by_cmp identity_cmp i (identity_of x)) rs) (filter (λ x. eq_by_cmp identity_cmp i (identity_of x)) (r ∷ []))
-    ∙ ap (λ n. length (filter (λ x. eq_by_cmp identity_cmp i (identity_of x)) rs) + n) (one (eq_by_cmp identity_cmp i (identity_of r)))
+    ap length (filter-append (has_identity i) rs (r ∷ []))
+    ∙ length-append (filter (has_identity i) rs) (filter (has_identity i) (r ∷ []))
+    ∙ ap (λ n. length (filter (has_identity i) rs) + n) (one (has_identity i r) ∙ ap (λ b. cond b 1 0) (has_identity_is i r))
   where
     one : (b : Bool) → length (cond b (r ∷ []) []) ≡ cond b 1 0
     one true = refl
@@ -143,7 +141,7 @@ module _ (rs : List PacketReport) (index : List ByIdentity) (doubled : List Iden
           ∙ ap (nat_lt 0) (sym (sum_at (identity_of q)));
       doubled = λ i. notes.doubled i ∙ first_one (eq_by_cmp identity_cmp i (identity_of r)) (count_at rs i + count_at seen i) (λ e. alike_at i e ∙ none) ∙ ap (nat_lt 1) (sym (sum_at i));
       among = all_put index_cmp index_total (λ b. has report_cmp (seen ++ r ∷ []) b.report ≡ true) (indexed r) fresh last_among old_among;
-      apart = all_put index_cmp index_total (λ b. has index_cmp index b ≡ false) (indexed r) fresh (or_false (has index_cmp index (indexed r)) (has index_cmp fresh (indexed r)) absent).0 notes.apart;
+      apart = all_put index_cmp index_total (λ b. has index_cmp index b ≡ false) (indexed r) fresh (or_parts (has index_cmp index (indexed r)) (has index_cmp fresh (indexed r)) absent).0 notes.apart;
       apart_disputes = notes.apart_disputes;
       fewer = omega (arith, put_longest index_cmp (indexed r) fresh, notes.fewer, one_longer);
       fewer_disputes = omega (arith, notes.fewer_disputes, one_longer);
@@ -171,7 +169,7 @@ module _ (rs : List PacketReport) (index : List ByIdentity) (doubled : List Iden
           ∙ ap (nat_lt 1) (sym (sum_at i));
       among = old_among;
       apart = notes.apart;
-      apart_disputes = all_put identity_cmp identity_total (λ i. has identity_cmp doubled i ≡ false) (identity_of r) twice (or_false (has identity_cmp doubled (identity_of r)) (has identity_cmp twice (identity_of r)) single).0 notes.apart_disputes;
+      apart_disputes = all_put identity_cmp identity_total (λ i. has identity_cmp doubled i ≡ false) (identity_of r) twice (or_parts (has identity_cmp doubled (identity_of r)) (has identity_cmp twice (identity_of r)) single).0 notes.apart_disputes;
       fewer = omega (arith, notes.fewer, one_longer);
       fewer_disputes = omega (arith, put_longest identity_cmp (identity_of r) twice, notes.fewer_disputes, one_longer);
     }
@@ -202,14 +200,14 @@ notes_next rs index doubled seen n key notes =
     ] refl
 
 notes_each : (rs : List PacketReport) (index : List ByIdentity) (doubled : List Identity) (seen : List PacketReport) (n : Noted) (keys : List ByIdentity) → AreNotes rs index doubled seen n.fresh n.twice
-    → AreNotes rs index doubled (seen ++ reports_of keys) (noted_all index doubled keys n).fresh (noted_all index doubled keys n).twice
+    → AreNotes rs index doubled (seen ++ reports_in keys) (noted_all index doubled keys n).fresh (noted_all index doubled keys n).twice
 unfolding noted_all
 notes_each rs index doubled seen n [] notes = subst (λ (l : List PacketReport). AreNotes rs index doubled l n.fresh n.twice) (sym (append-nil seen)) notes
 notes_each rs index doubled seen n (key ∷ keys) notes =
-    subst (λ (l : List PacketReport). AreNotes rs index doubled l (noted_all index doubled keys (noted index doubled key n)).fresh (noted_all index doubled keys (noted index doubled key n)).twice) (append_assoc seen (key.report ∷ []) (reports_of keys))
+    subst (λ (l : List PacketReport). AreNotes rs index doubled l (noted_all index doubled keys (noted index doubled key n)).fresh (noted_all index doubled keys (noted index doubled key n)).twice) (append_assoc seen (key.report ∷ []) (reports_in keys))
     (notes_each rs index doubled (seen ++ key.report ∷ []) (noted index doubled key n) keys (notes_next rs index doubled seen n key notes))
 
 -- what all reports add
-pub notes_all : (rs : List PacketReport) (index : List ByIdentity) (doubled : List Identity) (keys : List ByIdentity) (n : Noted) → IsLog rs index doubled → n ≡ noted_all index doubled keys (record { fresh = []; twice = [] }) → AreNotes rs index doubled (reports_of keys) n.fresh n.twice
+pub notes_all : (rs : List PacketReport) (index : List ByIdentity) (doubled : List Identity) (keys : List ByIdentity) (n : Noted) → IsLog rs index doubled → n ≡ noted_all index doubled keys (record { fresh = []; twice = [] }) → AreNotes rs index doubled (reports_in keys) n.fresh n.twice
 notes_all rs index doubled keys n log is =
-    subst (λ (m : Noted). AreNotes rs index doubled (reports_of keys) m.fresh m.twice) (sym is) (notes_each rs index doubled [] (record { fresh = []; twice = [] }) keys (notes_none rs index doubled log))
+    subst (λ (m : Noted). AreNotes rs index doubled (reports_in keys) m.fresh m.twice) (sym is) (notes_each rs index doubled [] (record { fresh = []; twice = [] }) keys (notes_none rs index doubled log))

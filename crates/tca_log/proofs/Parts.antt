@@ -8,12 +8,17 @@ use Rattle.std.specs.declared.cmp.Ordering.{Ordering}
 use Rattle.std.specs.declared.cmp.Ordering.TheVariants.{Less, Equal, Greater}
 use Rattle.std.proofs.lemmas.List.Elements.{filter-append}
 use Rattle.tca_join.specs.Sets.{by_order, has, put}
-use Rattle.tca_join.proofs.Sets.{has-append}
-use Rattle.tca_log.specs.Chunks.{starts_after, without}
+use Rattle.tca_log.specs.Chunks.{starts_after}
+use Rattle.tca_log.specs.Ordered.{without}
 
-or_parts : (a b : Bool) → (a || b) ≡ false → (a ≡ false) × (b ≡ false)
+pub or_parts : (a b : Bool) → (a || b) ≡ false → (a ≡ false) × (b ≡ false)
 or_parts true b h = absurd cc
 or_parts false b h = (refl, h)
+
+pub lt_less : (r : Ordering) → is_lt r ≡ true → r ≡ Less
+lt_less Less e = refl
+lt_less Equal e = absurd cc
+lt_less Greater e = absurd cc
 
 -- a fact about each, of the parts
 pub all_front : {K : Type 0} (P : K → Type 0) (xs ys : List K) → AllByRecursion P (xs ++ ys) → AllByRecursion P xs
@@ -25,7 +30,7 @@ all_back P [] ys h = h
 all_back P (x ∷ xs) ys h = all_back P xs ys h.1
 
 module _ {K : Type 0} (R : K → K → Ordering) (o : IsTotalOrder R) where
-  turned : (x y : K) (r : Ordering) → R x y ≡ r → R y x ≡ ordering_reverse r
+  pub turned : (x y : K) (r : Ordering) → R x y ≡ r → R y x ≡ ordering_reverse r
   turned x y r e = o.antisymm y x ∙ ap ordering_reverse e
 
   pub rises_front : (xs ys : List K) → IsStrictlySortedBy R (xs ++ ys) → IsStrictlySortedBy R xs
@@ -79,14 +84,6 @@ module _ {K : Type 0} (R : K → K → Ordering) (o : IsTotalOrder R) where
   pub put_middle : (k : K) (xs ys zs : List K) → AllByRecursion (λ x. R x k ≡ Less) xs → AllByRecursion (λ x. R k x ≡ Less) zs → put R k (xs ++ (ys ++ zs)) ≡ xs ++ (put R k ys ++ zs)
   put_middle k xs ys zs low high = put_past k xs (ys ++ zs) low ∙ ap (λ (l : List K). xs ++ l) (put_before k ys zs high)
 
-  pub has_middle : (k : K) (xs ys zs : List K) → AllByRecursion (λ x. R x k ≡ Less) xs → AllByRecursion (λ x. R k x ≡ Less) zs → has R (xs ++ (ys ++ zs)) k ≡ has R ys k
-  has_middle k xs ys zs low high =
-      has-append R o xs (ys ++ zs) k ∙ ap (λ b. b || has R (ys ++ zs) k) (has_below k xs low) ∙ has-append R o ys zs k ∙ ap (λ b. has R ys k || b) (has_above k zs high) ∙ or_none (has R ys k)
-    where
-      or_none : (b : Bool) → (b || false) ≡ b
-      or_none true = refl
-      or_none false = refl
-
   pub without_middle : (k : K) (xs ys zs : List K) → AllByRecursion (λ x. R x k ≡ Less) xs → AllByRecursion (λ x. R k x ≡ Less) zs → without R k (xs ++ (ys ++ zs)) ≡ xs ++ (without R k ys ++ zs)
   without_middle k xs ys zs low high =
       without_append k xs (ys ++ zs) ∙ ap (λ (l : List K). l ++ without R k (ys ++ zs)) (without_absent k xs (has_below k xs low))
@@ -109,22 +106,28 @@ module _ {K : Type 0} (R : K → K → Ordering) (o : IsTotalOrder R) where
       alike : (x : K) → R k y ≡ Equal → R x k ≡ R x y
       alike x s = alike_right o k y x s
 
+  pub above_less : (k x : K) (zs : List K) → R k x ≡ Less → AllByRecursion (λ y. R x y ≡ Less) zs → AllByRecursion (λ y. R k y ≡ Less) zs
+  above_less k x [] f g = tt
+  above_less k x (z ∷ zs) f g = (o.trans k x z f g.0, above_less k x zs f g.1)
+
   -- a rising list is above what its first member is above
   pub above_since : (k : K) (ys : List K) → IsStrictlySortedBy R ys → starts_after R k ys ≡ true → AllByRecursion (λ x. R k x ≡ Less) ys
   unfolding IsStrictlySortedBy
   above_since k [] h e = tt
   above_since k (y ∷ ys) h e =
       let first : R k y ≡ Less = lt_less (R k y) e in
-      (first, beyond ys first h.0)
-    where
-      lt_less : (r : Ordering) → is_lt r ≡ true → r ≡ Less
-      lt_less Less e = refl
-      lt_less Equal e = absurd cc
-      lt_less Greater e = absurd cc
+      (first, above_less k y ys first h.0)
 
-      beyond : (zs : List K) → R k y ≡ Less → AllByRecursion (λ x. R y x ≡ Less) zs → AllByRecursion (λ x. R k x ≡ Less) zs
-      beyond [] f g = tt
-      beyond (z ∷ zs) f g = (o.trans k y z f g.0, beyond zs f g.1)
+  -- where a member of a rising list ties with k, those past it come after k
+  pub above_tied : (k x : K) (zs : List K) → R x k ≡ Equal → AllByRecursion (λ y. R x y ≡ Less) zs → AllByRecursion (λ y. R k y ≡ Less) zs
+  above_tied k x [] t g = tt
+  above_tied k x (z ∷ zs) t g = (sym (o.congr x k z t) ∙ g.0, above_tied k x zs t g.1)
+
+  -- and each before it comes before k
+  pub below_tied : (k x : K) (zs : List K) (j : ℕ) → AllByRecursion (λ y. R x y ≡ Less) zs → j < length zs → HoldsAt (λ y. R y k ≡ Equal) zs j → R x k ≡ Less
+  below_tied k x [] j g l t = absurd (omega arith)
+  below_tied k x (z ∷ zs) zero g l t = sym (alike_right o z k x (t z)) ∙ g.0
+  below_tied k x (z ∷ zs) (suc j) g l t = below_tied k x zs j g.1 (omega arith) t
 
   -- what is found at a place, taken out
   pub without_at : (k : K) (xs : List K) (i : ℕ) → IsStrictlySortedBy R xs → i < length xs → HoldsAt (λ y. R y k ≡ Equal) xs i → without R k xs ≡ remove xs i
@@ -132,17 +135,8 @@ module _ {K : Type 0} (R : K → K → Ordering) (o : IsTotalOrder R) where
   without_at k [] i s h at = absurd (omega arith)
   without_at k (x ∷ xs) zero s h at =
       let tied : R x k ≡ Equal = at x in
-      let rest : without R k xs ≡ xs = without_absent k xs (has_above k xs (beyond xs tied s.0)) in
+      let rest : without R k xs ≡ xs = without_absent k xs (has_above k xs (above_tied k x xs tied s.0)) in
       ap (λ r. cond (not (is_eq r)) (x ∷ filter (λ y. not (eq_by_cmp R k y)) xs) (filter (λ y. not (eq_by_cmp R k y)) xs)) (turned x k Equal tied) ∙ rest
-    where
-      beyond : (zs : List K) → R x k ≡ Equal → AllByRecursion (λ y. R x y ≡ Less) zs → AllByRecursion (λ y. R k y ≡ Less) zs
-      beyond [] t g = tt
-      beyond (z ∷ zs) t g = (sym (o.congr x k z t) ∙ g.0, beyond zs t g.1)
   without_at k (x ∷ xs) (suc i) s h at =
-      let lower : R x k ≡ Less = reach xs i s.0 (omega arith) at in
+      let lower : R x k ≡ Less = below_tied k x xs i s.0 (omega arith) at in
       ap (λ r. cond (not (is_eq r)) (x ∷ filter (λ y. not (eq_by_cmp R k y)) xs) (filter (λ y. not (eq_by_cmp R k y)) xs)) (turned x k Less lower) ∙ ap (λ (l : List K). x ∷ l) (without_at k xs i s.1 (omega arith) at)
-    where
-      reach : (zs : List K) (j : ℕ) → AllByRecursion (λ y. R x y ≡ Less) zs → j < length zs → HoldsAt (λ y. R y k ≡ Equal) zs j → R x k ≡ Less
-      reach [] j g l t = absurd (omega arith)
-      reach (z ∷ zs) zero g l t = sym (alike_right o z k x (t z)) ∙ g.0
-      reach (z ∷ zs) (suc j) g l t = reach zs j g.1 (omega arith) t

@@ -10,8 +10,9 @@ use Rattle.std.specs.declared.cmp.Ordering.{Ordering}
 use Rattle.std.specs.declared.cmp.Ordering.TheVariants.{Less, Equal, Greater}
 use Rattle.tca_join.specs.Sets.{by_order, has, put}
 use Rattle.tca_join.proofs.Sets.{rises_put}
-use Rattle.tca_log.specs.Chunks.{starts_after, without, joined, AreChunks, IsPlace}
-use Rattle.tca_log.proofs.Parts.{rises_front, rises_back, put_middle, has_middle, without_middle, below_since, above_since, without_absent, has_above}
+use Rattle.tca_log.specs.Chunks.{starts_after, joined, AreChunks, IsPlace}
+use Rattle.tca_log.specs.Ordered.{without}
+use Rattle.tca_log.proofs.Parts.{rises_front, rises_back, put_middle, without_middle, below_since, above_since, without_absent, has_above}
 
 module _ {K : Type 0} where
   -- the chunks as three parts
@@ -70,9 +71,6 @@ module _ {K : Type 0} (R : K → K → Ordering) (o : IsTotalOrder R) where
 
   pub put_place : (k : K) (cs : List (List K)) (i : ℕ) → AreChunks R cs → IsPlace R cs k i → put R k (joined cs) ≡ joined (take i cs) ++ (put R k (get_or cs i []) ++ joined (drop (suc i) cs))
   put_place k cs i a p = ap (put R k) (joined_at cs i p.inside) ∙ put_middle R o k (joined (take i cs)) (get_or cs i []) (joined (drop (suc i) cs)) (below_first k cs i a p) (above_place k cs i a p)
-
-  pub has_place : (k : K) (cs : List (List K)) (i : ℕ) → AreChunks R cs → IsPlace R cs k i → has R (joined cs) k ≡ has R (get_or cs i []) k
-  has_place k cs i a p = ap (λ l. has R l k) (joined_at cs i p.inside) ∙ has_middle R o k (joined (take i cs)) (get_or cs i []) (joined (drop (suc i) cs)) (below_first k cs i a p) (above_place k cs i a p)
 
   pub without_place : (k : K) (cs : List (List K)) (i : ℕ) → AreChunks R cs → IsPlace R cs k i → without R k (joined cs) ≡ joined (take i cs) ++ (without R k (get_or cs i []) ++ joined (drop (suc i) cs))
   without_place k cs i a p = ap (without R k) (joined_at cs i p.inside) ∙ without_middle R o k (joined (take i cs)) (get_or cs i []) (joined (drop (suc i) cs)) (below_first k cs i a p) (above_place k cs i a p)

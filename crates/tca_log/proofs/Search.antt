@@ -3,38 +3,26 @@ use Rattle.std.proofs.Common.{Bor, ◌≡◌, ℕ, zero, suc, ◌<◌, ◌-◌, 
 use Rattle.std.specs.Prelude.{slice_get, option_copied, Option, Some, None, is_some, Result, MatchResult, Ok, Err, OnOk, OnErr, IfOk, IfErr}
 use Rattle.std.specs.List.{insert, remove, list_any, AllByRecursion, HoldsAt}
 use Rattle.std.specs.List.Sorted.{IsStrictlySortedBy, IsSearchInRange, IsBinarySearchResult}
-use Rattle.std.specs.Ordering.{eq_by_cmp, is_eq, is_lt, ordering_reverse}
-use Rattle.std.specs.Cmp.{IsTotalOrder, alike_right}
+use Rattle.std.specs.Ordering.{eq_by_cmp, is_eq, is_lt}
+use Rattle.std.specs.Cmp.{IsTotalOrder}
 use Rattle.std.specs.declared.cmp.Ordering.{Ordering}
 use Rattle.std.specs.declared.cmp.Ordering.TheVariants.{Less, Equal, Greater}
 use Rattle.std.proofs.lemmas.Bool.{or_right}
 use Rattle.std.proofs.lemmas.List.{append-nil}
 use Rattle.tca_join.specs.Sets.{by_order, has, put}
 use Rattle.tca_join.proofs.Search.{gap_at, searchable}
-use Rattle.tca_log.specs.Chunks.{without, rank, tied}
-use Rattle.tca_log.proofs.Parts.{without_at, without_absent, has_above, has_below, put_past}
+use Rattle.tca_log.specs.Ordered.{without, rank, tied}
+use Rattle.tca_log.proofs.Parts.{turned, lt_less, above_less, below_tied, without_at, without_absent, has_above, has_below, put_past}
 use Rattle.tca_log.proofs.Ranks.{rank_at, rank_gap}
 
 module _ {K : Type 0} (R : K → K → Ordering) (o : IsTotalOrder R) where
-  turned : (x y : K) (r : Ordering) → R x y ≡ r → R y x ≡ ordering_reverse r
-  turned x y r e = o.antisymm y x ∙ ap ordering_reverse e
-
-  -- what ties with one is below what that one is below
-  beyond : (k x : K) (zs : List K) → R k x ≡ Equal → AllByRecursion (λ y. R x y ≡ Less) zs → AllByRecursion (λ y. R k y ≡ Less) zs
-  beyond k x [] t g = tt
-  beyond k x (z ∷ zs) t g = (o.congr k x z t ∙ g.0, beyond k x zs t g.1)
-
-  lower : (k x : K) (zs : List K) → R k x ≡ Less → AllByRecursion (λ y. R x y ≡ Less) zs → AllByRecursion (λ y. R k y ≡ Less) zs
-  lower k x [] t g = tt
-  lower k x (z ∷ zs) t g = (o.trans k x z t g.0, lower k x zs t g.1)
-
   -- where one that ties is there, nothing changes
   pub put_there : (k : K) (xs : List K) → IsStrictlySortedBy R xs → has R xs k ≡ true → put R k xs ≡ xs
   unfolding has put IsStrictlySortedBy
   put_there k [] s h = absurd cc
   put_there k (x ∷ xs) s h =
       elim (R k x) as (λ r. R k x ≡ r → (is_eq r || list_any (eq_by_cmp R k) xs) ≡ true → by_order r (k ∷ x ∷ xs) (x ∷ xs) (x ∷ put R k xs) ≡ x ∷ xs) [
-        | Less ↦ λ e t. let none = has_above R o k xs (lower k x xs e s.0) in absurd cc
+        | Less ↦ λ e t. let none = has_above R o k xs (above_less R o k x xs e s.0) in absurd cc
         | Equal ↦ λ e t. refl
         | Greater ↦ λ e t. ap (λ (l : List K). x ∷ l) (put_there k xs s.1 t)
       ] refl h
@@ -42,20 +30,15 @@ module _ {K : Type 0} (R : K → K → Ordering) (o : IsTotalOrder R) where
   pub has_at : (xs : List K) (i : ℕ) (k : K) → i < length xs → HoldsAt (λ y. R y k ≡ Equal) xs i → has R xs k ≡ true
   unfolding has
   has_at [] i k h at = absurd (omega arith)
-  has_at (x ∷ xs) zero k h at = rw (turned x k Equal (at x)) refl
+  has_at (x ∷ xs) zero k h at = rw (turned R o x k Equal (at x)) refl
   has_at (x ∷ xs) (suc i) k h at = or_right _ _ (has_at xs i k (omega arith) at)
 
   -- the one that ties, by its place
   pub tied_at : (k : K) (xs : List K) (i : ℕ) (d : K) → IsStrictlySortedBy R xs → i < length xs → HoldsAt (λ y. R y k ≡ Equal) xs i → tied R k xs ≡ Some (get_or xs i d)
   unfolding tied IsStrictlySortedBy
   tied_at k [] i d s h at = absurd (omega arith)
-  tied_at k (x ∷ xs) zero d s h at = rw (turned x k Equal (at x)) refl
-  tied_at k (x ∷ xs) (suc i) d s h at = rw (turned x k Less (reach xs i s.0 (omega arith) at)) (tied_at k xs i d s.1 (omega arith) at)
-    where
-      reach : (zs : List K) (j : ℕ) → AllByRecursion (λ y. R x y ≡ Less) zs → j < length zs → HoldsAt (λ y. R y k ≡ Equal) zs j → R x k ≡ Less
-      reach [] j g l t = absurd (omega arith)
-      reach (z ∷ zs) zero g l t = sym (alike_right o z k x (t z)) ∙ g.0
-      reach (z ∷ zs) (suc j) g l t = reach zs j g.1 (omega arith) t
+  tied_at k (x ∷ xs) zero d s h at = rw (turned R o x k Equal (at x)) refl
+  tied_at k (x ∷ xs) (suc i) d s h at = rw (turned R o x k Less (below_tied R o k x xs i s.0 (omega arith) at)) (tied_at k xs i d s.1 (omega arith) at)
 
   pub has_tied : (k : K) (xs : List K) → has R xs k ≡ is_some (tied R k xs)
   unfolding has tied
@@ -111,11 +94,6 @@ module _ {K : Type 0} (R : K → K → Ordering) (o : IsTotalOrder R) where
   pub tied_none : (k : K) → tied R k [] ≡ None
   unfolding tied
   tied_none k = refl
-
-  lt_less : (r : Ordering) → is_lt r ≡ true → r ≡ Less
-  lt_less Less e = refl
-  lt_less Equal e = absurd cc
-  lt_less Greater e = absurd cc
 
   -- a list whose last member comes before one
   below_last : (k x : K) (xs : List K) → IsStrictlySortedBy R xs → Some x ≡ slice_get xs (length xs - 1) → R x k ≡ Less → AllByRecursion (λ y. R y k ≡ Less) xs

@@ -6,7 +6,8 @@ use Rattle.std.specs.Ordering.{eq_by_cmp}
 use Rattle.std.specs.Cmp.{IsTotalOrder}
 use Rattle.std.specs.declared.cmp.Ordering.{Ordering}
 use Rattle.tca_join.specs.Sets.{has}
-use Rattle.tca_log.specs.Chunks.{tied, joined, AreChunks, IsPlace}
+use Rattle.tca_log.specs.Chunks.{joined, AreChunks, IsPlace}
+use Rattle.tca_log.specs.Ordered.{tied}
 use Rattle.tca_log.proofs.Parts.{has_below, has_above}
 use Rattle.tca_log.proofs.Places.{joined_at, below_first, above_place}
 use Rattle.tca_log.proofs.Search.{tied_absent}

@@ -3,7 +3,7 @@ use Rattle.std.proofs.Common.{◌≡◌, ℕ, ◌<◌, ◌≤◌, Bool, true, fa
 use Rattle.std.specs.Prelude.{nat_lt, ◌==◌}
 use Rattle.std.specs.List.{AllByRecursion}
 use Rattle.std.specs.List.Sorted.{IsStrictlySortedBy}
-use Rattle.std.specs.Ordering.{eq_by_cmp, is_eq}
+use Rattle.std.specs.Ordering.{is_eq}
 use Rattle.std.specs.Cmp.{tied_itself}
 use borrow.Author.Tests.{ltb-true, ltb-false, eqb-true, eq-eqb}
 use Rattle.std.proofs.lemmas.List.Kept.{IsStrictlySortedBy-filter}
@@ -13,10 +13,10 @@ use Rattle.tca_report.specs.Identities.{identity_of, identity_cmp}
 use Rattle.tca_report.proofs.Order.{report_total, report_exact}
 use Rattle.tca_report.proofs.Identities.{identity_total}
 use Rattle.tca_report.specs.declared.report.Identity.{Identity}
-use Rattle.tca_log.specs.Disputes.{contents, rivals, disputed, undisputed, settled_of}
+use Rattle.tca_log.specs.Disputes.{has_identity, contents, disputed, undisputed, settled_of}
 use Rattle.tca_log.specs.Logs.{count_at}
 use Rattle.tca_log.proofs.Each.{members}
-use Rattle.tca_log.proofs.Contents.{has-disputed, rivals_are, has-filter}
+use Rattle.tca_log.proofs.Contents.{has-disputed, has_identity_is, has-filter}
 
 pub settled_keep : (disputes : List Identity) (r : PacketReport) (rs : List PacketReport) → has identity_cmp disputes (identity_of r) ≡ false → settled_of disputes (r ∷ rs) ≡ r ∷ settled_of disputes rs
 unfolding settled_of
@@ -43,7 +43,8 @@ none_in (x ∷ xs) r h = omega arith
 pub member_counts : (rs : List PacketReport) (r : PacketReport) → has report_cmp rs r ≡ true → 0 < count_at rs (identity_of r)
 unfolding contents
 member_counts rs r h =
-    none_in (filter (λ x. eq_by_cmp identity_cmp (identity_of r) (identity_of x)) rs) r (has-filter report_cmp report_exact (λ x. eq_by_cmp identity_cmp (identity_of r) (identity_of x)) rs r ∙ (λ i. is_eq (tied_itself identity_total (identity_of r) i) && h i))
+    let own : has_identity (identity_of r) r ≡ true = has_identity_is (identity_of r) r ∙ ap is_eq (tied_itself identity_total (identity_of r)) in
+    none_in (filter (has_identity (identity_of r)) rs) r (has-filter report_cmp report_exact (has_identity (identity_of r)) rs r ∙ (λ i. own i && h i))
 
 one_alone : (n : ℕ) → 0 < n → not (nat_lt 1 n) ≡ (n == 1)
 one_alone n some = by (nat_lt 1 n) refl
@@ -52,11 +53,11 @@ one_alone n some = by (nat_lt 1 n) refl
     by true e = let many : 1 < n = ltb-true 1 n e in elim (n == 1) as (λ b. (n == 1) ≡ b → false ≡ b) [ true ↦ λ f. let one : n ≡ 1 = eqb-true n 1 f in absurd (omega arith) | false ↦ λ f. refl ] refl
     by false e = let few : n ≤ 1 = ltb-false 1 n e in let one : n ≡ 1 = omega arith in sym (eq-eqb n 1 one)
 
-alone : (rs : List PacketReport) (r : PacketReport) → has report_cmp rs r ≡ true → not (has identity_cmp (disputed rs) (identity_of r)) ≡ (length (rivals rs r) == 1)
+alone : (rs : List PacketReport) (r : PacketReport) → has report_cmp rs r ≡ true → not (has identity_cmp (disputed rs) (identity_of r)) ≡ (count_at rs (identity_of r) == 1)
 alone rs r h =
-    ap not (has-disputed rs (identity_of r)) ∙ one_alone (count_at rs (identity_of r)) (member_counts rs r h) ∙ ap (λ (l : List PacketReport). length l == 1) (sym (rivals_are rs r))
+    ap not (has-disputed rs (identity_of r)) ∙ one_alone (count_at rs (identity_of r)) (member_counts rs r h)
 
-all_alone : (rs xs : List PacketReport) → AllByRecursion (λ x. has report_cmp rs x ≡ true) xs → AllByRecursion (λ x. not (has identity_cmp (disputed rs) (identity_of x)) ≡ (length (rivals rs x) == 1)) xs
+all_alone : (rs xs : List PacketReport) → AllByRecursion (λ x. has report_cmp rs x ≡ true) xs → AllByRecursion (λ x. not (has identity_cmp (disputed rs) (identity_of x)) ≡ (count_at rs (identity_of x) == 1)) xs
 all_alone rs [] h = tt
 all_alone rs (x ∷ xs) h = (alone rs x h.0, all_alone rs xs h.1)
 
@@ -65,11 +66,11 @@ pub settled_are : (rs : List PacketReport) (disputes : List Identity) → disput
 unfolding settled_of undisputed
 settled_are rs disputes e =
     ap (λ is. settled_of is rs) e
-    ∙ filter_among (λ x. not (has identity_cmp (disputed rs) (identity_of x))) (λ x. length (rivals rs x) == 1) rs (all_alone rs rs (members report_cmp report_total rs))
+    ∙ filter_among (λ x. not (has identity_cmp (disputed rs) (identity_of x))) (λ x. count_at rs (identity_of x) == 1) rs (all_alone rs rs (members report_cmp report_total rs))
 
 pub undisputed_rises : (rs : List PacketReport) → IsStrictlySortedBy report_cmp rs → IsStrictlySortedBy report_cmp (undisputed rs)
 unfolding undisputed
-undisputed_rises rs s = IsStrictlySortedBy-filter report_cmp (λ x. length (rivals rs x) == 1) rs s
+undisputed_rises rs s = IsStrictlySortedBy-filter report_cmp (λ x. count_at rs (identity_of x) == 1) rs s
 
 filter_few : (p : PacketReport → Bool) (xs : List PacketReport) → length (filter p xs) ≤ length xs
 filter_few p [] = omega arith
@@ -82,4 +83,4 @@ filter_few p (x ∷ xs) =
 -- no more are undisputed than there are
 pub undisputed_few : (rs : List PacketReport) → length (undisputed rs) ≤ length rs
 unfolding undisputed
-undisputed_few rs = filter_few (λ r. length (rivals rs r) == 1) rs
+undisputed_few rs = filter_few (λ r. count_at rs (identity_of r) == 1) rs

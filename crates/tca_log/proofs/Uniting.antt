@@ -16,40 +16,41 @@ use Rattle.tca_report.proofs.Order.{report_total}
 use Rattle.tca_report.proofs.Identities.{identity_total}
 use Rattle.tca_report.specs.declared.report.Identity.{Identity}
 use Rattle.tca_log.specs.declared.by_identity.ByIdentity.{ByIdentity}
-use Rattle.tca_log.specs.Chunks.{put_each, without_each, AreApart}
-use Rattle.tca_log.specs.Disputes.{contents, disputed}
-use Rattle.tca_log.specs.Logs.{index_cmp, indexed, count_at, IsLog, AreNotes, Noted, noted_all, reports_of}
+use Rattle.tca_log.specs.Ordered.{put_each, without_each, AreApart}
+use Rattle.tca_log.specs.Disputes.{has_identity, contents, disputed}
+use Rattle.tca_log.specs.Logs.{index_cmp, indexed, count_at, IsLog}
+use Rattle.tca_log.specs.Noting.{AreNotes, Noted, noted_all, reports_in}
 use Rattle.tca_log.proofs.Each.{has-put_each, rises_put_each, all_put_each, length-put_each, still_apart, beyond_rises, beyond_apart, apart_none, put_each_none}
 use Rattle.tca_log.proofs.Contents.{length-filter_put, disputed_rises, disputed_is, has-filter}
 use Rattle.tca_log.proofs.Logs.{index_total, nothing}
 use Rattle.tca_log.proofs.Noting.{notes_all, or_comm, or_true, put_each_longest}
 
-reports_back : (rs : List PacketReport) → reports_of (map indexed rs) ≡ rs
+reports_back : (rs : List PacketReport) → reports_in (map indexed rs) ≡ rs
 reports_back [] = refl
 reports_back (r ∷ rs) = ap (λ (l : List PacketReport). r ∷ l) (reports_back rs)
 
 module _ (news : List PacketReport) (keys : List ByIdentity) (same : IsPermutation (map indexed news) keys) where
-  moved : IsPermutation news (reports_of keys)
-  moved = subst (λ (l : List PacketReport). IsPermutation l (reports_of keys)) (reports_back news) (IsPermutation-map (λ b. b.report) (map indexed news) keys same)
+  moved : IsPermutation news (reports_in keys)
+  moved = subst (λ (l : List PacketReport). IsPermutation l (reports_in keys)) (reports_back news) (IsPermutation-map (λ b. b.report) (map indexed news) keys same)
 
-  pub count_moved : (i : Identity) → count_at (reports_of keys) i ≡ count_at news i
+  pub count_moved : (i : Identity) → count_at (reports_in keys) i ≡ count_at news i
   unfolding contents
   count_moved i =
-      length-filter (λ r. eq_by_cmp identity_cmp i (identity_of r)) (reports_of keys)
-      ∙ sum_by-IsPermutation (λ r. cond (eq_by_cmp identity_cmp i (identity_of r)) 1 0) news (reports_of keys) moved
-      ∙ sym (length-filter (λ r. eq_by_cmp identity_cmp i (identity_of r)) news)
+      length-filter (has_identity i) (reports_in keys)
+      ∙ sum_by-IsPermutation (λ r. cond (has_identity i r) 1 0) news (reports_in keys) moved
+      ∙ sym (length-filter (has_identity i) news)
 
-  pub has_moved : (r : PacketReport) → has report_cmp (reports_of keys) r ≡ has report_cmp news r
+  pub has_moved : (r : PacketReport) → has report_cmp (reports_in keys) r ≡ has report_cmp news r
   unfolding has
-  has_moved r = sym (list_any-IsPermutation (eq_by_cmp report_cmp r) news (reports_of keys) moved)
+  has_moved r = sym (list_any-IsPermutation (eq_by_cmp report_cmp r) news (reports_in keys) moved)
 
-  pub length_moved : length (reports_of keys) ≡ length news
-  length_moved = length_permutation news (reports_of keys) moved
+  pub length_moved : length (reports_in keys) ≡ length news
+  length_moved = length_permutation news (reports_in keys) moved
 
   pub length_keys : length keys ≡ length news
   length_keys = mapped keys ∙ length_moved
     where
-      mapped : (ks : List ByIdentity) → length ks ≡ length (reports_of ks)
+      mapped : (ks : List ByIdentity) → length ks ≡ length (reports_in ks)
       mapped [] = refl
       mapped (k ∷ ks) = ap suc (mapped ks)
 
@@ -58,13 +59,13 @@ unfolding put_each contents IsStrictlySortedBy
 count_put_each [] rs i s a = omega arith
 count_put_each (r ∷ news) rs i s a =
     count_put_each news (put report_cmp r rs) i s.1 (still_apart report_cmp report_total r news rs s.0 a.1)
-    ∙ ap (λ n. n + length (filter (λ x. eq_by_cmp identity_cmp i (identity_of x)) news)) (length-filter_put report_cmp (λ x. eq_by_cmp identity_cmp i (identity_of x)) r rs a.0)
-    ∙ elim (eq_by_cmp identity_cmp i (identity_of r)) as (λ b. (length (filter (λ x. eq_by_cmp identity_cmp i (identity_of x)) rs) + cond b 1 0) + length (filter (λ x. eq_by_cmp identity_cmp i (identity_of x)) news) ≡ length (filter (λ x. eq_by_cmp identity_cmp i (identity_of x)) rs) + length (cond b (r ∷ filter (λ x. eq_by_cmp identity_cmp i (identity_of x)) news) (filter (λ x. eq_by_cmp identity_cmp i (identity_of x)) news))) [ true ↦ omega arith | false ↦ omega arith ]
+    ∙ ap (λ n. n + length (filter (has_identity i) news)) (length-filter_put report_cmp (has_identity i) r rs a.0)
+    ∙ elim (has_identity i r) as (λ b. (length (filter (has_identity i) rs) + cond b 1 0) + length (filter (has_identity i) news) ≡ length (filter (has_identity i) rs) + length (cond b (r ∷ filter (has_identity i) news) (filter (has_identity i) news))) [ true ↦ omega arith | false ↦ omega arith ]
 
 -- the three parts with all that is new
 module _ (rs : List PacketReport) (index : List ByIdentity) (doubled : List Identity) (news : List PacketReport) (keys : List ByIdentity) (n : Noted) (log : IsLog rs index doubled) (same : IsPermutation (map indexed news) keys)
     (is : n ≡ noted_all index doubled keys (record { fresh = []; twice = [] })) where
-  pub notes : AreNotes rs index doubled (reports_of keys) n.fresh n.twice
+  pub notes : AreNotes rs index doubled (reports_in keys) n.fresh n.twice
   notes = notes_all rs index doubled keys n log is
 
   pub few_fresh : length n.fresh ≤ length news
@@ -79,7 +80,7 @@ module _ (rs : List PacketReport) (index : List ByIdentity) (doubled : List Iden
     limit = omega (arith, longer, few);
     known = λ r. has-put_each index_cmp index_total n.fresh index (indexed r) ∙ or_comm (has index_cmp n.fresh (indexed r)) (has index_cmp index (indexed r)) ∙ notes.known r ∙ ap (nat_lt 0) (counts (identity_of r));
     among = all_put_each index_cmp index_total (λ b. has report_cmp (put_each report_cmp news rs) b.report ≡ true) n.fresh index
-        (all_more (λ b. has report_cmp (reports_of keys) b.report ≡ true) (λ b. has report_cmp (put_each report_cmp news rs) b.report ≡ true) (λ b e. has-put_each report_cmp report_total news rs b.report ∙ ap (λ c. c || has report_cmp rs b.report) (sym (has_moved news keys same b.report) ∙ e)) n.fresh notes.among)
+        (all_more (λ b. has report_cmp (reports_in keys) b.report ≡ true) (λ b. has report_cmp (put_each report_cmp news rs) b.report ≡ true) (λ b e. has-put_each report_cmp report_total news rs b.report ∙ ap (λ c. c || has report_cmp rs b.report) (sym (has_moved news keys same b.report) ∙ e)) n.fresh notes.among)
         (all_more (λ b. has report_cmp rs b.report ≡ true) (λ b. has report_cmp (put_each report_cmp news rs) b.report ≡ true) (λ b e. has-put_each report_cmp report_total news rs b.report ∙ ap (λ c. has report_cmp news b.report || c) e ∙ or_true (has report_cmp news b.report)) index log.among);
     disputes = disputed_is (put_each report_cmp news rs) (put_each identity_cmp n.twice doubled) (rises_put_each identity_cmp identity_total n.twice doubled (subst (IsStrictlySortedBy identity_cmp) (sym log.disputes) (disputed_rises rs)))
         (λ i. has-put_each identity_cmp identity_total n.twice doubled i ∙ or_comm (has identity_cmp n.twice i) (has identity_cmp doubled i) ∙ notes.doubled i ∙ ap (nat_lt 1) (counts i));
@@ -87,7 +88,7 @@ module _ (rs : List PacketReport) (index : List ByIdentity) (doubled : List Iden
     fewer_disputes = omega (arith, put_each_longest identity_cmp n.twice doubled, few_twice, log.fewer_disputes, longer);
   }
     where
-      counts : (i : Identity) → count_at rs i + count_at (reports_of keys) i ≡ count_at (put_each report_cmp news rs) i
+      counts : (i : Identity) → count_at rs i + count_at (reports_in keys) i ≡ count_at (put_each report_cmp news rs) i
       counts i = ap (λ m. count_at rs i + m) (count_moved news keys same i) ∙ sym (count_put_each news rs i s a)
 
       longer : length (put_each report_cmp news rs) ≡ length rs + length news

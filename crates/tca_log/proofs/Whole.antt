@@ -7,9 +7,10 @@ use Rattle.std.specs.declared.cmp.Ordering.{Ordering}
 use Rattle.std.proofs.lemmas.List.{get_or_default, append-nil}
 use Rattle.std.proofs.lemmas.List.Elements.{All-nil, All-cons}
 use Rattle.tca_join.specs.Sets.{has, put}
-use Rattle.tca_log.specs.Chunks.{starts_after, without, tied, joined, AreChunks, IsPlace}
+use Rattle.tca_log.specs.Chunks.{starts_after, joined, AreChunks, IsPlace}
+use Rattle.tca_log.specs.Ordered.{without, tied}
 use Rattle.tca_log.proofs.Parts.{rises_front, rises_back, put_past, put_before, above_since}
-use Rattle.tca_log.proofs.Places.{below_start, chunk_rises, chunks_put, chunks_split, chunks_less, chunks_gone, has_place}
+use Rattle.tca_log.proofs.Places.{below_start, chunk_rises, chunks_put, chunks_split, chunks_less, chunks_gone}
 use Rattle.tca_log.proofs.Ties.{tied_place}
 use Rattle.std.specs.Prelude.{None}
 
@@ -48,9 +49,6 @@ module _ {K : Type 0} (R : K → K → Ordering) (o : IsTotalOrder R) where
   tied_empty [] k h = refl
   tied_empty (c ∷ cs) k h = absurd (omega arith)
 
-  pub has_here : (k : K) (cs : List (List K)) (i : ℕ) (c : List K) → AreChunks R cs → IsPlace R cs k i → c ≡ get_or cs i c → has R (joined cs) k ≡ has R c k
-  has_here k cs i c a p is = has_place R o k cs i a p ∙ ap (λ l. has R l k) (here cs i c p.inside is)
-
   pub put_here : (k : K) (cs : List (List K)) (i : ℕ) (c : List K) → AreChunks R cs → IsPlace R cs k i → c ≡ get_or cs i c → (joined (set cs i (put R k c)) ≡ put R k (joined cs)) × AreChunks R (set cs i (put R k c))
   put_here k cs i c a p is = subst (λ (x : List K). (joined (set cs i (put R k x)) ≡ put R k (joined cs)) × AreChunks R (set cs i (put R k x))) (here cs i c p.inside is) (chunks_put R o k cs i a p)
 
@@ -87,8 +85,3 @@ module _ {K : Type 0} (R : K → K → Ordering) (o : IsTotalOrder R) where
       some_item : (xs : List K) → has R xs k ≡ true → 0 < length xs
       some_item [] h = absurd cc
       some_item (x ∷ xs) h = omega arith
-
-  pub has_none : (cs : List (List K)) (k : K) → length cs ≡ 0 → false ≡ has R (joined cs) k
-  unfolding has
-  has_none [] k h = refl
-  has_none (c ∷ cs) k h = absurd (omega arith)

@@ -9,13 +9,14 @@ pub data Arrival : Type 0 where
   One : PacketReport → Arrival
   Many : List PacketReport → Arrival
 
-abbrev pub reports_of : Arrival → List PacketReport
-reports_of (One r) = r ∷ []
-reports_of (Many rs) = rs
+-- the reports of one such call
+abbrev pub given_by : Arrival → List PacketReport
+given_by (One r) = r ∷ []
+given_by (Many rs) = rs
 
 -- all reports that came, with their repeats
 abbrev pub all_given : List Arrival → List PacketReport
-all_given arrivals = flat_map reports_of arrivals
+all_given arrivals = flat_map given_by arrivals
 
 -- what a log holds after a call that was not refused
 abbrev pub after : Arrival → List PacketReport → List PacketReport

@@ -1,5 +1,5 @@
 -- A log's set, with what is kept beside it: a content of each identity, and the identities that are disputed.
-use Rattle.std.specs.Prelude.{◌≡◌, ℕ, ◌+◌, ◌≤◌, ◌||◌, if◌then◌else◌, Bool, true, false, List, [], ◌∷◌, length, map, nat_lt, option_map, IfSome, Option, Some, None}
+use Rattle.std.specs.Prelude.{◌≡◌, ℕ, ◌≤◌, Bool, true, false, List, length, nat_lt, option_map, IfSome, Option, Some, None}
 use Rattle.std.specs.List.{AllByRecursion}
 use Rattle.std.specs.List.Sorted.{IsStrictlySortedBy}
 use Rattle.std.specs.declared.cmp.Ordering.{Ordering}
@@ -10,7 +10,7 @@ use Rattle.tca_report.specs.declared.report.Identity.{Identity}
 use Rattle.tca_log.specs.declared.answer.Added.{Added}
 use Rattle.tca_log.specs.declared.answer.Added.TheVariants.{Fresh, NewDispute, MoreDispute}
 use Rattle.tca_log.specs.declared.by_identity.ByIdentity.{ByIdentity}
-use Rattle.tca_log.specs.Chunks.{tied, AreApart, Ordered}
+use Rattle.tca_log.specs.Ordered.{tied, Ordered}
 use Rattle.tca_log.specs.Disputes.{by_identity_cmp, contents, disputed}
 
 -- the order of the index
@@ -71,34 +71,3 @@ abbrev pub disputes_after : Option ByIdentity → Bool → PacketReport → List
 disputes_after None doubled r disputes = disputes
 disputes_after (Some first) true r disputes = disputes
 disputes_after (Some first) false r disputes = put identity_cmp (identity_of r) disputes
-
--- what reports that are new to a log add to its index and to its disputed identities
-pub record AreNotes (rs : List PacketReport) (index : List ByIdentity) (disputes : List Identity) (news : List PacketReport) (fresh : List ByIdentity) (twice : List Identity) : Type 0 where
-  pub known : (r : PacketReport) → (has index_cmp index (indexed r) || has index_cmp fresh (indexed r)) ≡ nat_lt 0 (count_at rs (identity_of r) + count_at news (identity_of r))
-  pub doubled : (i : Identity) → (has identity_cmp disputes i || has identity_cmp twice i) ≡ nat_lt 1 (count_at rs i + count_at news i)
-  pub among : AllByRecursion (λ b. has report_cmp news b.report ≡ true) fresh
-  pub apart : AreApart index_cmp fresh index
-  pub apart_disputes : AreApart identity_cmp twice disputes
-  pub fewer : length fresh ≤ length news
-  pub fewer_disputes : length twice ≤ length news
-
--- the first contents of identities that were unknown, and the identities that become disputed
-pub record Noted : Type 0 where
-  pub fresh : List ByIdentity
-  pub twice : List Identity
-
--- these with one more report
-abbrev pub noted : List ByIdentity → List Identity → ByIdentity → Noted → Noted
-noted index disputes key n =
-    if has index_cmp index key || has index_cmp n.fresh key
-    then (if has identity_cmp disputes (identity_of key.report) || has identity_cmp n.twice (identity_of key.report) then n else record { fresh = n.fresh; twice = put identity_cmp (identity_of key.report) n.twice })
-    else record { fresh = put index_cmp key n.fresh; twice = n.twice }
-
--- these with one report after another
-unfoldable pub noted_all : List ByIdentity → List Identity → List ByIdentity → Noted → Noted
-noted_all index disputes [] n = n
-noted_all index disputes (key ∷ keys) n = noted_all index disputes keys (noted index disputes key n)
-
--- the reports of rows of the index
-abbrev pub reports_of : List ByIdentity → List PacketReport
-reports_of keys = map (λ b. b.report) keys

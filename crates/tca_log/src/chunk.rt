@@ -3,7 +3,8 @@ ghost use Rattle.std.specs.Prelude.{◌≡◌, ℕ, true, false, ◌+◌, ◌-�
 ghost use Rattle.std.specs.List.{insert, remove};
 ghost use Rattle.std.specs.List.Sorted.{IsStrictlySortedBy, IsSearchInRange};
 ghost use Rattle.tca_join.specs.Sets.{put};
-ghost use Rattle.tca_log.specs.Chunks.{starts_after, without, rank, tied};
+ghost use Rattle.tca_log.specs.Chunks.{starts_after};
+ghost use Rattle.tca_log.specs.Ordered.{without, rank, tied};
 
 use std::alloc::{AllocError, Allocator};
 use std::marker::Model;
@@ -100,7 +101,7 @@ impl<K: Ord + Copy, A: Allocator> Chunk<K, A> {
         }
     }
 
-    /// The row that ties with this one.
+    /// The row that ties with this one in the order, if there is one.
     pub(crate) fn get(&self, key: &K) -> Option<&K>
         requires { IsStrictlySortedBy K.cmp self.now }
         ensures { option_copied result ≡ tied K.cmp key.now self.now }
@@ -114,7 +115,7 @@ impl<K: Ord + Copy, A: Allocator> Chunk<K, A> {
         }
     }
 
-    /// Puts a row in its place, where none that ties with it is there.
+    /// Puts a row in its place, unless one that ties with it is there.
     pub(crate) fn put(&mut self, key: K)
         requires rises { IsStrictlySortedBy K.cmp self.old }
         requires room { length self.old < 256 }
@@ -127,7 +128,7 @@ impl<K: Ord + Copy, A: Allocator> Chunk<K, A> {
         }
     }
 
-    /// Takes a row away, where it is there.
+    /// Takes away the row that ties with this one, if there is one.
     pub(crate) fn withdraw(&mut self, key: &K)
         requires rises { IsStrictlySortedBy K.cmp self.old }
         ensures { self.new ≡ without K.cmp key.now self.old }
@@ -145,7 +146,7 @@ impl<K: Ord + Copy, A: Allocator> Chunk<K, A> {
         let _ = self.rows.push(key);
     }
 
-    /// Whether all its rows come before this one.
+    // Whether all its rows come before this one.
     fn ends_before(&self, key: &K) -> bool
         requires { IsStrictlySortedBy K.cmp self.now }
         ensures put { IsTrue result → put K.cmp key.now self.now ≡ self.now ++ key.now ∷ [] }
@@ -179,7 +180,7 @@ impl<K: Ord + Copy, A: Allocator> Chunk<K, A> {
         }
     }
 
-    /// Moves the upper half over.
+    /// Moves the upper half of the rows to a chunk that has none.
     pub(crate) fn split(&mut self, upper: &mut Chunk<K, A>)
         requires { upper.old ≡ [] }
         ensures all { self.new ++ upper.new ≡ self.old }

@@ -12,7 +12,8 @@ use crate::rows::Rows;
 use std::alloc::{AllocError, Allocator};
 use tca_report::{Identity, Report};
 
-/// Enters a report that the log does not have, and answers what it is to it. An error leaves both as they were.
+/// Enters a report that the log does not have into its index and its disputed identities, and answers what the report
+/// is to the log. An error leaves both as they were.
 pub(crate) fn enter<A: Allocator + Copy>(
     index: &mut Rows<ByIdentity, A>,
     disputed: &mut Rows<Identity, A>,
@@ -62,7 +63,7 @@ pub(crate) fn index_of<A: Allocator + Copy>(
     Ok(index)
 }
 
-/// The index that a log keeps once more, or none where it keeps none.
+/// A copy of the index that a log keeps, or none where it keeps none.
 pub(crate) fn copied<A: Allocator + Copy>(
     kept: &Option<Rows<ByIdentity, A>>,
 ) -> Result<Option<Rows<ByIdentity, A>>, AllocError>

@@ -28,7 +28,7 @@ pub(crate) fn place<K: Ord + Copy, A: Allocator>(chunks: &[Chunk<K, A>], key: &K
     low
 }
 
-/// How many rows these are.
+/// How many rows these chunks have.
 pub(crate) fn count_of<K: Ord + Copy, A: Allocator>(chunks: &[Chunk<K, A>]) -> usize
     requires { length (joined chunks.now) ≤ 4194304 }
     ensures { result ≡ length (joined chunks.now) }
@@ -40,7 +40,7 @@ pub(crate) fn count_of<K: Ord + Copy, A: Allocator>(chunks: &[Chunk<K, A>]) -> u
     count
 }
 
-/// The rows from one on.
+/// The rows of these chunks from one on, counted from 0.
 pub(crate) fn from_row<K: Ord + Copy, A: Allocator>(
     chunks: &[Chunk<K, A>],
     row: usize,

@@ -120,7 +120,7 @@ impl<A: Allocator + Copy> Log<A> {
         Ok(answer)
     }
 
-    /// The same log once more.
+    /// A log with the same reports.
     pub fn copy(&self) -> Result<Log<A>, AllocError>
         ensures { IfOk result (λ c. c ≡ self.now) }
     {

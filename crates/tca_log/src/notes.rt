@@ -2,7 +2,8 @@
 ghost use Rattle.std.specs.Prelude.{◌≡◌, ◌<◌, ◌≤◌, List, [], length, map, IfOk, OnOk};
 ghost use Rattle.tca_log.specs.declared.by_identity.ByIdentity.{ByIdentity};
 ghost use Rattle.std.specs.List.Sorted.{IsPermutation};
-ghost use Rattle.tca_log.specs.Logs.{indexed, noted, noted_all};
+ghost use Rattle.tca_log.specs.Logs.{indexed};
+ghost use Rattle.tca_log.specs.Noting.{noted, noted_all};
 
 use crate::by_identity::ByIdentity;
 use crate::rows::Rows;
@@ -18,7 +19,7 @@ pub struct Notes<A: Allocator + Copy> {
 }
 
 impl<A: Allocator + Copy> Model for Notes<A> {
-    ghost use Rattle.tca_log.specs.Logs.{Noted};
+    ghost use Rattle.tca_log.specs.Noting.{Noted};
 
     ghost Value = { Noted };
 
@@ -61,7 +62,7 @@ impl<A: Allocator + Copy> Notes<A> {
     }
 }
 
-// What all these add.
+// What these reports add, one after another.
 fn note_all<A: Allocator + Copy>(
     alloc: A,
     index: &Rows<ByIdentity, A>,

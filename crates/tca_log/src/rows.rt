@@ -3,7 +3,8 @@ ghost use Rattle.std.specs.Prelude.{◌≡◌, ℕ, true, false, ◌+◌, ◌-�
 ghost use Rattle.std.specs.List.{All};
 ghost use Rattle.std.specs.List.Sorted.{IsStrictlySortedBy};
 ghost use Rattle.tca_join.specs.Sets.{has, put};
-ghost use Rattle.tca_log.specs.Chunks.{without, rank, tied, put_each, without_each, AreApart, joined, AreChunks, Ordered};
+ghost use Rattle.tca_log.specs.Chunks.{joined, AreChunks};
+ghost use Rattle.tca_log.specs.Ordered.{without, rank, tied, put_each, without_each, AreApart, Ordered};
 
 use crate::chunk::{CHUNK, Chunk};
 use crate::iter::RowsIter;
@@ -25,7 +26,8 @@ pub struct Rows<K: Ord + Copy, A: Allocator + Copy = Global> {
 
 impl<K: Ord + Copy, A: Allocator + Copy> Model for Rows<K, A> {
     ghost use Rattle.std.specs.Prelude.{is_some, vec_capacity};
-    ghost use Rattle.tca_log.specs.Chunks.{Ordered, joined, AreRows};
+    ghost use Rattle.tca_log.specs.Chunks.{joined, AreRows};
+    ghost use Rattle.tca_log.specs.Ordered.{Ordered};
 
     ghost Value = { Ordered K };
 
@@ -228,7 +230,7 @@ impl<K: Ord + Copy, A: Allocator + Copy> Rows<K, A> {
         Ok(rest)
     }
 
-    /// The same rows once more.
+    /// A container with the same rows.
     pub(crate) fn copy(&self) -> Result<Rows<K, A>, AllocError>
         ensures { IfOk result (λ c. c.rows ≡ self.now.rows) }
     {

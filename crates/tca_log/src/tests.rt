@@ -1,3 +1,4 @@
+//! A log beside a plain list of reports that answers alike, at its limit, and with each growth refused in turn by a small heap.
 use crate::rows::Rows;
 use crate::{Added, Log, LogFault};
 use linked_list_allocator::LocalHeap;
@@ -112,6 +113,10 @@ fn has_settled<A: Allocator + Copy>(log: &Log<A>, list: &[Report]) -> bool {
     left.next().is_none()
 }
 
+fn has_all<A: Allocator + Copy>(log: &Log<A>, list: &[Report]) -> bool {
+    has_reports(log, list) && has_settled(log, list)
+}
+
 // Adds each report to both, and compares the answers.
 fn add_each(log: &mut Log, plain: &mut Vec<Report>, order: &[Report]) -> Result<bool, AllocError> {
     for report in order {
@@ -131,8 +136,7 @@ fn agrees(alloc: Global, order: &[Report], disputed: u32) -> Result<bool, AllocE
     plain.sort_unstable();
     Ok(
         alike
-            && has_reports(&log, &plain)
-            && has_settled(&log, &plain)
+            && has_all(&log, &plain)
             && log.len() as usize == plain.len()
             && log.disputed() == disputed,
     )
@@ -161,7 +165,7 @@ fn adds_all(
 ) -> Result<bool, AllocError> {
     let mut log = Log::new(alloc);
     let added = log.add_all(Vec::from_slice(alloc, order)?) == Ok(new);
-    Ok(added && has_reports(&log, list) && has_settled(&log, list))
+    Ok(added && has_all(&log, list))
 }
 
 // Whether an order of the first reports, each twice, gives one log by all three calls.
@@ -220,7 +224,7 @@ fn copies(alloc: Global) -> Result<bool, AllocError> {
     let mut sorted = list;
     sorted.sort_unstable();
     let copy = log.copy()?;
-    Ok(added && has_reports(&copy, &sorted) && has_settled(&copy, &sorted) && copy.disputed() == 1)
+    Ok(added && has_all(&copy, &sorted) && copy.disputed() == 1)
 }
 
 #[test]
@@ -317,10 +321,6 @@ fn joined<J: Join>(first: &J, second: &J) -> Result<J, JoinFault> {
     Ok(value)
 }
 
-fn has_all(log: &Log, list: &[Report]) -> bool {
-    has_reports(log, list) && has_settled(log, list)
-}
-
 // This many of a list, without some at its start.
 fn part(
     alloc: Global,
@@ -387,7 +387,7 @@ fn refused<A: Allocator + Copy>(
     list: &[Report],
     octets: usize,
 ) -> Step {
-    let as_before = has_reports(log, list) && has_settled(log, list) && log.disputed() == 0;
+    let as_before = has_all(log, list) && log.disputed() == 0;
     if as_before && fault == LogFault::Memory {
         Step::Refused(octets)
     } else {
@@ -461,8 +461,12 @@ fn a_refused_dispute_leaves_the_log_as_it_was(rt: HostRuntime) -> Result<(), Fai
 }
 
 // A second content of the second of three reports that came as one list, whose places ascend. All four are given in order.
-fn late_rival_step(small: &LocalHeap, list: &[Report], all: &[Report]) -> Result<Step, AllocError> {
-    let [_, second, _, rival] = all else {
+fn late_content_step(
+    small: &LocalHeap,
+    list: &[Report],
+    all: &[Report],
+) -> Result<Step, AllocError> {
+    let [_, second, _, content] = all else {
         return Ok(Step::Wrong);
     };
     let Ok(given) = Vec::from_slice(small, list) else {
@@ -472,7 +476,7 @@ fn late_rival_step(small: &LocalHeap, list: &[Report], all: &[Report]) -> Result
     if log.add_all(given).is_err() {
         return Ok(Step::Before);
     }
-    Ok(match log.add(*rival) {
+    Ok(match log.add(*content) {
         Ok(answer) if answer != (Added::NewDispute { withdrawn: *second }) => Step::Wrong,
         Ok(_) if !has_settled(&log, all) => Step::Wrong,
         Ok(_) => done(&log, all, 1),
@@ -480,14 +484,14 @@ fn late_rival_step(small: &LocalHeap, list: &[Report], all: &[Report]) -> Result
     })
 }
 
-fn late_rival_steps(alloc: Global, rival: Report) -> Result<Vec<Step>, AllocError> {
+fn late_content_steps(alloc: Global, content: Report) -> Result<Vec<Step>, AllocError> {
     let list = rows(alloc, 3)?;
     let mut all = rows(alloc, 3)?;
-    all.push(rival)?;
+    all.push(content)?;
     let mut met = Vec::new(alloc);
     for size in 1..1024 {
         let small = LocalHeap::new(alloc, STEP * size)?;
-        let step = late_rival_step(&small, &list, &all)?;
+        let step = late_content_step(&small, &list, &all)?;
         met.push(step)?;
         if step == Step::Done {
             break;
@@ -498,8 +502,8 @@ fn late_rival_steps(alloc: Global, rival: Report) -> Result<Vec<Step>, AllocErro
 
 #[test]
 fn a_list_in_order_is_disputed_later(rt: HostRuntime) -> Result<(), Fail> {
-    if let Some(rival) = report(1, 300, 60) {
-        let met = late_rival_steps(rt.alloc(), rival)?;
+    if let Some(content) = report(1, 300, 60) {
+        let met = late_content_steps(rt.alloc(), content)?;
         // Refused to the reports, to the index that is made now, to the disputed identities' list of chunks, and to a chunk
         // of these.
         assert_eq!(rt; kept(rt.alloc(), &met)?.len(), 4);

@@ -5,7 +5,7 @@ ghost use Rattle.tca_join.specs.Sets.{in_order};
 ghost use Rattle.tca_report.specs.Reports.{report_cmp};
 ghost use Rattle.tca_report.specs.Identities.{identity_cmp};
 ghost use Rattle.tca_log.specs.Arrivals.{Many, after};
-ghost use Rattle.tca_log.specs.Chunks.{put_each, without_each, AreApart};
+ghost use Rattle.tca_log.specs.Ordered.{put_each, without_each, AreApart};
 ghost use Rattle.tca_log.specs.Faults.{IsUnionRefused, IsRefusedBy};
 ghost use Rattle.tca_log.specs.Logs.{index_cmp, index_rows, IsKept, IsLog};
 

@@ -30,20 +30,20 @@ same_heard : (a b : Heard) → let x : Result Heard InputFault = Ok a in x ≡ O
 same_heard a b e = cc
 
 -- one message that was heard
-record IsNext (h : Heard) (octets : List ℕ) (next : Heard) : Type 0 where
-  header : Header
-  sets : List SetSpan
-  seen : Seen
-  message : IsMessage octets header sets
-  whole : header.length ≡ length octets
-  reading : IsReading h.templates header octets sets seen
-  is : next ≡ with_message h seen
+pub record IsNext (h : Heard) (octets : List ℕ) (next : Heard) : Type 0 where
+  pub header : Header
+  pub sets : List SetSpan
+  pub seen : Seen
+  pub message : IsMessage octets header sets
+  pub whole : header.length ≡ length octets
+  pub reading : IsReading h.templates header octets sets seen
+  pub is : next ≡ with_message h seen
 
 seen_told : (at : ℕ) (h next : Heard) (r : Result Seen DecodeFault) → with_reading at h r ≡ Ok next → (seen : Seen) × (r ≡ Ok seen) × (next ≡ with_message h seen)
 seen_told at h next (Ok seen) e = (seen, refl, sym (same_heard (with_message h seen) next e))
 seen_told at h next (Err f) e = absurd cc
 
-heard_found : (at : ℕ) (h next : Heard) (m : List ℕ) → IsFrame m → IsSession h.templates → heard at h m ≡ Ok next → IsNext h m next
+pub heard_found : (at : ℕ) (h next : Heard) (m : List ℕ) → IsFrame m → IsSession h.templates → heard at h m ≡ Ok next → IsNext h m next
 heard_found at h next m frame ok e = go (message_of m) refl e
   where
     go : (r : Result (Header × List SetSpan) WireFault) → message_of m ≡ r → with_split at h m r ≡ Ok next → IsNext h m next
@@ -64,7 +64,7 @@ heard_found at h next m frame ok e = go (message_of m) refl e
           is = t.2;
         }
 
-all_found : (at : ℕ) (h after : Heard) (ms : List (List ℕ)) → AllByRecursion IsFrame ms → IsSession h.templates → all_heard at h ms ≡ Ok after → AreHeard h ms after
+pub all_found : (at : ℕ) (h after : Heard) (ms : List (List ℕ)) → AllByRecursion IsFrame ms → IsSession h.templates → all_heard at h ms ≡ Ok after → AreHeard h ms after
 unfolding all_heard
 all_found at h after [] each ok e = sym (same_heard h after e)
 all_found at h after (m ∷ ms) each ok e = go (λ next session k. all_found (at + length m) next after ms each.1 session k) (heard at h m) refl e
@@ -106,7 +106,7 @@ capture_found octets after e = go (all_heard 0 nothing (frames_of octets).0) ref
           heard = all_found 0 nothing after (frames_of octets).0 s.each session_opens (k ∙ ap (λ (x : Heard). Ok x) t.1);
         }
 
-frames_all : (h : Heard) (ms : List (List ℕ)) (after : Heard) → AreHeard h ms after → AllByRecursion IsFrame ms
+pub frames_all : (h : Heard) (ms : List (List ℕ)) (after : Heard) → AreHeard h ms after → AllByRecursion IsFrame ms
 frames_all h [] after p = tt
 frames_all h (m ∷ ms) after p =
     let told : p.header.length ≡ _ = ap (λ (y : Header). y.length) p.message.header in
@@ -123,7 +123,7 @@ heard_only at h m header sets seen message whole reading =
     let own : take header.length m ≡ m = take_all header.length m (omega (arith, whole)) in
     heard_is at h m m h.templates header sets (Ok seen) (message_only m header sets message) refl (sym own) (reading_only h.templates header m sets seen reading)
 
-all_only : (at : ℕ) (h : Heard) (ms : List (List ℕ)) (after : Heard) → AreHeard h ms after → all_heard at h ms ≡ Ok after
+pub all_only : (at : ℕ) (h : Heard) (ms : List (List ℕ)) (after : Heard) → AreHeard h ms after → all_heard at h ms ≡ Ok after
 all_only at h [] after p = all_none at h ∙ ap (λ (x : Heard). Ok x) (sym p)
 all_only at h (m ∷ ms) after p =
     all_next at h (with_message h p.seen) m ms (heard_only at h m p.header p.sets p.seen p.message p.whole p.reading)

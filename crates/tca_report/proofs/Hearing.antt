@@ -34,7 +34,7 @@ pub all_stop : (at : ℕ) (h : Heard) (a b : List (List ℕ)) (fault : InputFaul
 all_stop at h a b fault e = all_both at h a b ∙ ap (λ r. and_then (λ next. all_heard (at + length (concat a)) next b) r) e
 
 -- octets behind a fault don't mend it
-still_faulty : (octets more : List ℕ) (fault : WireFault) → IsFaulty octets fault → IsFaulty (octets ++ more) fault
+pub still_faulty : (octets more : List ℕ) (fault : WireFault) → IsFaulty octets fault → IsFaulty (octets ++ more) fault
 still_faulty octets more (BadVersion v) bad =
     (omega (arith, bad.0, length-append octets more), version_front octets more bad.0 ∙ bad.1, bad.2)
 still_faulty octets more (BadLength n) bad =

@@ -12,3 +12,4 @@ pub mod Taking
 pub mod Keeping
 pub mod Pieces
 pub mod CaptureLaws
+pub mod FirstFaults

@@ -1,13 +1,21 @@
 -- Which fields of a data record make a report.
-use Rattle.std.specs.Prelude.{ℕ, ◌+◌, ◌-◌, ◌*◌, ◌/◌, ◌%◌, ◌^◌, ◌==◌, nat_lt, nat_le, true, false, not, ◌&&◌, if◌then◌else◌, List, [], ◌∷◌, length, drop, slice_index, Option, Some, None, Result, Ok, Err}
-use Rattle.std.specs.Option.{option_map, is_none}
+use Rattle.std.specs.Prelude.{ℕ, ◌+◌, ◌-◌, ◌*◌, ◌/◌, ◌%◌, ◌^◌, ◌==◌, nat_lt, nat_le, Bool, not, ◌&&◌, if◌then◌else◌, List, [], ◌∷◌, length, drop, slice_index, Option, Some, None, ok_or, option_and_then, option_map, unwrap_or, Result, Ok, Err}
+use Rattle.std.specs.Option.{is_none, option_or}
 use Rattle.byteorder.specs.Endian.{big_number}
 use Rattle.tca_report.specs.Reports.{PacketReport}
 use Rattle.tca_templates.specs.Records.{FieldView, PlacedView}
 use Rattle.tca_report.specs.declared.extraction.NotReport.{NotReport}
 use Rattle.tca_report.specs.declared.extraction.NotReport.TheVariants.{Options, NoTime, NoSize, BadTime, BadSize, BadDscp, FieldLength}
-use Rattle.tca_report.specs.declared.extraction.Picked.{Picked}
-use Rattle.tca_report.specs.declared.extraction.Moment.{Moment}
+
+-- the next test, unless there is a reason already
+infixl 10 ◌>>=◌
+abbrev pub ◌>>=◌ : {A B : Type 0} → Result A NotReport → (A → Result B NotReport) → Result B NotReport
+Ok a >>= next = next a
+Err reason >>= next = Err reason
+
+-- what has to hold, else this is the reason
+abbrev pub only_if : Bool → NotReport → Result Unit NotReport
+only_if holds reason = if holds then Ok tt else Err reason
 
 -- octetDeltaCount: octets since the last report; unsigned64, 1 to 8 octets
 abbrev pub octet_delta_count : ℕ
@@ -58,53 +66,71 @@ unfoldable pub first : ℕ → List FieldView → Option (List ℕ)
 first element [] = None
 first element (f ∷ fs) = if is_none f.enterprise && (f.element == element) then Some f.value else first element fs
 
--- the first, where it is there, else the second
-abbrev pub or_else : {X : Type 0} → Option X → Option X → Option X
-or_else None b = b
-or_else (Some x) b = Some x
+-- what the first of these elements that is there says; each stands with what its octets say
+abbrev pub chosen : {X : Type 0} → List (ℕ × (List ℕ → X)) → List FieldView → Option X
+chosen [] fs = None
+chosen (e ∷ es) fs = option_or (option_map e.1 (first e.0 fs)) (chosen es fs)
 
--- what is there, else a default
-abbrev pub or_default : {X : Type 0} → Option X → X → X
-or_default None d = d
-or_default (Some x) d = x
+-- unsigned8 to unsigned64: a number of one octet to so many, since fewer than its type has may be sent (RFC 7011, section 6.2)
+abbrev pub unsigned : ℕ → List ℕ → Result ℕ NotReport
+unsigned most v = do
+  fits ← only_if (nat_le 1 (length v) && nat_le (length v) most) FieldLength
+  Ok (big_number (length v) v)
 
--- an unsigned number of one octet to so many
-abbrev pub unsigned : ℕ → List ℕ → Picked
-unsigned most value =
-    if nat_le 1 (length value) && nat_le (length value) most then record { fits = true; value = big_number (length value) value }
-    else record { fits = false; value = 0 }
-
--- a time of exactly so many octets
-abbrev pub exactly : ℕ → List ℕ → (List ℕ → Option ℕ) → Moment
-exactly size value read = if length value == size then record { fits = true; milliseconds = read value } else record { fits = false; milliseconds = None }
-
--- milliseconds from 1970 of seconds from 1900 and a fraction in units of 1 / 2^32 second
+-- milliseconds from 1970 of seconds from 1900 and a fraction in units of 1 / 2^32 second, none before 1970
 abbrev pub since_1970 : ℕ → ℕ → Option ℕ
 since_1970 seconds fraction = if nat_lt seconds 2208988800 then None else Some ((seconds - 2208988800) * 1000 + fraction * 1000 / 4294967296)
 
--- a number of milliseconds from 1970
-abbrev pub in_milliseconds : List ℕ → Moment
-in_milliseconds v = exactly 8 v (λ v. Some (big_number 8 v))
+-- dateTimeSeconds: seconds from 1970 (RFC 7011, section 6.1.7)
+abbrev pub date_time_seconds : List ℕ → Result (Option ℕ) NotReport
+date_time_seconds v = do
+  fits ← only_if (length v == 4) FieldLength
+  Ok (Some (big_number 4 v * 1000))
 
--- seconds from 1900 and a fraction, whose low 11 bits count as zero
-abbrev pub in_microseconds : List ℕ → Moment
-in_microseconds v = exactly 8 v (λ v. since_1970 (big_number 4 v) (big_number 4 (drop 4 v) / 2048 * 2048))
+-- dateTimeMilliseconds: milliseconds from 1970 (section 6.1.8)
+abbrev pub date_time_milliseconds : List ℕ → Result (Option ℕ) NotReport
+date_time_milliseconds v = do
+  fits ← only_if (length v == 8) FieldLength
+  Ok (Some (big_number 8 v))
 
--- seconds from 1900 and a fraction
-abbrev pub in_nanoseconds : List ℕ → Moment
-in_nanoseconds v = exactly 8 v (λ v. since_1970 (big_number 4 v) (big_number 4 (drop 4 v)))
+-- dateTimeMicroseconds: seconds from 1900 and a fraction, whose low 11 bits count as zero (section 6.1.9)
+abbrev pub date_time_microseconds : List ℕ → Result (Option ℕ) NotReport
+date_time_microseconds v = do
+  fits ← only_if (length v == 8) FieldLength
+  Ok (since_1970 (big_number 4 v) (big_number 4 (drop 4 v) / 2048 * 2048))
 
--- a number of seconds from 1970
-abbrev pub in_seconds : List ℕ → Moment
-in_seconds v = exactly 4 v (λ v. Some (big_number 4 v * 1000))
+-- dateTimeNanoseconds: seconds from 1900 and a fraction (section 6.1.10)
+abbrev pub date_time_nanoseconds : List ℕ → Result (Option ℕ) NotReport
+date_time_nanoseconds v = do
+  fits ← only_if (length v == 8) FieldLength
+  Ok (since_1970 (big_number 4 v) (big_number 4 (drop 4 v)))
 
--- the time: of the first of these four elements that is there
-unfoldable pub time_in : List FieldView → Option Moment
-time_in fs =
-    or_else (option_map in_milliseconds (first observation_time_milliseconds fs))
-    (or_else (option_map in_microseconds (first observation_time_microseconds fs))
-    (or_else (option_map in_nanoseconds (first observation_time_nanoseconds fs))
-    (option_map in_seconds (first observation_time_seconds fs))))
+-- the code point of a type of service or a traffic class: its high six bits (RFC 2474)
+abbrev pub high_six_bits : List ℕ → Result ℕ NotReport
+high_six_bits v = do
+  octet ← unsigned 1 v
+  Ok (octet / 4)
+
+-- the elements that tell the time, the first choice first
+abbrev pub times : List (ℕ × (List ℕ → Result (Option ℕ) NotReport))
+times =
+    (observation_time_milliseconds, date_time_milliseconds)
+    ∷ (observation_time_microseconds, date_time_microseconds)
+    ∷ (observation_time_nanoseconds, date_time_nanoseconds)
+    ∷ (observation_time_seconds, date_time_seconds)
+    ∷ []
+
+-- the elements that tell the octets of the packet, the first choice first
+abbrev pub sizes : List (ℕ × (List ℕ → Result ℕ NotReport))
+sizes = (ip_total_length, unsigned 8) ∷ (total_length_ipv4, unsigned 2) ∷ (octet_delta_count, unsigned 8) ∷ []
+
+-- the elements that tell the code point, the first choice first
+abbrev pub code_points : List (ℕ × (List ℕ → Result ℕ NotReport))
+code_points = (ip_diff_serv_code_point, unsigned 1) ∷ (ip_class_of_service, high_six_bits) ∷ []
+
+-- the elements that tell the interface
+abbrev pub interfaces : List (ℕ × (List ℕ → Result ℕ NotReport))
+interfaces = (ingress_interface, unsigned 4) ∷ []
 
 -- the eight bits behind the version, which is the first four bits of an IPv6 header
 abbrev pub traffic_class : List ℕ → ℕ
@@ -119,63 +145,44 @@ header_in v =
     else (if (slice_index v 0 / 16 == 6) && nat_le 6 (length v) then Some (40 + big_number 2 (drop 4 v), traffic_class v / 4)
     else None))
 
--- octets and code point of the packet's section, where there is one
+-- octets and code point of the packet's section, where there is one that tells them
 abbrev pub section_in : List FieldView → Option (ℕ × ℕ)
-section_in fs = elim (first ip_header_packet_section fs) [
-  | None ↦ None
-  | Some v ↦ header_in v
-]
+section_in fs = option_and_then header_in (first ip_header_packet_section fs)
 
--- a number that fits
-abbrev pub picked : ℕ → Picked
-picked n = record { fits = true; value = n }
+-- the time, where an element tells one: its milliseconds, or none where it is before 1970
+unfoldable pub time_in : List FieldView → Option (Result (Option ℕ) NotReport)
+time_in fs = chosen times fs
 
--- the octets of the packet: of the first of these elements that is there, or else of the section
-unfoldable pub octets_in : List FieldView → Option (ℕ × ℕ) → Option Picked
-octets_in fs section =
-    or_else (option_map (unsigned 8) (first ip_total_length fs))
-    (or_else (option_map (unsigned 2) (first total_length_ipv4 fs))
-    (or_else (option_map (unsigned 8) (first octet_delta_count fs))
-    (option_map (λ x. picked x.0) section)))
+-- the octets of the packet: of an element, or else of the section
+unfoldable pub octets_in : List FieldView → Option (ℕ × ℕ) → Option (Result ℕ NotReport)
+octets_in fs section = option_or (chosen sizes fs) (option_map (λ x. Ok x.0) section)
 
--- without the low two bits, which are not of the code point
-abbrev pub without_ecn : Picked → Picked
-without_ecn p = record { fits = p.fits; value = p.value / 4 }
-
--- the code point: of the first of these elements that is there, or else of the section, or else 0
-unfoldable pub code_point_in : List FieldView → Option (ℕ × ℕ) → Picked
-code_point_in fs section =
-    or_default (or_else (option_map (unsigned 1) (first ip_diff_serv_code_point fs))
-    (or_else (option_map (λ v. without_ecn (unsigned 1 v)) (first ip_class_of_service fs))
-    (option_map (λ x. picked x.1) section))) (picked 0)
+-- the code point: of an element, or else of the section, or else 0
+unfoldable pub code_point_in : List FieldView → Option (ℕ × ℕ) → Result ℕ NotReport
+code_point_in fs section = unwrap_or (option_or (chosen code_points fs) (option_map (λ x. Ok x.1) section)) (Ok 0)
 
 -- the interface, or else 0
-unfoldable pub interface_in : List FieldView → Picked
-interface_in fs = or_default (option_map (unsigned 4) (first ingress_interface fs)) (picked 0)
+unfoldable pub interface_in : List FieldView → Result ℕ NotReport
+interface_in fs = unwrap_or (chosen interfaces fs) (Ok 0)
 
--- the tests of a record that has a time and octets, in their order
-abbrev pub judged : Moment → Picked → Picked → Picked → ℕ → ℕ → Result PacketReport NotReport
-judged t o d i domain place =
-    if not (t.fits && (o.fits && (d.fits && i.fits))) then Err FieldLength
-    else elim t.milliseconds [
-      | None ↦ Err BadTime
-      | Some time ↦
-          if not (nat_lt time (2 ^ 48)) then Err BadTime
-          else (if not (nat_le 1 o.value && nat_le o.value 65575) then Err BadSize
-          else (if nat_lt 63 d.value then Err BadDscp
-          else Ok (record { time = time; domain = domain; place = place; octets = o.value; dscp = d.value; iface = i.value })))
-    ]
-
--- where there are no octets none of the tests behind them is made
-abbrev pub with_octets : Moment → List FieldView → Option (ℕ × ℕ) → Option Picked → ℕ → ℕ → Result PacketReport NotReport
-with_octets t fs section None domain place = Err NoSize
-with_octets t fs section (Some o) domain place = judged t o (code_point_in fs section) (interface_in fs) domain place
-
--- where there is no time none of the tests behind it is made
-abbrev pub with_time : Option Moment → List FieldView → Option (ℕ × ℕ) → ℕ → ℕ → Result PacketReport NotReport
-with_time None fs section domain place = Err NoTime
-with_time (Some t) fs section domain place = with_octets t fs section (octets_in fs section) domain place
+-- the tests of what was taken, in their order: first the lengths of all of it, then what it says
+abbrev pub judged : Result (Option ℕ) NotReport → Result ℕ NotReport → Result ℕ NotReport → Result ℕ NotReport → ℕ → ℕ
+    → Result PacketReport NotReport
+judged time octets point interface domain place = do
+  moment ← time
+  size ← octets
+  dscp ← point
+  iface ← interface
+  milliseconds ← ok_or moment BadTime
+  early ← only_if (nat_lt milliseconds (2 ^ 48)) BadTime
+  sized ← only_if (nat_le 1 size && nat_le size 65575) BadSize
+  short ← only_if (nat_le dscp 63) BadDscp
+  Ok (record { time = milliseconds; domain = domain; place = place; octets = size; dscp = dscp; iface = iface })
 
 -- the report that a data record makes, or the first reason why it makes none
 unfoldable pub extract_of : PlacedView → Result PacketReport NotReport
-extract_of r = if r.options then Err Options else with_time (time_in r.fields) r.fields (section_in r.fields) r.domain r.place
+extract_of r = do
+  told ← only_if (not r.options) Options
+  time ← ok_or (time_in r.fields) NoTime
+  octets ← ok_or (octets_in r.fields (section_in r.fields)) NoSize
+  judged time octets (code_point_in r.fields (section_in r.fields)) (interface_in r.fields) r.domain r.place

@@ -7,5 +7,6 @@ pub mod Reports
 pub mod Extract
 pub mod Inputs
 pub mod Captures
+pub mod FirstFaults
 pub mod Gathering
 pub mod Progress

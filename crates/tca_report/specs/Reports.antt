@@ -1,5 +1,5 @@
 -- A report of one packet, and the order of reports.
-use Rattle.std.specs.Prelude.{ℕ, ◌<◌, ◌≤◌, ◌^◌, ◌==◌, Bool, ◌&&◌, nat_lt, nat_le, Option, Some, None, if◌then◌else◌}
+use Rattle.std.specs.Prelude.{ℕ, ◌<◌, ◌≤◌, ◌^◌, Bool, ◌&&◌, nat_lt, nat_le, Option, Some, None, if◌then◌else◌}
 use Rattle.std.specs.Ordering.{nat_cmp, ordering_then}
 use Rattle.std.specs.declared.cmp.Ordering.{Ordering}
 use Rattle.tca_report.specs.declared.report.Identity.{Identity}
@@ -35,10 +35,6 @@ reported i c = record { time = c.time; domain = i.domain; place = i.place; octet
 -- a report where it is in range, else none
 abbrev pub ranged : PacketReport → Option PacketReport
 ranged r = if in_range r then Some r else None
-
--- whether two reports are of one record: the same observation domain and the same place
-abbrev pub same_identity : PacketReport → PacketReport → Bool
-same_identity a b = (a.domain == b.domain) && (a.place == b.place)
 
 -- by time, domain, place, octets, code point and interface, each ascending
 abbrev pub report_cmp : PacketReport → PacketReport → Ordering

@@ -1,5 +1,5 @@
 //! What octets come from and go to, with a count of the calls that failed.
-ghost use Rattle.std.specs.Prelude.{◌≡◌, ◌<◌, ◌≤◌, ◌+◌, ℕ, List, Option, IfOk, OnOk, length};
+ghost use Rattle.std.specs.Prelude.{◌≡◌, ◌<◌, ◌≤◌, ◌+◌, ℕ, List, Option, IfOk, IsOk, OnOk, length};
 ghost use Rattle.std.specs.Io.KnownBytes.{ReadConsumes, WriteAppends};
 ghost use Rattle.tca_report.specs.Devices.{CountsFailure, Hosted, Rises, most_failures};
 
@@ -36,14 +36,16 @@ pub trait Write {
     // How many calls have failed. At 2^64 - 1 each call fails, and the count stays.
     ghost failures: { Self → ℕ };
 
-    /// Takes some of the first octets and gives their number. A call that takes none fails, also
-    /// where `octets` is empty. An `Err` takes no octet.
+    /// Takes some of the first octets and gives their number. A call that takes none of them fails.
+    /// An `Err` takes no octet. A call without octets does nothing, and doesn't fail.
     fn write(&mut self, octets: &[u8]) -> io::Result<usize>
-        ensures some { IfOk result (λ n. 0 < n) }
+        ensures some { 0 < length octets.now → IfOk result (λ n. 0 < n) }
         ensures bound { IfOk result (λ n. n ≤ length octets.now) }
         ensures octets { WriteAppends (written self.old) (written self.new) result octets.now }
         ensures count { CountsFailure result (failures self.old) (failures self.new) }
-        ensures alive { OnOk result (failures self.old < most_failures) };
+        ensures alive { 0 < length octets.now → OnOk result (failures self.old < most_failures) }
+        // So no failure is made up by a write of nothing.
+        ensures nothing { length octets.now ≡ 0 → IsOk result };
 }
 
 /// A reader or a writer of std, with the counts of its reads and of its failures. A call of the device that fails is
@@ -120,6 +122,9 @@ impl<D: io::Write> Write for Host<D> {
     ghost failures = { λ h. h.failures };
 
     fn write(&mut self, octets: &[u8]) -> io::Result<usize> {
+        if octets.is_empty() {
+            return Ok(0);
+        }
         if self.failures == u64::MAX {
             return Err(io::Error::from(io::ErrorKind::Other));
         }

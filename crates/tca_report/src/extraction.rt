@@ -1,10 +1,10 @@
 //! Which fields of a data record make a report.
-ghost use Rattle.std.specs.Prelude.{◌≡◌, ◌==◌, ◌&&◌, ◌<◌, ◌≤◌, ◌^◌, length, map, Ok, Err, Result};
+ghost use Rattle.std.specs.Prelude.{◌≡◌, ◌==◌, ◌&&◌, ◌<◌, ◌≤◌, ◌^◌, IfOk, length, map, Ok, Err, Result};
 ghost use Rattle.std.specs.Option.{option_map, is_none};
 ghost use Rattle.byteorder.specs.Endian.{big_number};
 ghost use Rattle.tca_templates.specs.Fields.{field_view};
 ghost use Rattle.tca_templates.specs.Outcomes.{placed_view};
-ghost use Rattle.tca_report.specs.Extract.{unsigned, in_milliseconds, in_microseconds, in_nanoseconds, in_seconds, since_1970, time_in, header_in, section_in, octets_in, code_point_in, interface_in, without_ecn, judged, extract_of};
+ghost use Rattle.tca_report.specs.Extract.{unsigned, date_time_milliseconds, date_time_microseconds, date_time_nanoseconds, date_time_seconds, since_1970, time_in, header_in, section_in, octets_in, code_point_in, interface_in, judged, extract_of};
 ghost use Rattle.tca_report.specs.FaultNumbers.{reason_number};
 
 use crate::fields::{
@@ -61,35 +61,15 @@ impl NotReport {
     }
 }
 
-/// A number, and whether its field has a length that it may have.
-#[derive(Clone, Copy, Debug)]
-pub(crate) struct Picked {
-    fits: bool,
-    value: u64,
-}
-
-/// A time, where it isn't before 1970, and whether its field has its length.
-#[derive(Clone, Copy, Debug)]
-pub(crate) struct Moment {
-    fits: bool,
-    milliseconds: Option<u64>,
-}
-
-fn pick_unsigned(most: usize, value: &[u8]) -> Picked
+fn pick_unsigned(most: usize, value: &[u8]) -> Result<u64, NotReport>
     requires { most ≤ 8 }
     ensures value { result ≡ unsigned most value.now }
-    ensures small { most ≤ 4 → result.value < 2 ^ 32 }
+    ensures small { most ≤ 4 → IfOk result (λ n. n < 2 ^ 32) }
 {
     if value.is_empty() || value.len() > most {
-        return Picked {
-            fits: false,
-            value: 0,
-        };
+        return Err(NotReport::FieldLength);
     }
-    Picked {
-        fits: true,
-        value: BigEndian::read_uint(value, value.len()),
-    }
+    Ok(BigEndian::read_uint(value, value.len()))
 }
 
 fn after_1970(seconds: u32, fraction: u32) -> Option<u64>
@@ -102,71 +82,47 @@ fn after_1970(seconds: u32, fraction: u32) -> Option<u64>
     Some(seconds * 1000 + u64::from(fraction) * 1000 / 4_294_967_296)
 }
 
-fn pick_milliseconds(value: &[u8]) -> Moment
-    ensures { result ≡ in_milliseconds value.now }
+fn pick_milliseconds(value: &[u8]) -> Result<Option<u64>, NotReport>
+    ensures { result ≡ date_time_milliseconds value.now }
 {
     if value.len() != 8 {
-        return Moment {
-            fits: false,
-            milliseconds: None,
-        };
+        return Err(NotReport::FieldLength);
     }
-    Moment {
-        fits: true,
-        milliseconds: Some(BigEndian::read_u64(value)),
-    }
+    Ok(Some(BigEndian::read_u64(value)))
 }
 
-fn pick_microseconds(value: &[u8]) -> Moment
-    ensures { result ≡ in_microseconds value.now }
+fn pick_microseconds(value: &[u8]) -> Result<Option<u64>, NotReport>
+    ensures { result ≡ date_time_microseconds value.now }
 {
     if value.len() != 8 {
-        return Moment {
-            fits: false,
-            milliseconds: None,
-        };
+        return Err(NotReport::FieldLength);
+    }
+    let fraction = BigEndian::read_u32(&value[4..]) / 2048 * 2048;
+    Ok(after_1970(BigEndian::read_u32(value), fraction))
+}
+
+fn pick_nanoseconds(value: &[u8]) -> Result<Option<u64>, NotReport>
+    ensures { result ≡ date_time_nanoseconds value.now }
+{
+    if value.len() != 8 {
+        return Err(NotReport::FieldLength);
     }
     let fraction = BigEndian::read_u32(&value[4..]);
-    Moment {
-        fits: true,
-        milliseconds: after_1970(BigEndian::read_u32(value), fraction / 2048 * 2048),
-    }
+    Ok(after_1970(BigEndian::read_u32(value), fraction))
 }
 
-fn pick_nanoseconds(value: &[u8]) -> Moment
-    ensures { result ≡ in_nanoseconds value.now }
-{
-    if value.len() != 8 {
-        return Moment {
-            fits: false,
-            milliseconds: None,
-        };
-    }
-    let fraction = BigEndian::read_u32(&value[4..]);
-    Moment {
-        fits: true,
-        milliseconds: after_1970(BigEndian::read_u32(value), fraction),
-    }
-}
-
-fn pick_seconds(value: &[u8]) -> Moment
-    ensures { result ≡ in_seconds value.now }
+fn pick_seconds(value: &[u8]) -> Result<Option<u64>, NotReport>
+    ensures { result ≡ date_time_seconds value.now }
 {
     if value.len() != 4 {
-        return Moment {
-            fits: false,
-            milliseconds: None,
-        };
+        return Err(NotReport::FieldLength);
     }
-    Moment {
-        fits: true,
-        milliseconds: Some(u64::from(BigEndian::read_u32(value)) * 1000),
-    }
+    Ok(Some(u64::from(BigEndian::read_u32(value)) * 1000))
 }
 
-/// The time of a record: the first of the four elements that is there.
+/// The time of a record, of the first of the four elements that is there: its milliseconds, or none before 1970.
 #[tactic(auto, unfolding(crate::specs::Extract::time_in))]
-fn pick_time<F: DataField>(fields: &[F]) -> Option<Moment>
+fn pick_time<F: DataField>(fields: &[F]) -> Option<Result<Option<u64>, NotReport>>
     ensures { result ≡ time_in (map F.seen fields.now) }
 {
     if let Some(value) = find(fields, OBSERVATION_TIME_MILLISECONDS) {
@@ -212,7 +168,10 @@ fn pick_section<F: DataField>(fields: &[F]) -> Option<(u32, u8)>
 }
 
 #[tactic(auto, unfolding(crate::specs::Extract::octets_in))]
-fn pick_octets<F: DataField>(fields: &[F], section: Option<(u32, u8)>) -> Option<Picked>
+fn pick_octets<F: DataField>(
+    fields: &[F],
+    section: Option<(u32, u8)>,
+) -> Option<Result<u64, NotReport>>
     ensures { result ≡ octets_in (map F.seen fields.now) section }
 {
     if let Some(value) = find(fields, IP_TOTAL_LENGTH) {
@@ -226,83 +185,69 @@ fn pick_octets<F: DataField>(fields: &[F], section: Option<(u32, u8)>) -> Option
     }
     match section {
         None => None,
-        Some((octets, _)) => Some(Picked {
-            fits: true,
-            value: u64::from(octets),
-        }),
+        Some((octets, _)) => Some(Ok(u64::from(octets))),
     }
 }
 
 #[tactic(auto, unfolding(crate::specs::Extract::code_point_in))]
-fn pick_code_point<F: DataField>(fields: &[F], section: Option<(u32, u8)>) -> Picked
+fn pick_code_point<F: DataField>(fields: &[F], section: Option<(u32, u8)>) -> Result<u64, NotReport>
     ensures { result ≡ code_point_in (map F.seen fields.now) section }
 {
     if let Some(value) = find(fields, IP_DIFF_SERV_CODE_POINT) {
         return pick_unsigned(1, value);
     }
     if let Some(value) = find(fields, IP_CLASS_OF_SERVICE) {
-        let found = pick_unsigned(1, value);
-        return Picked {
-            fits: found.fits,
-            value: found.value / 4,
-        };
+        return Ok(pick_unsigned(1, value)? / 4);
     }
     match section {
-        None => Picked {
-            fits: true,
-            value: 0,
-        },
-        Some((_, point)) => Picked {
-            fits: true,
-            value: u64::from(point),
-        },
+        None => Ok(0),
+        Some((_, point)) => Ok(u64::from(point)),
     }
 }
 
 #[tactic(auto, unfolding(crate::specs::Extract::interface_in))]
-fn pick_interface<F: DataField>(fields: &[F]) -> Picked
+fn pick_interface<F: DataField>(fields: &[F]) -> Result<u64, NotReport>
     ensures value { result ≡ interface_in (map F.seen fields.now) }
-    ensures small { result.value < 2 ^ 32 }
+    ensures small { IfOk result (λ n. n < 2 ^ 32) }
 {
     match find(fields, INGRESS_INTERFACE) {
-        None => Picked {
-            fits: true,
-            value: 0,
-        },
+        None => Ok(0),
         Some(value) => pick_unsigned(4, value),
     }
 }
 
+/// Judges what was taken: first whether each has a length that it may have, then what it says.
 fn judge(
-    time: Moment,
-    octets: Picked,
-    point: Picked,
-    interface: Picked,
+    time: Result<Option<u64>, NotReport>,
+    octets: Result<u64, NotReport>,
+    point: Result<u64, NotReport>,
+    interface: Result<u64, NotReport>,
     identity: Identity,
 ) -> Result<Report, NotReport>
-    requires { interface.value < 2 ^ 32 }
+    requires { IfOk interface (λ n. n < 2 ^ 32) }
     ensures { result ≡ judged time octets point interface identity.domain identity.place }
 {
-    if !(time.fits && octets.fits && point.fits && interface.fits) {
-        return Err(NotReport::FieldLength);
-    }
-    let Some(time) = time.milliseconds else {
+    let time = time?;
+    let octets = octets?;
+    let point = point?;
+    let interface = interface?;
+    let Some(time) = time else {
         return Err(NotReport::BadTime);
     };
     if time >= 1 << 48 {
         return Err(NotReport::BadTime);
     }
-    if octets.value < 1 || octets.value > 65_575 {
+    if octets < 1 || octets > 65_575 {
         return Err(NotReport::BadSize);
     }
-    if point.value > 63 {
+    if point > 63 {
         return Err(NotReport::BadDscp);
     }
     let content = Content {
         time,
-        octets: octets.value as u32,
-        dscp: point.value as u8,
-        iface: interface.value as u32,
+        octets: octets as u32,
+        dscp: point as u8,
+        iface: interface as u32,
     };
     match Report::new(identity, content) {
         Some(report) => Ok(report),

@@ -1,10 +1,12 @@
 //! Inputs: log exports and captures.
-ghost use Rattle.std.specs.Prelude.{◌≡◌, ◌<◌, ◌≤◌, List, ℕ, Ok, IsErrOf, IsTrue, length};
+ghost use Rattle.std.specs.Prelude.{◌≡◌, ◌≢◌, ◌<◌, ◌≤◌, List, ℕ, Ok, Err, IfErr, IsErrOf, IsOkAnd, IsTrue, length, true};
 ghost use Rattle.std.specs.List.{AllByRecursion};
 ghost use Rattle.tca_wire.specs.Walks.{Gives};
 ghost use Rattle.tca_report.specs.FaultNumbers.{input_number};
+ghost use Rattle.tca_report.specs.ExportReading.{reading};
 ghost use Rattle.tca_report.specs.Inputs.{Heard, input_of, is_export, nothing};
 ghost use Rattle.tca_report.specs.Captures.{IsInput};
+ghost use Rattle.tca_report.specs.FirstFaults.{IsFirstFault};
 ghost use Rattle.tca_report.specs.Gathering.{said, gathered, notes_of};
 
 use crate::capture::read_capture;
@@ -116,8 +118,13 @@ fn has_magic(octets: &[u8]) -> bool
 pub fn gather(alloc: Global, octets: &[u8]) -> Result<Gathered, InputFault>
     ensures exact { Gives InputFault.Memory gathered result (said (input_of octets.now)) }
 
-    // An input without octets takes no memory.
+    // A fault is the first from the left.
+    ensures first { IfErr result (λ f. f ≢ InputFault.Memory → IsFirstFault octets.now f) }
+
+    // An input without octets takes no memory, and a log export only where nothing is wrong with it and it has a report.
     ensures memory { IsErrOf result InputFault.Memory → 0 < length octets.now }
+    ensures memory_last { IsErrOf result InputFault.Memory → is_export octets.now ≡ true
+        → IsOkAnd (reading octets.now) (λ rs. 0 < length rs) }
 {
     if !has_magic(octets) {
         return read_capture(alloc, octets);
@@ -133,8 +140,11 @@ pub fn gather(alloc: Global, octets: &[u8]) -> Result<Gathered, InputFault>
 }
 
 /// The law of inputs: what is read of an input from the left is what it is, the octets of a log export, or messages one after the
-/// other, each of which is what RFC 7011 says of it in the session of those before it.
+/// other, each of which is what RFC 7011 says of it in the session of those before it. Where it is neither, the fault is the one before
+/// which all is right.
 pub fn input_words()
     ensures found { (octets : List ℕ) (after : Heard) → AllByRecursion (λ (b : ℕ). b < 256) octets → input_of octets ≡ Ok after → IsInput octets after }
     ensures only { (octets : List ℕ) (after : Heard) → IsInput octets after → input_of octets ≡ Ok after }
+    ensures fault { (octets : List ℕ) (f : InputFault) → input_of octets ≡ Err f → IsFirstFault octets f }
+    ensures no_other { (octets : List ℕ) (f : InputFault) → IsFirstFault octets f → input_of octets ≡ Err f }
 {}

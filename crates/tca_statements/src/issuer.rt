@@ -1,5 +1,5 @@
 //! Issuing amounts. A period of a bill, and what was issued for it, are found in logarithmic time.
-ghost use Rattle.std.specs.Prelude.{◌≡◌, ◌≢◌, ◌<◌, ◌==◌, ◌∷◌, ◌++◌, ℕ, [], IfOk, IsErrOf, OnOk, OnErr, MatchResult, option_copied, Some, None, false, length};
+ghost use Rattle.std.specs.Prelude.{◌≡◌, ◌≢◌, ◌<◌, ◌==◌, ◌∷◌, ◌++◌, ℕ, [], IfOk, IsErrOf, IsOk, OnOk, OnErr, MatchResult, option_copied, Some, None, false, length};
 ghost use Rattle.std.specs.List.{find};
 ghost use Rattle.tca_accounts.specs.Plans.{same_pair};
 ghost use Rattle.tca_accounts.specs.Spans.{Ascend};
@@ -37,7 +37,8 @@ impl Model for Issuer {
 impl Issuer {
     /// One that has issued nothing for this plan's accounts.
     pub fn new(alloc: Global, plan: &Plan) -> Result<Issuer, AllocError>
-        ensures { IfOk result (λ i. i ≡ record { accounts = length plan.now.accounts; period = plan.now.period; entries = [] }) }
+        ensures made { IfOk result (λ i. i ≡ record { accounts = length plan.now.accounts; period = plan.now.period; entries = [] }) }
+        ensures always { IsOk result }
     {
         Ok(Issuer {
             alloc,

@@ -78,15 +78,15 @@ value_found size octets x e = go (size == 65535) refl e
         subst (λ (p : ℕ × ℕ). IsValue size (take p.1 (drop p.0 octets)) (take (p.0 + p.1) octets)) f.1 (Fixed other (take-add 0 size octets) (length-take-le size octets (omega (arith, f.0))))
 
 -- the fields that were read, behind others
-record AreFields (fields : List FieldView) (used : ℕ) (specs : List FieldSpec) (octets : List ℕ) (x : List FieldView × ℕ) : Type 0 where
-  more : List FieldView
-  size : ℕ
-  is : x.0 ≡ fields ++ more
-  all : x.1 ≡ used + size
-  within : size ≤ length octets
-  each : IsRecord specs more (take size octets)
+pub record AreFields (fields : List FieldView) (used : ℕ) (specs : List FieldSpec) (octets : List ℕ) (x : List FieldView × ℕ) : Type 0 where
+  pub more : List FieldView
+  pub size : ℕ
+  pub is : x.0 ≡ fields ++ more
+  pub all : x.1 ≡ used + size
+  pub within : size ≤ length octets
+  pub each : IsRecord specs more (take size octets)
 
-fields_found : (fields : List FieldView) (used : ℕ) (specs : List FieldSpec) (octets : List ℕ) (x : List FieldView × ℕ)
+pub fields_found : (fields : List FieldView) (used : ℕ) (specs : List FieldSpec) (octets : List ℕ) (x : List FieldView × ℕ)
     → fields_on fields used specs octets ≡ Some x → AreFields fields used specs octets x
 fields_found fields used [] octets x e =
     let done : List FieldView × ℕ = (fields, used) in
@@ -224,7 +224,7 @@ value_front size value own rest (Long is p) =
       value_is = ap (λ os. take (length value) (drop 3 os)) whole ∙ take_at value rest (length value) refl;
     }
 
-fields_only : (fields : List FieldView) (used : ℕ) (specs : List FieldSpec) (more : List FieldView) (own rest : List ℕ) → IsRecord specs more own
+pub fields_only : (fields : List FieldView) (used : ℕ) (specs : List FieldSpec) (more : List FieldView) (own rest : List ℕ) → IsRecord specs more own
     → fields_on fields used specs (own ++ rest) ≡ Some (fields ++ more, used + length own)
 fields_only fields used [] [] own rest p =
     let none : length own ≡ 0 = ap length p in
@@ -249,22 +249,30 @@ fields_only fields used (s ∷ ss) (f ∷ more) own rest p =
     ∙ ap₂ (λ (fs : List FieldView) (n : ℕ). Some (fs, n)) (append_assoc fields (f ∷ []) more) all
 
 module _ (h : Header) (t : TemplateView) where
-  records_only : 0 < shortest_of t.specs → (rs : List (List FieldView)) (before : List PlacedView) (at : ℕ) (front padding : List ℕ)
-      → InTurn (IsRecord t.specs) rs front → length padding < shortest_of t.specs
-      → walk (data_front h t) before at (front ++ padding) ≡ Ok (placed_behind h t.options before rs)
-  records_only some [] before at front padding p few = ap (λ os. walk (data_front h t) before at (os ++ padding)) p ∙ data_ends h t some before at padding few
-  records_only some (r ∷ rs) before at front padding p few =
-      let tail = p.rest ++ padding in
-      let octets : front ++ padding ≡ p.own ++ tail = ap (λ os. os ++ padding) p.whole ∙ append_assoc p.own p.rest padding in
+  -- records in front of other octets are read one after the other
+  pub records_pass : 0 < shortest_of t.specs → (rs : List (List FieldView)) (before : List PlacedView) (at : ℕ) (front rest : List ℕ) → InTurn (IsRecord t.specs) rs front
+      → walk (data_front h t) before at (front ++ rest) ≡ walk (data_front h t) (placed_behind h t.options before rs) (at + length front) rest
+  records_pass some [] before at front rest p =
+      let none : length front ≡ 0 = ap length p in
+      let here : at ≡ at + length front = omega (arith, none) in
+      ap (λ os. walk (data_front h t) before at (os ++ rest)) p ∙ ap (λ n. walk (data_front h t) before n rest) here
+  records_pass some (r ∷ rs) before at front rest p =
+      let tail = p.rest ++ rest in
+      let octets : front ++ rest ≡ p.own ++ tail = ap (λ os. os ++ rest) p.whole ∙ append_assoc p.own p.rest rest in
       let all : 0 + length p.own ≡ length p.own = omega arith in
       let read : fields_on [] 0 t.specs (p.own ++ tail) ≡ Some (r, length p.own) = fields_only [] 0 t.specs r p.own tail p.is ∙ ap (λ n. Some (r, n)) all in
       let told = fields_told [] 0 t.specs (p.own ++ tail) (r, length p.own) read in
+      let size : length front ≡ length p.own + length p.rest = ap length p.whole ∙ length-append p.own p.rest in
+      let there : at + length p.own + length p.rest ≡ at + length front = omega (arith, size) in
       ap (λ os. walk (data_front h t) before at os) octets
       ∙ data_next h t some before at (p.own ++ tail) r (length p.own) (omega (arith, told.least, length-append p.own tail)) read
       ∙ ap (λ os. walk (data_front h t) (before ++ placed h t.options before r ∷ []) (at + length p.own) os) (drop_at p.own tail (length p.own) refl)
-      ∙ records_only some rs (before ++ placed h t.options before r ∷ []) (at + length p.own) p.rest padding p.behind few
+      ∙ records_pass some rs (before ++ placed h t.options before r ∷ []) (at + length p.own) p.rest rest p.behind
+      ∙ ap (λ n. walk (data_front h t) (placed_behind h t.options before (r ∷ rs)) n rest) there
 
   pub data_set_only : (rs : List (List FieldView)) (before : List PlacedView) (at : ℕ) (octets : List ℕ)
       → IsDataSet t rs octets → walk (data_front h t) before at octets ≡ Ok (placed_behind h t.options before rs)
   data_set_only rs before at octets p =
-      ap (λ os. walk (data_front h t) before at os) p.whole ∙ records_only (omega (arith, p.few)) rs before at p.front p.padding p.each p.few
+      let some : 0 < shortest_of t.specs = omega (arith, p.few) in
+      ap (λ os. walk (data_front h t) before at os) p.whole ∙ records_pass some rs before at p.front p.padding p.each
+      ∙ data_ends h t some (placed_behind h t.options before rs) (at + length p.front) p.padding p.few

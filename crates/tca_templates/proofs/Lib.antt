@@ -10,5 +10,9 @@ pub mod Placing
 pub mod PartLaws
 pub mod TemplateSetLaws
 pub mod DataSetLaws
+pub mod TemplateFaults
+pub mod TemplateSetFaults
+pub mod DataSetFaults
 pub mod SessionLaws
+pub mod FirstFaults
 pub mod SessionMaps

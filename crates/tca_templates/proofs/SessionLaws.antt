@@ -23,7 +23,7 @@ use Rattle.tca_templates.proofs.Choices.{chosen, refused, same_some, same_ok}
 use Rattle.tca_templates.proofs.TemplateSetLaws.{template_set_found, template_set_only}
 use Rattle.tca_templates.proofs.DataSetLaws.{data_set_found, data_set_only}
 
-known_has : (k : Key) (ts : Templates) (t : TemplateView) → HaveOctets ts → known k ts ≡ Some t → 0 < shortest_of t.specs
+pub known_has : (k : Key) (ts : Templates) (t : TemplateView) → HaveOctets ts → known k ts ≡ Some t → 0 < shortest_of t.specs
 unfolding known
 known_has k [] t all e = absurd cc
 known_has k (x ∷ xs) t all e = go (λ h. known_has k xs t all.1 h) (same_key k x.0) e
@@ -85,9 +85,9 @@ templates_have [] = tt
 templates_have (e ∷ es) = (omega (arith, e.1.right, e.1.some), templates_have es)
 
 -- what came of a set
-record IsFound (h : Header) (octets : List ℕ) (seen after : Seen) (s : SetSpan) : Type 0 where
-  set : IsSet h octets seen after s
-  have : HaveOctets after.templates
+pub record IsFound (h : Header) (octets : List ℕ) (seen after : Seen) (s : SetSpan) : Type 0 where
+  pub set : IsSet h octets seen after s
+  pub have : HaveOctets after.templates
 
 templates_told : (seen after : Seen) (r : Result Templates DecodeFault) → with_templates seen r ≡ Ok after → (ts : Templates) × (r ≡ Ok ts) × (after ≡ record seen { templates = ts })
 templates_told seen after (Ok ts) e = (ts, refl, sym (same_ok _ after e))
@@ -115,7 +115,7 @@ data_found h octets seen after s all least None u (Some t) k e =
       have = subst (λ (x : Seen). HaveOctets x.templates) (sym r.2) all;
     }
 
-set_found : (h : Header) (octets : List ℕ) (seen after : Seen) (s : SetSpan) → HaveOctets seen.templates → set_of h octets seen s ≡ Ok after → IsFound h octets seen after s
+pub set_found : (h : Header) (octets : List ℕ) (seen after : Seen) (s : SetSpan) → HaveOctets seen.templates → set_of h octets seen s ≡ Ok after → IsFound h octets seen after s
 unfolding set_of
 set_found h octets seen after s all e = elim (chosen (s.id == 2) _ _ (Ok after) e) [
   | inl w ↦
@@ -160,7 +160,7 @@ pub reading_found : (ts : Templates) (h : Header) (octets : List ℕ) (ss : List
     → read_of ts h octets ss ≡ Ok after → IsReading ts h octets ss after
 reading_found ts h octets ss after all e = sets_found h octets (before ts) ss after all e
 
-set_only : (h : Header) (octets : List ℕ) (seen after : Seen) (s : SetSpan) → IsSet h octets seen after s → set_of h octets seen s ≡ Ok after
+pub set_only : (h : Header) (octets : List ℕ) (seen after : Seen) (s : SetSpan) → IsSet h octets seen after s → set_of h octets seen s ≡ Ok after
 unfolding set_of
 set_only h octets seen after s (TemplateSet two ts p is) =
     let t1 : (s.id == 2) ≡ true = grind (arith, nat_tests, two) in

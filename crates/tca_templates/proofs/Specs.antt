@@ -9,7 +9,7 @@ use Rattle.tca_templates.specs.declared.template.FieldSpec.{FieldSpec}
 use Rattle.tca_templates.specs.declared.fault.DecodeFault.{DecodeFault}
 use Rattle.tca_templates.specs.Templates.{least_of, shortest_of}
 use Rattle.tca_templates.specs.Specifiers.{spec_at, specs_in, specs_on}
-use Rattle.tca_templates.proofs.Choices.{chosen, passed, same_some}
+use Rattle.tca_templates.proofs.Choices.{chosen, passed, same_some, one_fault, no_fault}
 
 pub spec_size : (octets : List ℕ) (x : FieldSpec × ℕ) → spec_at octets ≡ Some x → x.1 ≤ length octets
 spec_size octets x e =
@@ -45,6 +45,17 @@ specs_cut cut specs used n octets e =
 pub specs_done : (cut : DecodeFault) (specs : List FieldSpec) (used : ℕ) (octets : List ℕ) → specs_on cut specs used 0 octets ≡ Ok (specs, used)
 unfolding specs_on
 specs_done cut specs used octets = refl
+
+-- where specifiers are cut off, this is the fault
+pub specs_refused : (cut : DecodeFault) (specs : List FieldSpec) (used n : ℕ) (octets : List ℕ) (f : DecodeFault) → specs_on cut specs used n octets ≡ Err f → f ≡ cut
+specs_refused cut specs used zero octets f e =
+    let done : List FieldSpec × ℕ = (specs, used) in
+    absurd (no_fault done f (sym (specs_done cut specs used octets) ∙ e))
+specs_refused cut specs used (suc n) octets f e = go (λ more u rest h. specs_refused cut more u n rest f h) (spec_at octets) refl
+  where
+    go : ((more : List FieldSpec) (u : ℕ) (rest : List ℕ) → specs_on cut more u n rest ≡ Err f → f ≡ cut) → (o : Option (FieldSpec × ℕ)) → spec_at octets ≡ o → f ≡ cut
+    go more None o = one_fault (specs_on cut specs used (suc n) octets) f cut e (specs_cut cut specs used n octets o)
+    go more (Some x) o = more (specs ++ x.0 ∷ []) (used + x.1) (drop x.1 octets) (sym (specs_next cut specs used n octets x o) ∙ e)
 
 pub specs_in_next : (n : ℕ) (octets : List ℕ) (x : FieldSpec × ℕ) → spec_at octets ≡ Some x → specs_in (suc n) octets ≡ x.0 ∷ specs_in n (drop x.1 octets)
 unfolding specs_in

@@ -48,16 +48,16 @@ spec_found octets x e =
     ]
 
 -- the specifiers that were read, behind others
-record AreSpecifiers (specs : List FieldSpec) (used n : ℕ) (octets : List ℕ) (x : List FieldSpec × ℕ) : Type 0 where
-  more : List FieldSpec
-  size : ℕ
-  is : x.0 ≡ specs ++ more
-  all : x.1 ≡ used + size
-  within : size ≤ length octets
-  count : length more ≡ n
-  each : InTurn IsSpecifier more (take size octets)
+pub record AreSpecifiers (specs : List FieldSpec) (used n : ℕ) (octets : List ℕ) (x : List FieldSpec × ℕ) : Type 0 where
+  pub more : List FieldSpec
+  pub size : ℕ
+  pub is : x.0 ≡ specs ++ more
+  pub all : x.1 ≡ used + size
+  pub within : size ≤ length octets
+  pub count : length more ≡ n
+  pub each : InTurn IsSpecifier more (take size octets)
 
-specs_found : (cut : DecodeFault) (specs : List FieldSpec) (used n : ℕ) (octets : List ℕ) (x : List FieldSpec × ℕ)
+pub specs_found : (cut : DecodeFault) (specs : List FieldSpec) (used n : ℕ) (octets : List ℕ) (x : List FieldSpec × ℕ)
     → specs_on cut specs used n octets ≡ Ok x → AreSpecifiers specs used n octets x
 specs_found cut specs used zero octets x e =
     let done : List FieldSpec × ℕ = (specs, used) in
@@ -90,7 +90,7 @@ specs_found cut specs used (suc n) octets x e = go (λ more u rest h. specs_foun
           each = record { own = take y.1 octets; rest = take r.size (drop y.1 octets); whole = take-add y.1 r.size octets; is = spec_found octets y o; behind = r.each };
         }
 
-head_found : (options : Bool) (at count : ℕ) (octets : List ℕ) (n : ℕ) → 4 ≤ length octets → head_of options at count octets ≡ Ok n
+pub head_found : (options : Bool) (at count : ℕ) (octets : List ℕ) (n : ℕ) → 4 ≤ length octets → head_of options at count octets ≡ Ok n
     → (n ≡ head_size options) × (n ≤ length octets) × HasScope options count octets
 head_found false at count octets n le e = let k : 4 ≡ n = cc in (sym k, omega (arith, k), tt)
 head_found true at count octets n le e =
@@ -106,7 +106,7 @@ scope_taken true count m octets le within h =
     let s = number_taken 2 4 m octets (omega arith) within in
     (omega (arith, s, h.0), omega (arith, s, h.1))
 
-head_least : (options : Bool) → 4 ≤ head_size options
+pub head_least : (options : Bool) → 4 ≤ head_size options
 head_least false = omega arith
 head_least true = omega arith
 
@@ -150,7 +150,7 @@ definition_found options at octets x le least most e = go (head_of options at co
     go (Err f) h e = absurd cc
     go (Ok n) h e = of n h (specs_on (TemplateCut at) [] n count (drop n octets)) refl e
 
-record_found : (options : Bool) (at : ℕ) (octets : List ℕ) (x : ChangeView × ℕ) → 4 ≤ length octets → change_at options at octets ≡ Ok x → IsTemplateRecord options x.0 (take x.1 octets)
+pub record_found : (options : Bool) (at : ℕ) (octets : List ℕ) (x : ChangeView × ℕ) → 4 ≤ length octets → change_at options at octets ≡ Ok x → IsTemplateRecord options x.0 (take x.1 octets)
 unfolding change_at
 record_found options at octets x le e =
     let id = big_number 2 octets in
@@ -262,7 +262,7 @@ spec_front s own rest (inr p) =
     let e3 : long ≡ Some (found, 8) = ap (λ b. cond b None (Some (found, 8))) t3 in
     e1 ∙ e2 ∙ e3 ∙ ap₂ (λ (t : FieldSpec) (n : ℕ). Some (t, n)) same (sym p.size)
 
-specs_only : (cut : DecodeFault) (specs : List FieldSpec) (used : ℕ) (more : List FieldSpec) (own rest : List ℕ) → InTurn IsSpecifier more own
+pub specs_only : (cut : DecodeFault) (specs : List FieldSpec) (used : ℕ) (more : List FieldSpec) (own rest : List ℕ) → InTurn IsSpecifier more own
     → specs_on cut specs used (length more) (own ++ rest) ≡ Ok (specs ++ more, used + length own)
 specs_only cut specs used [] own rest p =
     let none : length own ≡ 0 = ap length p in
@@ -279,16 +279,20 @@ specs_only cut specs used (s ∷ more) own rest p =
     ∙ specs_only cut (specs ++ s ∷ []) (used + length p.own) more p.rest rest p.behind
     ∙ ap₂ (λ (ss : List FieldSpec) (n : ℕ). Ok (ss, n)) (append_assoc specs (s ∷ []) more) all
 
-head_only : (options : Bool) (at count : ℕ) (own rest : List ℕ) → head_size options ≤ length own → HasScope options count own → head_of options at count (own ++ rest) ≡ Ok (head_size options)
-head_only false at count own rest le h = refl
-head_only true at count own rest le h =
-    let octets = own ++ rest in
-    let scope = number_front 2 4 own rest (omega arith) in
-    let t1 : nat_lt (length octets) 6 ≡ false = grind (arith, nat_tests, length-append own rest, le) in
-    let t2 : ((big_number 2 (drop 4 octets) == 0) || nat_lt count (big_number 2 (drop 4 octets))) ≡ false = grind (arith, nat_tests, scope, h.0, h.1) in
-    let more : Result ℕ DecodeFault = cond ((big_number 2 (drop 4 octets) == 0) || nat_lt count (big_number 2 (drop 4 octets))) (Err (Scope at)) (Ok 6) in
-    let e1 : head_of true at count octets ≡ more = ap (λ b. cond b (Err (TemplateCut at)) more) t1 in
-    e1 ∙ ap (λ b. cond b (Err (Scope at)) (Ok 6)) t2
+pub head_right : (options : Bool) (at count : ℕ) (octets : List ℕ) → head_size options ≤ length octets → HasScope options count octets → head_of options at count octets ≡ Ok (head_size options)
+head_right false at count octets head scope = refl
+head_right true at count octets head scope =
+    let n = big_number 2 (drop 4 octets) in
+    let t1 : nat_lt (length octets) 6 ≡ false = grind (arith, nat_tests, head) in
+    let t2 : ((n == 0) || nat_lt count n) ≡ false = grind (arith, nat_tests, scope.0, scope.1) in
+    rw (t1, t2) refl
+
+-- a scope in front of other octets
+pub scope_front : (options : Bool) (count : ℕ) (own rest : List ℕ) → head_size options ≤ length own → HasScope options count own → HasScope options count (own ++ rest)
+scope_front false count own rest le h = tt
+scope_front true count own rest le h =
+    let s = number_front 2 4 own rest (omega arith) in
+    (omega (arith, s, h.0), omega (arith, s, h.1))
 
 -- the tests of a template record, by its identifier and its count of fields
 abbrev change_of : Bool → ℕ → List ℕ → ℕ → ℕ → Result (ChangeView × ℕ) DecodeFault
@@ -307,6 +311,11 @@ change_by options at octets id count i c = ap₂ (λ i c. change_of options at o
 set_below : (options : Bool) → set_id options < 256
 set_below false = omega arith
 set_below true = omega arith
+
+-- what gives an octet has a specifier
+pub some_specs : (ss : List FieldSpec) → 0 < shortest_of ss → 0 < length ss
+some_specs [] some = absurd (omega arith)
+some_specs (s ∷ ss) some = omega arith
 
 -- a template record in front of other octets
 record_front : (options : Bool) (at : ℕ) (c : ChangeView) (own rest : List ℕ) → IsTemplateRecord options c own
@@ -351,37 +360,44 @@ record_front options at (New id specs) own rest p =
     let l2 : Result (ChangeView × ℕ) DecodeFault = cond (nat_lt id 256) (Err (TemplateId at)) l3 in (
       change_by options at octets id count i c
           ∙ ap (λ b. cond b (Ok (AllGone, 4)) l2) t1 ∙ ap (λ b. cond b (Err (TemplateId at)) l3) t2 ∙ ap (λ b. cond b (Ok (Gone id, 4)) l4) t3 ∙ ap (λ b. cond b (Err TooMany) l5) t4
-          ∙ ap (behind_head id at count octets) (head_only options at count own rest p.head p.scope)
+          ∙ ap (behind_head id at count octets) (head_right options at count octets (omega (arith, p.head, length-append own rest)) (scope_front options count own rest p.head p.scope))
           ∙ ap (defined id) specs_are
           ∙ ap (λ b. cond b (Err (EmptyTemplate id)) (Ok (New id specs, length own))) t5,
       omega (arith, p.head, four),
     )
-  where
-    some_specs : (ss : List FieldSpec) → 0 < shortest_of ss → 0 < length ss
-    some_specs [] some = absurd (omega arith)
-    some_specs (s ∷ ss) some = omega arith
 
-records_only : (domain : ℕ) (options : Bool) (cs : List ChangeView) (ts us : Templates) (at : ℕ) (records padding : List ℕ)
-    → InTurn (IsTemplateRecord options) cs records → length padding ≤ 3 → after_changes domain options ts cs ≡ Ok us
-    → walk (template_front domain options) ts at (records ++ padding) ≡ Ok us
-records_only domain options [] ts us at records padding p few e =
-    ap (λ os. walk (template_front domain options) ts at (os ++ padding)) p ∙ changes_end domain options ts at padding (omega (arith, few)) ∙ e
-records_only domain options (c ∷ cs) ts us at records padding p few e = go (λ vs at h. records_only domain options cs vs us at p.rest padding p.behind few h) (changed domain options ts c) refl
+-- template records in front of other octets take effect one after the other
+pub changes_pass : (domain : ℕ) (options : Bool) (cs : List ChangeView) (ts us : Templates) (at : ℕ) (records rest : List ℕ)
+    → InTurn (IsTemplateRecord options) cs records → after_changes domain options ts cs ≡ Ok us
+    → walk (template_front domain options) ts at (records ++ rest) ≡ walk (template_front domain options) us (at + length records) rest
+changes_pass domain options [] ts us at records rest p e =
+    let none : length records ≡ 0 = ap length p in
+    let here : at ≡ at + length records = omega (arith, none) in
+    ap (λ os. walk (template_front domain options) ts at (os ++ rest)) p ∙ ap₂ (λ (vs : Templates) (n : ℕ). walk (template_front domain options) vs n rest) (same_ok ts us e) here
+changes_pass domain options (c ∷ cs) ts us at records rest p e = go (λ vs at h. changes_pass domain options cs vs us at p.rest rest p.behind h) (changed domain options ts c) refl
   where
-    go : ((vs : Templates) (at : ℕ) → after_changes domain options vs cs ≡ Ok us → walk (template_front domain options) vs at (p.rest ++ padding) ≡ Ok us)
-        → (r : Result Templates DecodeFault) → changed domain options ts c ≡ r → walk (template_front domain options) ts at (records ++ padding) ≡ Ok us
+    Further : Type 0
+    Further = (vs : Templates) (at : ℕ) → after_changes domain options vs cs ≡ Ok us
+        → walk (template_front domain options) vs at (p.rest ++ rest) ≡ walk (template_front domain options) us (at + length p.rest) rest
+
+    go : Further → (r : Result Templates DecodeFault) → changed domain options ts c ≡ r
+        → walk (template_front domain options) ts at (records ++ rest) ≡ walk (template_front domain options) us (at + length records) rest
     go more (Err f) k = let bad : Err f ≡ Ok us = sym (ap (on_templates (λ vs. after_changes domain options vs cs)) k) ∙ e in absurd cc
     go more (Ok vs) k =
-        let tail = p.rest ++ padding in
-        let octets : records ++ padding ≡ p.own ++ tail = ap (λ os. os ++ padding) p.whole ∙ append_assoc p.own p.rest padding in
+        let tail = p.rest ++ rest in
+        let octets : records ++ rest ≡ p.own ++ tail = ap (λ os. os ++ rest) p.whole ∙ append_assoc p.own p.rest rest in
         let front = record_front options at c p.own tail p.is in
         let four : 4 ≤ length (p.own ++ tail) = omega (arith, front.1, length-append p.own tail) in
+        let size : length records ≡ length p.own + length p.rest = ap length p.whole ∙ length-append p.own p.rest in
+        let there : at + length p.own + length p.rest ≡ at + length records = omega (arith, size) in
         ap (λ os. walk (template_front domain options) ts at os) octets
         ∙ changes_next domain options ts vs at (p.own ++ tail) (c, length p.own) four front.0 k
         ∙ ap (λ os. walk (template_front domain options) vs (at + length p.own) os) (drop_at p.own tail (length p.own) refl)
         ∙ more vs (at + length p.own) (sym (ap (on_templates (λ vs. after_changes domain options vs cs)) k) ∙ e)
+        ∙ ap (λ n. walk (template_front domain options) us n rest) there
 
 pub template_set_only : (domain : ℕ) (options : Bool) (ts us : Templates) (at : ℕ) (octets : List ℕ)
     → IsTemplateSet domain options ts us octets → walk (template_front domain options) ts at octets ≡ Ok us
 template_set_only domain options ts us at octets p =
-    ap (λ os. walk (template_front domain options) ts at os) p.whole ∙ records_only domain options p.changes ts us at p.records p.padding p.each p.few p.effect
+    ap (λ os. walk (template_front domain options) ts at os) p.whole ∙ changes_pass domain options p.changes ts us at p.records p.padding p.each p.effect
+    ∙ changes_end domain options us (at + length p.records) p.padding (omega (arith, p.few))

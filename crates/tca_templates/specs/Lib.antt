@@ -9,3 +9,4 @@ pub mod Parts
 pub mod TemplateSets
 pub mod DataSets
 pub mod Sessions
+pub mod FirstFaults

@@ -1,10 +1,11 @@
 //! A session, which reads messages.
-ghost use Rattle.std.specs.Prelude.{◌≡◌, ◌<◌, ◌≤◌, ◌^◌, length, OnOk, OnErr, IfOk, Ok, Err, map, true};
+ghost use Rattle.std.specs.Prelude.{◌≡◌, ◌≢◌, ◌<◌, ◌≤◌, ◌^◌, length, OnOk, OnErr, IfOk, IfErr, Ok, Err, map, true};
 ghost use Rattle.std.specs.List.{list_any};
 ghost use Rattle.tca_wire.specs.Walks.{Gives};
 ghost use Rattle.tca_templates.specs.Templates.{listed};
 ghost use Rattle.tca_templates.specs.Reading.{read_of, Seen};
 ghost use Rattle.tca_templates.specs.Sessions.{IsReading};
+ghost use Rattle.tca_templates.specs.FirstFaults.{IsFirstFault};
 ghost use Rattle.tca_templates.specs.Fields.{records_of, counted, field_view, is_read};
 ghost use Rattle.tca_templates.specs.Outcomes.{seen_in};
 
@@ -79,6 +80,9 @@ impl Decoder {
         // What is read is what the message is in this session.
         ensures found { IfOk result (λ x. IsReading self.old message.now.header message.now.octets.now message.now.sets.items
             (record { templates = self.new; records = records_of message.now.header.domain (map field_view fields.new.items) rows.new.items; unplaced = x.0; skipped = x.1 })) }
+        // A fault is the first from the left.
+        ensures first { IfErr result (λ f. f ≢ DecodeFault.Memory
+            → IsFirstFault self.old message.now.header message.now.octets.now message.now.sets.items f) }
         // The records of the grammar, the templates after them, or the first fault.
         ensures exact { Gives DecodeFault.Memory
             (λ x. record { templates = self.new; records = records_of message.now.header.domain (map field_view fields.new.items) rows.new.items; unplaced = x.0; skipped = x.1 }) result
@@ -106,6 +110,9 @@ impl Decoder {
     pub fn read(&mut self, alloc: Global, message: &Message<'_>) -> Result<Outcome, DecodeFault>
         // What is read is what the message is in this session.
         ensures found { IfOk result (λ o. IsReading self.old message.now.header message.now.octets.now message.now.sets.items (seen_in self.new o)) }
+        // A fault is the first from the left.
+        ensures first { IfErr result (λ f. f ≢ DecodeFault.Memory
+            → IsFirstFault self.old message.now.header message.now.octets.now message.now.sets.items f) }
         // What the message is in this session is read, unless memory runs out.
         ensures only { (seen : Seen) → IsReading self.old message.now.header message.now.octets.now message.now.sets.items seen →
             Gives DecodeFault.Memory (λ o. seen_in self.new o) result (Ok seen) }

@@ -6,6 +6,8 @@ ghost use Rattle.std.specs.List.{list_any};
 ghost use Rattle.tca_wire.specs.Walks.{Gives};
 ghost use Rattle.tca_templates.specs.Reading.{Seen, body_of, set_of, read_of};
 ghost use Rattle.tca_templates.specs.Sessions.{HaveOctets, IsSession, of_others, ArePlaced, IsReading};
+ghost use Rattle.tca_templates.specs.FirstFaults.{IsFirstFault};
+ghost use Rattle.tca_templates.specs.declared.fault.DecodeFault.{DecodeFault};
 ghost use Rattle.tca_templates.specs.Templates.{Key, Templates, TemplateView, same_key, define, withdraw, withdraw_all, known};
 ghost use Rattle.tca_wire.specs.declared.message.Header.{Header};
 ghost use Rattle.tca_wire.specs.declared.message.SetSpan.{SetSpan};
@@ -126,13 +128,18 @@ pub(crate) fn read_sets<'a>(
     Ok((aside.unplaced, aside.skipped))
 }
 
-/// The law of readings: what is read set by set from the left is what the message is in its session by RFC 7011, where
-/// no template that is known gives its records no octet.
+/// The law of readings: what is read set by set from the left is what the message is in its session by RFC 7011, and
+/// where it is no message of that session, the one fault before which all is right. So it is where no template that is
+/// known gives its records no octet.
 pub fn reading_words()
     ensures found { (ts : Templates) (h : Header) (octets : List ℕ) (ss : List SetSpan) (seen : Seen) → HaveOctets ts
         → read_of ts h octets ss ≡ Ok seen → IsReading ts h octets ss seen }
     ensures only { (ts : Templates) (h : Header) (octets : List ℕ) (ss : List SetSpan) (seen : Seen) → IsReading ts h octets ss seen
         → read_of ts h octets ss ≡ Ok seen }
+    ensures fault { (ts : Templates) (h : Header) (octets : List ℕ) (ss : List SetSpan) (f : DecodeFault) → HaveOctets ts
+        → read_of ts h octets ss ≡ Err f → IsFirstFault ts h octets ss f }
+    ensures no_other { (ts : Templates) (h : Header) (octets : List ℕ) (ss : List SetSpan) (f : DecodeFault) → HaveOctets ts
+        → IsFirstFault ts h octets ss f → read_of ts h octets ss ≡ Err f }
 {}
 
 /// The law of sessions: what a session knows is a finite map from observation domain and ID to a template, within its limits, and

@@ -1,12 +1,13 @@
 -- Gathering the inputs one by one.
-use Rattle.std.proofs.Common.{◌≡◌, ◌∙◌, ℕ, suc, ◌+◌, ◌<◌, ◌≤◌, List, [], ◌∷◌, ◌++◌, length, get_or, map, take, drop, Option, Some, Result, Ok, Err, is_ok, refl, sym, ap, ap₂, add-one, arith}
+use Rattle.std.proofs.Common.{◌≡◌, ◌∙◌, ℕ, suc, ◌+◌, ◌<◌, ◌≤◌, List, [], ◌∷◌, ◌++◌, length, get_or, map, take, drop, Some, Result, Ok, Err, is_ok, true, refl, sym, ap, ap₂, add-one, arith}
+use Rattle.std.specs.Prelude.{IsOk}
 use Rattle.std.proofs.lemmas.List.{length-map, length-take-le, map-append, take-map, take_more}
 use Rattle.std.proofs.Math.Seq.{drop-cons}
 use Rattle.std.proofs.Math.ListN.{drop_of_length-le}
 use Rattle.tca_report.specs.Reports.{PacketReport}
 use Rattle.tca_report.specs.Inputs.{input_of}
 use Rattle.tcacct.specs.declared.fault.RunFault.{RunFault}
-use Rattle.tcacct.specs.Runs.{IsInTurn, IsRefusedAs, and_then, gathered, with_input}
+use Rattle.tcacct.specs.Runs.{IsInTurn, IsRefusedAs, and_then, gathered, is_log_memory, with_input}
 
 cut : {X : Type 0} (f : X → List ℕ) (xs : List X) (i : ℕ) (x : X) → i < length xs → x ≡ get_or xs i x → map f (drop i xs) ≡ f x ∷ map f (drop (i + 1) xs)
 cut f xs i x h is = rw add-one (ap (map f) (drop-cons xs i x h) ∙ ap (λ y. f y ∷ map f (drop (suc i) xs)) (sym is))
@@ -68,5 +69,14 @@ module _ {X : Type 0} (f : X → List ℕ) (inputs : List X) (n : ℕ) (so_far :
       ap (gathered 0 []) cut ∙ one_behind 0 n [] (map f (take n inputs)) (f input) so_far more count taken next
 
   -- a refusal that names the next input
-  pub in_turn : (named : Option ℕ) → named ≡ Some n → IsInTurn (map f inputs) named
-  in_turn named is = rw is (omega (arith, inside, length-map inputs f), ap is_ok (ap (gathered 0 []) (take-map f n inputs) ∙ taken))
+  pub in_turn : (input : X) (e : RunFault) → input ≡ get_or inputs n input → e.input ≡ Some n → (is_log_memory e ≡ true → IsOk (with_input n so_far (input_of (f input))))
+      → IsInTurn (map f inputs) e
+  in_turn input e here is wanted = rw is (
+    omega (arith, inside, length-map inputs f),
+    ap is_ok (ap (gathered 0 []) (take-map f n inputs) ∙ taken),
+    λ short. all_taken (with_input n so_far (input_of (f input))) refl (wanted short),
+  )
+    where
+      all_taken : (r : Result (List PacketReport) RunFault) → with_input n so_far (input_of (f input)) ≡ r → IsOk r → IsOk (gathered 0 [] (take (n + 1) (map f inputs)))
+      all_taken (Ok more) k ok = ap is_ok (ap (gathered 0 []) (take-map f (n + 1) inputs) ∙ one_taken input more here k)
+      all_taken (Err x) k ok = absurd cc

@@ -89,10 +89,19 @@ wants_memory e = (is_family e.family family.Memory && (e.number == 1)) || (is_fa
 abbrev pub IsRefusedAs : {A : Type 0} → RunFault → Result A RunFault → Type 0
 IsRefusedAs e said = wants_memory e ≡ false → said ≡ Err e
 
--- what a refusal names: no input, or one of these where all before it were taken
-abbrev pub IsInTurn : List (List ℕ) → Option ℕ → Type 0
-IsInTurn inputs None = Unit {0}
-IsInTurn inputs (Some n) = (n < length inputs) × IsOk (gathered 0 [] (take n inputs))
+-- the log had no memory for the reports of an input
+abbrev pub is_log_memory : RunFault → Bool
+is_log_memory e = is_family e.family family.Log && (e.number == 2)
+
+-- a refusal that names no input comes where all of them were taken; one that names an input where all before it were, and where the
+-- log had no memory for its reports nothing is wrong with that input itself
+abbrev pub IsNamed : List (List ℕ) → Bool → Option ℕ → Type 0
+IsNamed inputs wanted None = IsOk (gathered 0 [] inputs)
+IsNamed inputs wanted (Some n) = (n < length inputs) × IsOk (gathered 0 [] (take n inputs)) × (wanted ≡ true → IsOk (gathered 0 [] (take (n + 1) inputs)))
+
+-- a refusal comes in the inputs' order
+abbrev pub IsInTurn : List (List ℕ) → RunFault → Type 0
+IsInTurn inputs e = IsNamed inputs (is_log_memory e) e.input
 
 -- a write that failed
 abbrev pub is_write : RunFault → Bool

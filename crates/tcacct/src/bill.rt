@@ -1,10 +1,10 @@
 //! The command `bill`.
-ghost use Rattle.std.specs.Prelude.{◌≡◌, ◌<◌, ◌^◌, ◌⊎◌, OnOk, IfOk, IfErr, true, false, length, map};
+ghost use Rattle.std.specs.Prelude.{◌≡◌, ◌<◌, ◌^◌, ◌⊎◌, [], OnOk, IfOk, IfErr, IsOk, true, false, length, map};
 ghost use Rattle.tca_report.specs.Devices.{Rises};
 ghost use Rattle.tca_accounts.specs.Plans.{AccountPlan};
 ghost use Rattle.tcacct.specs.Billed.{AppendsIfGiven, IsBillCutOff, IsBilled, IsBillRefused, IsPlanOf, RisesGiven, after, before, statement_under};
 ghost use Rattle.tcacct.specs.Noted.{AreNotes};
-ghost use Rattle.tcacct.specs.Runs.{IsInTurn, IsUnion, is_family, is_write};
+ghost use Rattle.tcacct.specs.Runs.{IsInTurn, IsUnion, gathered, is_family, is_write};
 ghost use Rattle.tcacct.specs.declared.fault.Family.TheVariants as family;
 
 use crate::combine::listed;
@@ -33,11 +33,12 @@ fn billed(
     requires { length inputs.now < 2 ^ 32 }
     ensures found { IfOk result (λ x. (p : AccountPlan) × IsPlanOf plan.now p × (x.0 ≡ statement_under p x.1)) }
     ensures union { IfOk result (λ x. IsUnion (map (λ v. v.items) inputs.now) x.1) }
+    ensures taken { OnOk result (IsOk (gathered 0 [] (map (λ v. v.items) inputs.now))) }
     ensures noted { IfOk result (λ x. AreNotes (map (λ v. v.items) inputs.now) x.2.items) }
     ensures no_write { IfErr result (λ e. is_write e ≡ false) }
     ensures refused { IfErr result (IsBillRefused plan.now (map (λ v. v.items) inputs.now)) }
     ensures plan_first { IfErr result (λ e. is_family e.family family.Plan ≡ false → (p : AccountPlan) × IsPlanOf plan.now p) }
-    ensures turn { IfErr result (λ e. IsInTurn (map (λ v. v.items) inputs.now) e.input) }
+    ensures turn { IfErr result (λ e. is_family e.family family.Plan ≡ false → IsInTurn (map (λ v. v.items) inputs.now) e) }
 {
     let plan = match Plan::from_text(alloc, plan) {
         Ok(plan) => plan,
@@ -69,7 +70,7 @@ fn run_exported<W: Write, V: Write>(
     ensures refused { IfErr result (λ e. is_write e ≡ false
         → IsBillRefused plan.now (map (λ v. v.items) inputs.now) e) }
     ensures plan_first { IfErr result (λ e. is_family e.family family.Plan ≡ false → (p : AccountPlan) × IsPlanOf plan.now p) }
-    ensures turn { IfErr result (λ e. IsInTurn (map (λ v. v.items) inputs.now) e.input) }
+    ensures turn { IfErr result (λ e. is_family e.family family.Plan ≡ false → IsInTurn (map (λ v. v.items) inputs.now) e) }
     ensures untouched { IfErr result (λ e. is_write e ≡ false
         → (V.written export.new ≡ V.written export.old) × (W.written out.new ≡ W.written out.old)) }
     ensures quiet { IfErr result (λ e. is_write e ≡ false
@@ -111,7 +112,7 @@ fn run_alone<W: Write>(
     ensures refused { IfErr result (λ e. is_write e ≡ false
         → IsBillRefused plan.now (map (λ v. v.items) inputs.now) e) }
     ensures plan_first { IfErr result (λ e. is_family e.family family.Plan ≡ false → (p : AccountPlan) × IsPlanOf plan.now p) }
-    ensures turn { IfErr result (λ e. IsInTurn (map (λ v. v.items) inputs.now) e.input) }
+    ensures turn { IfErr result (λ e. is_family e.family family.Plan ≡ false → IsInTurn (map (λ v. v.items) inputs.now) e) }
     ensures untouched { IfErr result (λ e. is_write e ≡ false
         → (W.written out.new ≡ W.written out.old) × (W.failures out.new ≡ W.failures out.old)) }
     ensures failed { IfErr result (λ e. is_write e ≡ true
@@ -153,7 +154,7 @@ pub fn run_bill_plain<W: Write, V: Write>(
         → IsBillRefused plan.now (map (λ v. v.items) inputs.now) e) }
     // No refusal comes before the plan's, nor before that of an earlier input, also for want of memory.
     ensures plan_first { IfErr result (λ e. is_family e.family family.Plan ≡ false → (p : AccountPlan) × IsPlanOf plan.now p) }
-    ensures turn { IfErr result (λ e. IsInTurn (map (λ v. v.items) inputs.now) e.input) }
+    ensures turn { IfErr result (λ e. is_family e.family family.Plan ≡ false → IsInTurn (map (λ v. v.items) inputs.now) e) }
     ensures untouched { IfErr result (λ e. is_write e ≡ false
         → (after V.written export.exit ≡ before V.written export.entry) × (W.written out.new ≡ W.written out.old)) }
     ensures quiet { IfErr result (λ e. is_write e ≡ false

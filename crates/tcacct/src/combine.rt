@@ -35,7 +35,7 @@ fn union_of(alloc: Global, inputs: &[Vec<u8>]) -> Result<(Vec<Report>, String), 
     ensures limit { IfOk result (λ x. length x.0.items ≤ 4194304) }
     ensures line { IfOk result (λ x. string_bytes x.1 ≡ combine_text (length x.0.items)) }
     ensures no_write { IfErr result (λ e. is_write e ≡ false) }
-    ensures turn { IfErr result (λ e. IsInTurn (map (λ v. v.items) inputs.now) e.input) }
+    ensures turn { IfErr result (λ e. IsInTurn (map (λ v. v.items) inputs.now) e) }
     ensures exact { MatchResult result (λ x. gathered 0 [] (map (λ v. v.items) inputs.now) ≡ Ok x.0.items)
         (λ e. IsRefusedAs e (gathered 0 [] (map (λ v. v.items) inputs.now))) }
 {
@@ -72,7 +72,7 @@ pub fn run_combine<W: Write, V: Write>(
     ensures refused { IfErr result (λ e. is_write e ≡ false
         → IsRefusedAs e (gathered 0 [] (map (λ v. v.items) inputs.now))) }
     // No refusal comes before that of an earlier input, also for want of memory.
-    ensures turn { IfErr result (λ e. IsInTurn (map (λ v. v.items) inputs.now) e.input) }
+    ensures turn { IfErr result (λ e. IsInTurn (map (λ v. v.items) inputs.now) e) }
     ensures untouched { IfErr result (λ e. is_write e ≡ false
         → (V.written export.new ≡ V.written export.old) × (W.written out.new ≡ W.written out.old)) }
     ensures quiet { IfErr result (λ e. is_write e ≡ false

@@ -1,16 +1,16 @@
 //! The inputs of a command, gathered one by one.
-ghost use Rattle.std.specs.Prelude.{◌≡◌, ◌<◌, ◌^◌, ◌++◌, List, Ok, Some, [], IfErr, IfOk, OnOk, false, length, map, MatchResult};
+ghost use Rattle.std.specs.Prelude.{◌≡◌, ◌<◌, ◌^◌, ◌++◌, List, Ok, Some, [], IfErr, IfOk, IsOk, OnOk, false, true, length, map, MatchResult};
 ghost use Rattle.std.specs.List.Sorted.{IsStrictlySortedBy};
 ghost use Rattle.tca_join.specs.Sets.{in_order};
 ghost use Rattle.tca_report.specs.Reports.{PacketReport, report_cmp};
 ghost use Rattle.tca_report.specs.Inputs.{input_of};
 ghost use Rattle.tcacct.specs.Noted.{AreNotes, IsNoted};
-ghost use Rattle.tcacct.specs.Runs.{IsInTurn, IsRefusedAs, IsUnion, Says, gathered, is_write, with_input};
+ghost use Rattle.tcacct.specs.Runs.{IsInTurn, IsRefusedAs, IsUnion, Says, gathered, is_log_memory, is_write, with_input};
 
 use crate::fault::RunFault;
 use std::alloc::Global;
 use tca_log::Log;
-use tca_report::{Notes, gather};
+use tca_report::{InputFault, Notes, gather};
 
 // Adds the reports of input `n`, and answers its notes.
 fn add_input(alloc: Global, n: u32, octets: &[u8], log: &mut Log) -> Result<Notes, RunFault>
@@ -20,6 +20,7 @@ fn add_input(alloc: Global, n: u32, octets: &[u8], log: &mut Log) -> Result<Note
         × (log.new ≡ in_order report_cmp (log.old ++ rs))) }
     ensures no_write { IfErr result (λ e. is_write e ≡ false) }
     ensures named { IfErr result (λ e. e.input ≡ Some n) }
+    ensures wanted { IfErr result (λ e. is_log_memory e ≡ true → IsOk (with_input n log.old (input_of octets.now))) }
     ensures rises { OnOk result (IsStrictlySortedBy report_cmp log.new) }
     ensures noted { IfOk result (λ notes. IsNoted octets.now notes) }
 {
@@ -44,7 +45,7 @@ pub fn gather_noted(alloc: Global, inputs: &[Vec<u8>]) -> Result<(Log, Vec<Notes
     ensures found { IfOk result (λ x. IsUnion (map (λ v. v.items) inputs.now) x.0) }
     ensures noted { IfOk result (λ x. AreNotes (map (λ v. v.items) inputs.now) x.1.items) }
     ensures no_write { IfErr result (λ e. is_write e ≡ false) }
-    ensures turn { IfErr result (λ e. IsInTurn (map (λ v. v.items) inputs.now) e.input) }
+    ensures turn { IfErr result (λ e. IsInTurn (map (λ v. v.items) inputs.now) e) }
     ensures exact { MatchResult result (λ x. gathered 0 [] (map (λ v. v.items) inputs.now) ≡ Ok x.0)
         (λ e. IsRefusedAs e (gathered 0 [] (map (λ v. v.items) inputs.now))) }
 {
@@ -54,7 +55,7 @@ pub fn gather_noted(alloc: Global, inputs: &[Vec<u8>]) -> Result<(Log, Vec<Notes
         match add_input(alloc, n as u32, input, &mut log) {
             Ok(notes) => {
                 if all.push(notes).is_err() {
-                    return Err(RunFault::memory());
+                    return Err(RunFault::input(n as u32, InputFault::Memory));
                 }
             }
             Err(fault) => return Err(fault),
@@ -68,7 +69,7 @@ pub fn gather_all(alloc: Global, inputs: &[Vec<u8>]) -> Result<Log, RunFault>
     requires { length inputs.now < 2 ^ 32 }
     ensures found { IfOk result (λ log. IsUnion (map (λ v. v.items) inputs.now) log) }
     ensures no_write { IfErr result (λ e. is_write e ≡ false) }
-    ensures turn { IfErr result (λ e. IsInTurn (map (λ v. v.items) inputs.now) e.input) }
+    ensures turn { IfErr result (λ e. IsInTurn (map (λ v. v.items) inputs.now) e) }
     ensures exact { MatchResult result (λ log. gathered 0 [] (map (λ v. v.items) inputs.now) ≡ Ok log)
         (λ e. IsRefusedAs e (gathered 0 [] (map (λ v. v.items) inputs.now))) }
 {

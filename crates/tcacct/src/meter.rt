@@ -1,5 +1,5 @@
 //! The command `meter`.
-ghost use Rattle.std.specs.Prelude.{◌≡◌, ◌<◌, ◌≤◌, ◌^◌, List, Ok, OnOk, IfOk, IfErr, IsOk, MatchResult, true, false, length, map, string_bytes};
+ghost use Rattle.std.specs.Prelude.{◌≡◌, ◌<◌, ◌≤◌, ◌^◌, List, [], Ok, OnOk, IfOk, IfErr, IsOk, MatchResult, true, false, length, map, string_bytes};
 ghost use Rattle.tca_report.specs.Devices.{Rises};
 ghost use Rattle.std.specs.List.Sorted.{IsStrictlySortedBy};
 ghost use Rattle.tca_report.specs.Reports.{PacketReport, report_cmp};
@@ -9,7 +9,7 @@ ghost use Rattle.tca_meters.specs.MeterSpecs.{spec_in};
 ghost use Rattle.tca_meters.specs.Packets.{colours};
 ghost use Rattle.tca_accounts.specs.Sums.{packet_of, sums_of};
 ghost use Rattle.tcacct.specs.Metered.{IsMetered, IsMeteringCutOff, metered_lines, metering};
-ghost use Rattle.tcacct.specs.Runs.{IsInTurn, IsRefusedAs, IsUnion, is_family, is_write};
+ghost use Rattle.tcacct.specs.Runs.{IsInTurn, IsRefusedAs, IsUnion, gathered, is_family, is_write};
 ghost use Rattle.tcacct.specs.declared.fault.Family.TheVariants as family;
 
 use crate::fault::RunFault;
@@ -57,9 +57,10 @@ fn report(alloc: Global, spec: &str, inputs: &[Vec<u8>]) -> Result<String, RunFa
     ensures found { IfOk result (λ text. (meter : AnyMeter) × (spec_in spec.now ≡ Ok meter)
         × (rs : List PacketReport) × IsUnion (map (λ v. v.items) inputs.now) rs
         × (string_bytes text ≡ metered_lines meter rs)) }
+    ensures taken { OnOk result (IsOk (gathered 0 [] (map (λ v. v.items) inputs.now))) }
     ensures no_write { IfErr result (λ e. is_write e ≡ false) }
     ensures spec_first { IfErr result (λ e. is_family e.family family.Spec ≡ false → IsOk (spec_in spec.now)) }
-    ensures turn { IfErr result (λ e. IsInTurn (map (λ v. v.items) inputs.now) e.input) }
+    ensures turn { IfErr result (λ e. is_family e.family family.Spec ≡ false → IsInTurn (map (λ v. v.items) inputs.now) e) }
     ensures exact { MatchResult result
         (λ text. metering spec.now (map (λ v. v.items) inputs.now) ≡ Ok (string_bytes text))
         (λ e. IsRefusedAs e (metering spec.now (map (λ v. v.items) inputs.now))) }
@@ -98,7 +99,7 @@ pub fn run_meter<W: Write>(
         → IsRefusedAs e (metering spec.now (map (λ v. v.items) inputs.now))) }
     // No refusal comes before the spec's, nor before that of an earlier input, also for want of memory.
     ensures spec_first { IfErr result (λ e. is_family e.family family.Spec ≡ false → IsOk (spec_in spec.now)) }
-    ensures turn { IfErr result (λ e. IsInTurn (map (λ v. v.items) inputs.now) e.input) }
+    ensures turn { IfErr result (λ e. is_family e.family family.Spec ≡ false → IsInTurn (map (λ v. v.items) inputs.now) e) }
     ensures untouched { IfErr result (λ e. is_write e ≡ false
         → (W.written out.new ≡ W.written out.old) × (W.failures out.new ≡ W.failures out.old)) }
     ensures failed { IfErr result (λ e. is_write e ≡ true

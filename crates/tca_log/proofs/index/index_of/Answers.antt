@@ -1,8 +1,9 @@
 use Rattle.std.proofs.Common.{◌≡◌, [], ap, ◌∙◌}
 use Rattle.tca_report.specs.declared.report.Identity.{Identity}
 use Rattle.tca_log.specs.declared.by_identity.ByIdentity.{ByIdentity}
-use Rattle.tca_log.specs.Chunks.{Ordered}
-use Rattle.tca_log.specs.Logs.{Noted, index_cmp, noted_all}
+use Rattle.tca_log.specs.Ordered.{Ordered}
+use Rattle.tca_log.specs.Logs.{index_cmp}
+use Rattle.tca_log.specs.Noting.{Noted, noted_all}
 use Rattle.tca_log.proofs.Each.{apart_none}
 use Rattle.tca_log.proofs.Logs.{index_total}
 use Rattle.tca_log.proofs.Uniting.{index_made}

@@ -1,5 +1,5 @@
 use Rattle.std.proofs.Common.{◌≡◌, ◌≤◌, [], length, drop}
-use Rattle.tca_log.specs.Logs.{noted_all}
+use Rattle.tca_log.specs.Noting.{noted_all}
 use Rattle.tca_log.proofs.notes.note_all.Given as goal
 
 -- what was noted so far, and then what is left

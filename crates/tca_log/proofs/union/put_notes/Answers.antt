@@ -1,7 +1,7 @@
 use Rattle.std.proofs.Common.{subst, sym, ap, ◌∙◌}
 use Rattle.tca_report.specs.Identities.{identity_cmp}
 use Rattle.tca_report.proofs.Identities.{identity_total}
-use Rattle.tca_log.specs.Chunks.{without_each, AreApart}
+use Rattle.tca_log.specs.Ordered.{without_each, AreApart}
 use Rattle.tca_log.proofs.Each.{undone_all}
 use Rattle.tca_log.proofs.union.put_notes.Goals as goal
 

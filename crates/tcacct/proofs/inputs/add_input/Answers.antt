@@ -1,8 +1,9 @@
 use Rattle.std.proofs.Common.{◌≡◌, ◌∙◌, ◌++◌, ◌≤◌, Ok, length, sym, ap, le-ltb}
 use Rattle.tca_join.specs.Sets.{in_order}
 use Rattle.tca_report.specs.Reports.{report_cmp}
+use Rattle.tca_report.specs.Inputs.{input_of}
 use Rattle.tcacct.specs.Runs.{with_input, with_reports}
-use Rattle.tcacct.proofs.InputLaws.{said_ok}
+use Rattle.tcacct.proofs.InputLaws.{refused_as, said_ok}
 use Rattle.tcacct.proofs.inputs.add_input.Goals as goal
 
 pub returns-in-Ok-add_all-clause-exact : goal.returns-in-Ok-add_all-clause-exact
@@ -26,3 +27,7 @@ pub returns-in-Ok-add_all-clause-noted : goal.returns-in-Ok-add_all-clause-noted
 returns-in-Ok-add_all-clause-noted c =
     let heard = said_ok _ _ c.in-Ok.ensures.exact in
     record { heard = heard.0; read = heard.1; notes_are = heard.3 }
+
+pub returns-in-Err-clause-exact : goal.returns-in-Err-clause-exact
+returns-in-Err-clause-exact c =
+    refused_as c.args.n c.args.log.now (input_of c.args.octets.now) c.in-Err.fault c.input.result c.input.ensures.fault c.in-Err.ensures.exact

@@ -12,7 +12,7 @@ pub returns-in-Err-clause-exact : goal.returns-in-Err-clause-exact
 returns-in-Err-clause-exact c = refused (λ v. v.items) c.args.inputs.now c.loop-n.n c.loop-n.log _ c.loop-n.invariant.exact c.index-inputs-n.result c.in-Err.fault c.loop-n-test.true c.index-inputs-n.is (rw c.deref.ensures.value at c.in-Err.ensures.exact)
 
 pub returns-in-Err-clause-turn : goal.returns-in-Err-clause-turn
-returns-in-Err-clause-turn c = in_turn (λ v. v.items) c.args.inputs.now c.loop-n.n c.loop-n.log c.loop-n-test.true c.loop-n.invariant.taken c.in-Err.fault.input c.in-Err.ensures.named
+returns-in-Err-clause-turn c = in_turn (λ v. v.items) c.args.inputs.now c.loop-n.n c.loop-n.log c.loop-n-test.true c.loop-n.invariant.taken c.index-inputs-n.result c.in-Err.fault c.index-inputs-n.is c.in-Err.ensures.named (rw c.deref.ensures.value at c.in-Err.ensures.wanted)
 
 pub loop-n-preserved : goal.loop-n-preserved
 loop-n-preserved c =
@@ -39,3 +39,6 @@ returns-clause-noted c = all_noted _ c.loop-n.all.items (rw (drop_of_length-le c
 
 pub returns-clause-exact : goal.returns-clause-exact
 returns-clause-exact c = all_in (λ v. v.items) c.args.inputs.now c.loop-n.n c.loop-n.log _ c.loop-n.invariant.exact c.loop-n-test.false
+
+pub returns-then-is_err-clause-turn : goal.returns-then-is_err-clause-turn
+returns-then-is_err-clause-turn c = in_turn (λ v. v.items) c.args.inputs.now c.loop-n.n c.loop-n.log c.loop-n-test.true c.loop-n.invariant.taken c.index-inputs-n.result c.input.result c.index-inputs-n.is c.input.ensures.named (rw c.input.ensures.fault (λ short. absurd cc))

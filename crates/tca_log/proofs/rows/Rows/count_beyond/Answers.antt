@@ -1,5 +1,5 @@
 use Rattle.std.proofs.Common.{length, sym, ap, ◌∙◌, arith}
-use Rattle.tca_log.specs.Chunks.{without_each}
+use Rattle.tca_log.specs.Ordered.{without_each}
 use Rattle.tca_log.proofs.Each.{beyond_held, beyond_new, beyond_none, beyond_shorter}
 use Rattle.tca_log.proofs.rows.Rows.count_beyond.Goals as goal
 

@@ -1,5 +1,5 @@
 use Rattle.std.proofs.Common.{[]}
-use Rattle.tca_log.specs.Chunks.{without_each}
+use Rattle.tca_log.specs.Ordered.{without_each}
 use Rattle.tca_log.proofs.Each.{ArePutting}
 use Rattle.tca_log.proofs.rows.Rows.difference.Given as goal
 

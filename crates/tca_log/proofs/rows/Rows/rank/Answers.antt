@@ -1,5 +1,6 @@
 use Rattle.std.proofs.Common.{◌+◌, ◌≤◌, List, length, take, sym, ap, ◌∙◌, arith}
-use Rattle.tca_log.specs.Chunks.{joined, rank, IsPlace}
+use Rattle.tca_log.specs.Chunks.{joined, IsPlace}
+use Rattle.tca_log.specs.Ordered.{rank}
 use Rattle.tca_log.proofs.Ranks.{rank_place, rank_none, front-le}
 use Rattle.tca_log.proofs.Whole.{rises_here, here}
 use Rattle.tca_log.proofs.rows.Rows.rank.Goals as goal

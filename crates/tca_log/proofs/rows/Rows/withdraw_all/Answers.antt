@@ -1,5 +1,5 @@
 use Rattle.std.proofs.Common.{sym, ap, ◌∙◌}
-use Rattle.tca_log.specs.Chunks.{without_each}
+use Rattle.tca_log.specs.Ordered.{without_each}
 use Rattle.tca_log.proofs.Each.{without_each_after, without_each_past, without_none}
 use Rattle.tca_log.proofs.rows.Rows.withdraw_all.Goals as goal
 
