@@ -4,12 +4,12 @@ use Rattle.std.specs.Prelude.{map}
 use Rattle.std.proofs.Math.Seq.{drop-cons}
 use Rattle.std.proofs.Math.ListN.{drop_of_length-le}
 use Rattle.tca_meters.specs.declared.colour.Colour.{Colour}
-use Rattle.tca_meters.specs.Packets.{Packet, Rule, coloured}
+use Rattle.tca_meters.specs.Packets.{Packet, Rule, answer, coloured}
 
 module _ {S A : Type 0} (rule : Rule S) (packet_of : A → Packet) where
   -- the answer to an item that comes in a state at a time
   abbrev pub answer_to : S → ℕ → A → Colour × S
-  answer_to state last item = rule.judged (rule.filled last (packet_of item).time state) (packet_of item).octets (packet_of item).pre
+  answer_to state last item = answer rule state last (packet_of item)
 
   -- the state and the time after a list
   unfoldable pub reached : S → ℕ → List A → S × ℕ

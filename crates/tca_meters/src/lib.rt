@@ -4,9 +4,10 @@
 //! do to a state, and what one packet does. `Meter` is the trait, with the laws that each meter keeps;
 //! `SrTcm`, `TrTcm` and `Rfc4115` are the meters of RFC 2697, RFC 2698 and RFC 4115, and `AnyMeter` is
 //! one of them. A meter has no state of its own: the caller keeps it, so that a run can be taken up
-//! again at any packet. `precolour` is the colour that a packet's code point gives it, and `meter_spec`
-//! reads a meter from a text. Octets are those of IP packets, a token is one octet, rates are tokens
-//! per second, and times are milliseconds from 1970 UTC, below 2^48. No call takes memory.
+//! again at any packet. `meter_packet` is one step: the tokens that are due, and then the packet.
+//! `precolour` is the colour that a packet's code point gives it, and `meter_spec` reads a meter from a
+//! text. Octets are those of IP packets, a token is one octet, rates are tokens per second, and times are
+//! milliseconds from 1970 UTC, below 2^48. No call takes memory.
 #![tactic(auto)]
 
 mod any_meter;
@@ -18,6 +19,7 @@ mod meter;
 mod rfc4115;
 mod spec;
 mod srtcm;
+mod step;
 mod trtcm;
 
 pub use any_meter::AnyMeter;
@@ -29,6 +31,7 @@ pub use meter::Meter;
 pub use rfc4115::Rfc4115;
 pub use spec::{SpecFault, meter_spec, spec_words};
 pub use srtcm::SrTcm;
+pub use step::meter_packet;
 pub use trtcm::TrTcm;
 
 #[cfg(test)]

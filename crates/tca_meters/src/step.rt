@@ -1,0 +1,25 @@
+//! One step of metering.
+ghost use Rattle.std.specs.Prelude.{◌≡◌, ◌<◌, ◌≤◌, ◌^◌};
+ghost use Rattle.tca_meters.specs.Packets.{answer};
+
+use crate::colour::Colour;
+use crate::meter::Meter;
+
+/// The colour of a packet that comes after one of time `last`, and the state after it. First the tokens come in that
+/// arrive after `last` and at or before `time`, in milliseconds, and then the packet is judged by its octets and its
+/// precolour. The first packet comes after time 0, in the meter's `start`.
+pub fn meter_packet<M: Meter>(
+    meter: &M,
+    state: M::State,
+    last: u64,
+    time: u64,
+    octets: u32,
+    pre: Colour,
+) -> (Colour, M::State)
+    requires order { last ≤ time }
+    requires limit { time < 2 ^ 48 }
+    ensures { result ≡ answer (M.rule meter.now) state last (record { time = time; octets = octets; pre = pre }) }
+{
+    let filled = meter.advance(state, last, time);
+    meter.offer(filled, octets, pre)
+}
