@@ -13,3 +13,5 @@ pub mod Undisputed
 pub mod Uniting
 pub mod Whole
 pub mod Alone
+pub mod Filters
+pub mod Next

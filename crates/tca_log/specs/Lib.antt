@@ -6,3 +6,5 @@ pub mod Logs
 pub mod Noting
 pub mod LogJoin
 pub mod Arrivals
+pub mod Next
+pub mod NextLaws

@@ -8,7 +8,8 @@
 //! - `rows`: the ordered container, with `chunk`, `locate` and `iter` beneath it;
 //! - `log`, `union`: the log, one report and many reports at a time;
 //! - `index`, `notes`, `by_identity`, `ascending`: which identities the log knows, and which are disputed;
-//! - `settled`: the reports that no other disputes; `answer`, `fault`: what a log answers.
+//! - `settled`: the reports that no other disputes; `answer`, `fault`: what a log answers; `laws`: what one more report
+//!   changes.
 #![tactic(auto)]
 
 mod answer;
@@ -19,6 +20,7 @@ mod fault;
 mod index;
 mod iter;
 mod joins;
+mod laws;
 mod locate;
 mod log;
 mod notes;
@@ -29,6 +31,7 @@ mod union;
 pub use answer::Added;
 pub use fault::LogFault;
 pub use iter::RowsIter;
+pub use laws::one_more_report;
 pub use log::{Log, same_reports_make_one_log};
 pub use settled::Settled;
 
