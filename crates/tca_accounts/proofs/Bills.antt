@@ -12,6 +12,7 @@ use Rattle.std.proofs.lemmas.Option.{get_or_from_slice_get}
 use Rattle.std.proofs.lemmas.List.{append-nil, length-append, length-map, length_push, get_or-map, get_or_push, get_or_append_left, get_or-set_same, get_or-set_other, length-set}
 use Rattle.std.proofs.lemmas.List.FromFn.{get_or-enumerate_from, length-enumerate_from}
 use Rattle.std.proofs.lemmas.List.Sums.{length-filter, count_by-le-length}
+use Rattle.tca_join.specs.Sets.{in_order}
 use Rattle.tca_join.proofs.Sets.{all_more}
 use Rattle.tca_report.specs.Reports.{PacketReport, report_cmp}
 use Rattle.tca_meters.specs.declared.any_meter.AnyMeter.{AnyMeter}
@@ -23,8 +24,9 @@ use Rattle.tca_log.specs.Disputes.{undisputed}
 use Rattle.tca_accounts.specs.Plans.{AccountPlan, PlannedAccount, account_of}
 use Rattle.tca_accounts.specs.Sums.{packet_of, sums_of}
 use Rattle.tca_accounts.specs.Spans.{Ascend, within, spans_of, period_of}
-use Rattle.tca_accounts.specs.Bills.{is_number, coloured_by, reports_of, tally_of}
-use Rattle.tca_accounts.specs.Metering.{HasRoom, CanAdd, IsRunning, AreRunning, owned, tally_so_far, with_last}
+use Rattle.tca_accounts.specs.Bills.{is_number, coloured_by, coloured_in, reports_of, tally_of}
+use Rattle.tca_accounts.specs.Metering.{HasRoom, CanAdd, Stands, IsRunning, AreRunning, metered_none, owned, tally_at, tally_so_far, with_last}
+use Rattle.tca_accounts.specs.declared.metered.Metered.{Metered}
 use Rattle.tca_accounts.specs.declared.running.Running.{Running}
 use Rattle.tca_accounts.specs.declared.span.Span.{Span}
 use Rattle.tca_accounts.proofs.Counting.{packets_few}
@@ -48,19 +50,19 @@ pub from_zero : (reports : List PacketReport) → AllByRecursion (λ (q : Packet
 from_zero [] = tt
 from_zero (r ∷ reports) = (omega arith, from_zero reports)
 
-filter_few : {K : Type 0} (p : K → Bool) (xs : List K) → length (filter p xs) ≤ length xs
+pub filter_few : {K : Type 0} (p : K → Bool) (xs : List K) → length (filter p xs) ≤ length xs
 filter_few p xs = omega (arith, length-filter p xs, count_by-le-length p xs)
 
 pub coloured_length : {S : Type 0} (rule : Rule S) (packet : PacketReport → Packet) (s : S) (last : ℕ) (reports : List PacketReport) → length (coloured rule packet s last reports) ≡ length reports
 coloured_length rule packet s last reports = sym (length-map (coloured rule packet s last reports) (λ (p : PacketReport × Colour). p.0)) ∙ ap length (map-coloured rule packet s last reports)
 
 -- what holds at each place holds of each
-all_from : {K : Type 0} (P : K → Type 0) (xs : List K) → ((k : ℕ) (d : K) → k < length xs → P (get_or xs k d)) → AllByRecursion P xs
+pub all_from : {K : Type 0} (P : K → Type 0) (xs : List K) → ((k : ℕ) (d : K) → k < length xs → P (get_or xs k d)) → AllByRecursion P xs
 all_from P [] h = tt
 all_from P (x ∷ xs) h = (h zero x (omega arith), all_from P xs (λ k d l. h (suc k) d (omega arith)))
 
 -- two lists whose values agree place by place
-same_maps : {A B T : Type 0} (f : A → T) (g : B → T) (xs : List A) (ys : List B) → length xs ≡ length ys → ((k : ℕ) (a : A) (b : B) → k < length xs → f (get_or xs k a) ≡ g (get_or ys k b)) → map f xs ≡ map g ys
+pub same_maps : {A B T : Type 0} (f : A → T) (g : B → T) (xs : List A) (ys : List B) → length xs ≡ length ys → ((k : ℕ) (a : A) (b : B) → k < length xs → f (get_or xs k a) ≡ g (get_or ys k b)) → map f xs ≡ map g ys
 same_maps f g [] [] e h = refl
 same_maps f g [] (y ∷ ys) e h = absurd (omega arith)
 same_maps f g (x ∷ xs) [] e h = absurd (omega arith)
@@ -71,30 +73,35 @@ some_account [] n h = absurd (omega arith)
 some_account (a ∷ accounts) n h = a
 
 -- a part of an account, by the list of these parts
-field_at : {T : Type 0} (f : PlannedAccount → T) (accounts : List PlannedAccount) (n : ℕ) (x : T) (a : PlannedAccount) → n < length accounts → slice_get (map f accounts) n ≡ Some x → f (get_or accounts n a) ≡ x
+pub field_at : {T : Type 0} (f : PlannedAccount → T) (accounts : List PlannedAccount) (n : ℕ) (x : T) (a : PlannedAccount) → n < length accounts → slice_get (map f accounts) n ≡ Some x → f (get_or accounts n a) ≡ x
 field_at f accounts n x a h is = sym (get_or-map f accounts n a x h) ∙ get_or_from_slice_get (map f accounts) n x x is
 
-module _ (period : ℕ) (whole : List (PacketReport × Colour)) (r : Running) where
-  -- the tally of an account that had all its reports
-  tally_done : IsRunning period whole [] r → tally_so_far r ≡ tally_of period whole
+-- before the first report
+pub stands_begun : {S : Type 0} (rule : Rule S) (other : Colour) (period : ℕ) (reports : List PacketReport) → Stands rule other period (coloured_by rule other reports) reports (metered_none rule) [] None
+unfolding in_order
+stands_begun rule other period reports = record { sofar = []; split = refl; total = refl; spans = refl; last = refl }
+
+module _ {S : Type 0} (rule : Rule S) (other : Colour) (period : ℕ) (whole : List (PacketReport × Colour)) (m : Metered S) (ended : List Span) (current : Option Span) where
+  -- the tally once no report is left
+  pub tally_done : Stands rule other period whole [] m ended current → tally_at m.total ended current ≡ tally_of period whole
   unfolding coloured
-  tally_done run =
-      let same : run.sofar ≡ whole = sym (append-nil run.sofar) ∙ run.split in
-      λ i. record { total = (run.total ∙ ap sums_of same) i; spans = (run.spans ∙ ap (spans_of period) same) i }
+  tally_done k =
+      let same : k.sofar ≡ whole = sym (append-nil k.sofar) ∙ k.split in
+      λ i. record { total = (k.total ∙ ap sums_of same) i; spans = (k.spans ∙ ap (spans_of period) same) i }
 
-  spans_rise : (later : List PacketReport) → IsRunning period whole later r → Ascend (tally_so_far r).spans
-  spans_rise later run = subst Ascend (sym run.spans) ((are_spans period run.sofar).rises)
+  pub spans_rise : (later : List PacketReport) → Stands rule other period whole later m ended current → Ascend (with_last ended current)
+  spans_rise later k = subst Ascend (sym k.spans) ((are_spans period k.sofar).rises)
 
-  -- before another report there is room for it
-  few_of : (x : PacketReport) (later : List PacketReport) → length whole ≤ 4194304 → IsRunning period whole (x ∷ later) r → CanAdd r
-  few_of x later limit run =
-      let split = ap length run.split in
-      let all = length-append run.sofar (coloured (any_rule r.meter) (packet_of r.other) r.state r.time (x ∷ later)) in
-      let rest = coloured_length (any_rule r.meter) (packet_of r.other) r.state r.time (x ∷ later) in
-      let few : length run.sofar < 4194304 = omega (arith, split, all, rest) in
+  -- where there are fewer reports so far than the limit there is room for another
+  pub few_of : (later : List PacketReport) → length whole < 4194304 + length later → Stands rule other period whole later m ended current → CanAdd m.total current
+  few_of later limit k =
+      let split = ap length k.split in
+      let all = length-append k.sofar (coloured rule (packet_of other) m.state m.time later) in
+      let rest = coloured_length rule (packet_of other) m.state m.time later in
+      let few : length k.sofar < 4194304 = omega (arith, split, all, rest) in
       record {
-        total = λ c. rw run.total (omega (arith, packets_few c run.sofar));
-        current = current_few r.current r.ended.items run.sofar few run.spans;
+        total = λ c. rw k.total (omega (arith, packets_few c k.sofar));
+        current = current_few current ended k.sofar few k.spans;
       }
     where
       current_few : (current : Option Span) (ended : List Span) (sofar : List (PacketReport × Colour)) → length sofar < 4194304 → with_last ended current ≡ spans_of period sofar → IfSome current (λ s. HasRoom s.sums)
@@ -106,8 +113,8 @@ module _ (period : ℕ) (whole : List (PacketReport × Colour)) (r : Running) wh
 -- the first accounts of a plan, before their first reports
 pub record AreBegun (plan : AccountPlan) (n : ℕ) (rs : List Running) : Type 0 where
   pub count : length rs ≡ n
-  pub each : (k : ℕ) (a : PlannedAccount) (r : Running) (reports : List PacketReport) → k < n → IsRunning plan.period (coloured_by (get_or plan.accounts k a) reports) reports (get_or rs k r)
-  pub times : (k : ℕ) (r : Running) → k < n → (get_or rs k r).time ≡ 0
+  pub each : (k : ℕ) (a : PlannedAccount) (r : Running) (reports : List PacketReport) → k < n → IsRunning plan.period (coloured_in (get_or plan.accounts k a) reports) reports (get_or rs k r)
+  pub times : (k : ℕ) (r : Running) → k < n → (get_or rs k r).metered.time ≡ 0
 
 module _ (plan : AccountPlan) where
   pub none_begun : (rs : List Running) → rs ≡ [] → AreBegun plan 0 rs
@@ -115,7 +122,7 @@ module _ (plan : AccountPlan) where
 
   pub begun_more : (n : ℕ) (rs : List Running) (meter : AnyMeter) (other : Colour) (new : Running) → AreBegun plan n rs → n < length plan.accounts
       → slice_get (map (λ a. a.meter) plan.accounts) n ≡ Some meter → slice_get (map (λ a. a.other) plan.accounts) n ≡ Some other
-      → ((period : ℕ) (reports : List PacketReport) → IsRunning period (colours (any_rule meter) (packet_of other) reports) reports new) → new.time ≡ 0
+      → ((period : ℕ) (reports : List PacketReport) → IsRunning period (coloured_by (any_rule meter) other reports) reports new) → new.metered.time ≡ 0
       → AreBegun plan (n + 1) (rs ++ new ∷ [])
   begun_more n rs meter other new b inside meter-is other-is running time = record {
     count = length_push rs new ∙ ap (λ m. m + 1) b.count;
@@ -152,31 +159,32 @@ module _ (plan : AccountPlan) where
 
     -- the account that owns a report has it next
     pub its_next : (n : ℕ) (a : PlannedAccount) (r : Running) → account_of plan x ≡ Some n → n < length plan.accounts
-        → IsRunning plan.period (coloured_by (get_or plan.accounts n a) (owned plan n all)) (x ∷ owned plan n rest) (get_or rs n r)
+        → IsRunning plan.period (coloured_in (get_or plan.accounts n a) (owned plan n all)) (x ∷ owned plan n rest) (get_or rs n r)
     its_next n a r is h = rw (owned_here n is) at (m.each n a r h)
 
-    pub in_time : (n : ℕ) (r : Running) → n < length plan.accounts → (get_or rs n r).time ≤ x.time
+    pub in_time : (n : ℕ) (r : Running) → n < length plan.accounts → (get_or rs n r).metered.time ≤ x.time
     in_time n r h = (m.early n r h).0
 
-    pub has_room : (n : ℕ) (r : Running) → account_of plan x ≡ Some n → n < length plan.accounts → length all ≤ 4194304 → CanAdd (get_or rs n r)
+    pub has_room : (n : ℕ) (r : Running) → account_of plan x ≡ Some n → n < length plan.accounts → length all ≤ 4194304 → CanAdd (get_or rs n r).metered.total (get_or rs n r).current
     has_room n r is h limit =
         let a = some_account plan.accounts n h in
         let account = get_or plan.accounts n a in
+        let run = get_or rs n r in
         let mine = owned plan n all in
         let one = coloured_length (any_rule account.meter) (packet_of account.other) (any_rule account.meter).opening 0 mine in
         let two = filter_few (λ q. is_number n (account_of plan q)) all in
-        few_of plan.period (coloured_by account mine) (get_or rs n r) x (owned plan n rest) (omega (arith, one, two)) (its_next n a r is h)
+        few_of (any_rule run.meter) run.other plan.period (coloured_in account mine) run.metered run.ended.items run.current (x ∷ owned plan n rest) (omega (arith, one, two)) (its_next n a r is h)
 
     -- that account had it, and the others are as they were
     pub had_next : (n : ℕ) (old new : Running) → account_of plan x ≡ Some n → n < length plan.accounts
         → ((whole : List (PacketReport × Colour)) (later : List PacketReport) → IsRunning plan.period whole (x ∷ later) (get_or rs n old) → IsRunning plan.period whole later new)
-        → new.time ≡ x.time → AllByRecursion (λ (q : PacketReport). x.time ≤ q.time) rest → AreRunning plan all rest (set rs n new)
+        → new.metered.time ≡ x.time → AllByRecursion (λ (q : PacketReport). x.time ≤ q.time) rest → AreRunning plan all rest (set rs n new)
     had_next n old new is h running time later =
         let inside : n < length rs = omega (arith, m.count) in
         record {
           count = length-set rs n new ∙ m.count;
           each = λ k a r l. elim (cases_eq k n) [
-            | inl same ↦ rw (same, get_or-set_same rs n new r inside) (running (coloured_by (get_or plan.accounts n a) (owned plan n all)) (owned plan n rest) (its_next n a old is h))
+            | inl same ↦ rw (same, get_or-set_same rs n new r inside) (running (coloured_in (get_or plan.accounts n a) (owned plan n all)) (owned plan n rest) (its_next n a old is h))
             | inr apart ↦ rw (get_or-set_other rs n k new r apart) (rw (owned_apart n k is (λ e. apart (sym e))) at (m.each k a r l))
           ];
           early = λ k r l. elim (cases_eq k n) [
@@ -198,14 +206,16 @@ module _ (plan : AccountPlan) where
     all_rise = all_from (λ r. Ascend (tally_so_far r).spans) rs (λ k r l.
         let inside : k < length plan.accounts = omega (arith, m.count) in
         let a = some_account plan.accounts k inside in
-        spans_rise plan.period (coloured_by (get_or plan.accounts k a) (owned plan k (undisputed reports))) (get_or rs k r) [] (m.each k a r inside))
+        let at = get_or rs k r in
+        spans_rise (any_rule at.meter) at.other plan.period (coloured_in (get_or plan.accounts k a) (owned plan k (undisputed reports))) at.metered at.ended.items at.current [] (m.each k a r inside))
 
-    pub tallies_are : map tally_so_far rs ≡ map (λ a. tally_of plan.period (coloured_by a.1 (reports_of plan a.0 reports))) (enumerate_from 0 plan.accounts)
+    pub tallies_are : map tally_so_far rs ≡ map (λ a. tally_of plan.period (coloured_in a.1 (reports_of plan a.0 reports))) (enumerate_from 0 plan.accounts)
     tallies_are =
-        same_maps tally_so_far (λ (a : ℕ × PlannedAccount). tally_of plan.period (coloured_by a.1 (reports_of plan a.0 reports))) rs (enumerate_from 0 plan.accounts) (m.count ∙ sym (length-enumerate_from 0 plan.accounts)) (λ k r a l.
+        same_maps tally_so_far (λ (a : ℕ × PlannedAccount). tally_of plan.period (coloured_in a.1 (reports_of plan a.0 reports))) rs (enumerate_from 0 plan.accounts) (m.count ∙ sym (length-enumerate_from 0 plan.accounts)) (λ k r a l.
         let inside : k < length plan.accounts = omega (arith, m.count) in
         let at = get_or-enumerate_from 0 plan.accounts k a inside in
-        rw (at, zero-add k) (tally_done plan.period (coloured_by (get_or plan.accounts k a.1) (reports_of plan k reports)) (get_or rs k r) (m.each k a.1 r inside)))
+        let run = get_or rs k r in
+        rw (at, zero-add k) (tally_done (any_rule run.meter) run.other plan.period (coloured_in (get_or plan.accounts k a.1) (reports_of plan k reports)) run.metered run.ended.items run.current (m.each k a.1 r inside)))
 
 -- how many of these reports no account owns
 abbrev pub none_in : AccountPlan → List PacketReport → ℕ

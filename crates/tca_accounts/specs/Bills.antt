@@ -4,7 +4,7 @@ use Rattle.std.specs.List.{enumerate_from}
 use Rattle.tca_report.specs.Reports.{PacketReport}
 use Rattle.tca_log.specs.Disputes.{undisputed, disputed}
 use Rattle.tca_meters.specs.declared.colour.Colour.{Colour}
-use Rattle.tca_meters.specs.Packets.{colours}
+use Rattle.tca_meters.specs.Packets.{Rule, colours}
 use Rattle.tca_meters.specs.AnyMeters.{any_rule}
 use Rattle.tca_accounts.specs.Plans.{AccountPlan, PlannedAccount, account_of}
 use Rattle.tca_accounts.specs.Sums.{packet_of, sums_of}
@@ -25,9 +25,13 @@ reports_of plan n rs = filter (λ r. is_number n (account_of plan r)) (undispute
 abbrev pub unassigned : AccountPlan → List PacketReport → List PacketReport
 unassigned plan rs = filter (λ r. is_none (account_of plan r)) (undisputed rs)
 
--- reports with the colours that an account's meter gives them, from time 0 on
-abbrev pub coloured_by : PlannedAccount → List PacketReport → List (PacketReport × Colour)
-coloured_by account rs = colours (any_rule account.meter) (packet_of account.other) rs
+-- reports with the colours that a meter gives them, from time 0 on, where a code point that has no colour of its own has `other`
+abbrev pub coloured_by : {S : Type 0} → Rule S → Colour → List PacketReport → List (PacketReport × Colour)
+coloured_by rule other rs = colours rule (packet_of other) rs
+
+-- and that the meter of an account gives them
+abbrev pub coloured_in : PlannedAccount → List PacketReport → List (PacketReport × Colour)
+coloured_in account rs = coloured_by (any_rule account.meter) account.other rs
 
 -- the sums of reports with their colours, in all and by period
 abbrev pub tally_of : ℕ → List (PacketReport × Colour) → Tally
@@ -40,5 +44,5 @@ bill_of plan rs = record {
   reports = length rs;
   disputed = length (disputed rs);
   unassigned = length (unassigned plan rs);
-  accounts = map (λ a. tally_of plan.period (coloured_by a.1 (reports_of plan a.0 rs))) (enumerate_from 0 plan.accounts);
+  accounts = map (λ a. tally_of plan.period (coloured_in a.1 (reports_of plan a.0 rs))) (enumerate_from 0 plan.accounts);
 }

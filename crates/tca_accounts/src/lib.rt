@@ -10,7 +10,8 @@
 //! - `reading`: a plan read from a text; beneath it `document` (the values of a table), `draft`, `meters` and `pairs` (an
 //!   account and its parts) and `together` (what all accounts have to be together);
 //! - `key`, `kind`, `fault`: the keys of a plan, the kinds of meters, and why a text is no plan;
-//! - `bill`, `tally`, `span`, `sums`: a bill and its parts; `running`: metering one account.
+//! - `bill`, `tally`, `span`, `sums`: a bill and its parts; `metered`: one report after another through a meter, and
+//!   `running`: the metering of one account.
 #![tactic(auto)]
 
 mod account;
@@ -20,6 +21,7 @@ mod draft;
 mod fault;
 mod key;
 mod kind;
+mod metered;
 mod meters;
 mod owners;
 mod pairs;
@@ -35,6 +37,7 @@ mod together;
 pub use bill::{Bill, bill_all};
 pub use fault::PlanFault;
 pub use key::Key;
+pub use metered::{Metered, meter_report, no_reports};
 pub use plan::Plan;
 pub use span::{Span, Spans};
 pub use sums::Sums;

@@ -2,17 +2,18 @@
 ghost use Rattle.std.specs.Prelude.{◌≡◌, ℕ, ◌<◌, ◌≤◌, List, ◌∷◌, IfOk, OnOk, IfSome, Some};
 ghost use Rattle.tca_report.specs.Reports.{PacketReport};
 ghost use Rattle.tca_meters.specs.declared.colour.Colour.{Colour};
-ghost use Rattle.tca_meters.specs.Packets.{colours};
 ghost use Rattle.tca_meters.specs.AnyMeters.{any_rule};
-ghost use Rattle.tca_accounts.specs.Sums.{packet_of, with_packet};
+ghost use Rattle.tca_accounts.specs.Bills.{coloured_by};
+ghost use Rattle.tca_accounts.specs.Sums.{with_packet};
 ghost use Rattle.tca_accounts.specs.Spans.{Ascend};
 ghost use Rattle.tca_accounts.specs.Metering.{CanAdd, HasRoom, IsRunning, closed_by, sums_in, tally_so_far, with_last};
 
+use crate::metered::{Metered, meter_report, no_reports};
 use crate::span::{Span, Spans};
 use crate::sums::Sums;
 use crate::tally::Tally;
 use std::alloc::{AllocError, Global};
-use tca_meters::{AnyMeter, Colour, Levels, Meter, precolour};
+use tca_meters::{AnyMeter, Colour, Meter};
 use tca_report::Report;
 
 /// An account whose reports are being metered.
@@ -21,11 +22,8 @@ pub(crate) struct Running {
     meter: AnyMeter,
     /// The colour of a code point that has none of its own.
     other: Colour,
-    /// The meter's state after the last report.
-    state: Levels,
-    /// The time of the last report, 0 where there was none.
-    time: u64,
-    total: Sums,
+    /// The meter's state, the time and the sums after the last report.
+    metered: Metered<<AnyMeter as Meter>::State>,
     /// The spans of the periods that ended.
     ended: Vec<Span>,
     /// The span of the period of the last report.
@@ -35,15 +33,13 @@ pub(crate) struct Running {
 impl Running {
     /// An account that has had no report. It takes no memory.
     pub(crate) fn new(alloc: Global, meter: AnyMeter, other: Colour) -> Running
-        ensures time { result.time ≡ 0 }
-        ensures running { (period : ℕ) (reports : List PacketReport) → IsRunning period (colours (any_rule meter) (packet_of other) reports) reports result }
+        ensures time { result.metered.time ≡ 0 }
+        ensures running { (period : ℕ) (reports : List PacketReport) → IsRunning period (coloured_by (any_rule meter) other reports) reports result }
     {
         Running {
             meter,
             other,
-            state: meter.start(),
-            time: 0,
-            total: Sums::new(),
+            metered: no_reports(&meter),
             ended: Vec::new(alloc),
             current: None,
         }
@@ -52,16 +48,14 @@ impl Running {
     /// Meters one more report, which is not before the last one. It takes memory only where a span ends.
     pub(crate) fn add(&mut self, period: u64, report: &Report) -> Result<(), AllocError>
         requires period { 0 < period }
-        requires order { self.old.time ≤ report.now.time }
-        requires few { CanAdd self.old }
-        ensures time { OnOk result (self.new.time ≡ report.now.time) }
+        requires order { self.old.metered.time ≤ report.now.time }
+        requires few { CanAdd self.old.metered.total self.old.current }
+        ensures time { OnOk result (self.new.metered.time ≡ report.now.time) }
         ensures running { OnOk result ((whole : List (PacketReport × Colour)) (later : List PacketReport)
             → IsRunning period whole (report.now ∷ later) self.old → IsRunning period whole later self.new) }
     {
+        let (colour, metered) = meter_report(&self.meter, self.other, self.metered, report);
         let content = report.content();
-        let filled = self.meter.advance(self.state, self.time, content.time);
-        let pre = precolour(content.dscp, self.other);
-        let (colour, state) = self.meter.offer(filled, content.octets, pre);
         let index = content.time / period;
         count_in(
             &mut self.current,
@@ -70,9 +64,7 @@ impl Running {
             colour,
             content.octets,
         )?;
-        self.total.count(colour, content.octets);
-        self.state = state;
-        self.time = content.time;
+        self.metered = metered;
         Ok(())
     }
 
@@ -83,7 +75,7 @@ impl Running {
     {
         let spans = all_spans(self.ended, self.current)?;
         Ok(Tally {
-            total: self.total,
+            total: self.metered.total,
             spans: Spans::ascending(spans),
         })
     }

@@ -44,8 +44,8 @@ impl Spans {
         }
     }
 
-    /// Spans whose indexes are known to ascend. It takes no memory.
-    pub(crate) fn ascending(list: Vec<Span>) -> Spans
+    /// Spans whose indexes are known to ascend strictly. It takes no memory.
+    pub fn ascending(list: Vec<Span>) -> Spans
         requires { Ascend list.items }
         ensures { result ≡ list.items }
     {

@@ -21,7 +21,7 @@ add-requires-clause-order c =
     let old = c.index_mut-account.result.now in
     let inside : c.in-Some-account_of.n < length c.args.plan.now.accounts = c.in-Some-account_of.ensures.below in
     let early = in_time c.args.plan.now (undisputed c.args.log.now) c.in-Some.report.now c.next.new.self l.accounts.items m c.in-Some-account_of.n old inside in
-    omega (arith, early, ap (λ r. r.time) c.index_mut-account.ensures.value)
+    omega (arith, early, ap (λ r. r.metered.time) c.index_mut-account.ensures.value)
 
 pub add-requires-clause-few : goal.add-requires-clause-few
 add-requires-clause-few c =
@@ -31,7 +31,7 @@ add-requires-clause-few c =
     let owner : account_of c.args.plan.now c.in-Some.report.now ≡ Some c.in-Some-account_of.n = sym c.account_of.ensures.account ∙ c.in-Some-account_of.is in
     let inside : c.in-Some-account_of.n < length c.args.plan.now.accounts = c.in-Some-account_of.ensures.below in
     let room = has_room c.args.plan.now (undisputed c.args.log.now) c.in-Some.report.now c.next.new.self l.accounts.items m c.in-Some-account_of.n old owner inside (omega arith) in
-    subst CanAdd (sym c.index_mut-account.ensures.value) room
+    subst (λ r. CanAdd r.metered.total r.current) (sym c.index_mut-account.ensures.value) room
 
 pub loop-report-preserved : goal.loop-report-preserved
 loop-report-preserved c =

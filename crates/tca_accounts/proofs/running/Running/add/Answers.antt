@@ -1,21 +1,11 @@
-use Rattle.std.proofs.Common.{◌≡◌, refl, ap, ◌∙◌}
-use Rattle.tca_meters.specs.CodePoints.{precolour}
-use Rattle.tca_accounts.proofs.Steps.{step}
+use Rattle.tca_meters.specs.AnyMeters.{any_rule}
+use Rattle.tca_accounts.proofs.Steps.{stands_more}
 use Rattle.tca_accounts.proofs.running.Running.add.Goals as goal
 
 pub returns-clause-running : goal.returns-clause-running
-returns-clause-running c =
+returns-clause-running c = λ whole later run.
     let old = c.args.self.now in
-    let r = c.args.report.now in
     let told = c.content-content.ensures.value in
-    let pre-is : c.precolour-pre.result ≡ precolour r.dscp old.other = c.precolour-pre.ensures ∙ ap (λ content. precolour content.dscp old.other) told in
-    step c.args.period r old _ c.offer-colour.result c.requires.period c.requires.order (record {
-      found-is = rw (c.advance-filled.ensures, pre-is, told) at c.offer-colour.ensures;
-      meter = refl;
-      other = refl;
-      state = refl;
-      time = ap (λ content. content.time) told;
-      total = rw told at c.count.ensures;
-      ended = rw told at c.in_ok-count_in.ensures.ended;
-      current = rw told at c.in_ok-count_in.ensures.current;
-    })
+    let ended = rw told at c.in_ok-count_in.ensures.ended in
+    let current = rw (told, c.meter_report-colour.ensures.colour) at c.in_ok-count_in.ensures.current in
+    rw (c.meter_report-colour.ensures.after, ended, current) (stands_more (any_rule old.meter) old.other c.args.period whole c.args.report.now later old.metered old.ended.items old.current c.requires.period c.requires.order run)

@@ -1,0 +1,62 @@
+//! One report after another through a meter.
+ghost use Rattle.std.specs.Prelude.{◌≡◌, ◌≤◌};
+ghost use Rattle.tca_accounts.specs.Metering.{HasRoom, answer_for, metered_none, metered_with};
+
+use crate::sums::Sums;
+use tca_meters::{Colour, Meter, meter_packet, precolour};
+use tca_report::Report;
+
+/// Where the metering of a list of reports stands.
+#[derive(Clone, Copy, Debug, PartialEq, Eq)]
+pub struct Metered<S> {
+    /// The meter's state after the last report.
+    pub state: S,
+    /// The time of the last report in milliseconds, 0 where there was none.
+    pub time: u64,
+    /// The octets and packets of the reports so far, by colour.
+    pub total: Sums,
+}
+
+/// Where metering starts: the meter's state at time 0, and no report. It takes no memory.
+pub fn no_reports<M: Meter>(meter: &M) -> Metered<M::State>
+    ensures { result ≡ metered_none (M.rule meter.now) }
+{
+    Metered {
+        state: meter.start(),
+        time: 0,
+        total: Sums::new(),
+    }
+}
+
+/// The colour of one more report, which is not before the last one, and where metering stands after it. The colour that
+/// the report had is that of its code point (RFC 2597 section 6), or `other` where that has none. It takes no memory.
+pub fn meter_report<M: Meter>(
+    meter: &M,
+    other: Colour,
+    before: Metered<M::State>,
+    report: &Report,
+) -> (Colour, Metered<M::State>)
+    requires order { before.time ≤ report.now.time }
+    requires few { HasRoom before.total }
+    ensures colour { result.0 ≡ (answer_for (M.rule meter.now) other before report.now).0 }
+    ensures after { result.1 ≡ metered_with (M.rule meter.now) other before report.now }
+{
+    let content = report.content();
+    let pre = precolour(content.dscp, other);
+    let (colour, state) = meter_packet(
+        meter,
+        before.state,
+        before.time,
+        content.time,
+        content.octets,
+        pre,
+    );
+    let mut total = before.total;
+    total.count(colour, content.octets);
+    let after = Metered {
+        state,
+        time: content.time,
+        total,
+    };
+    (colour, after)
+}
