@@ -1,0 +1,11 @@
+pub mod Course
+pub mod Steps
+pub mod Kept
+pub mod Lanes
+pub mod Resume
+pub mod Rooms
+pub mod Tallies
+pub mod Books
+pub mod Loops
+pub mod Totals
+pub mod Filling

@@ -1,0 +1,21 @@
+use Rattle.tca_replay.specs.Books.{BookView, Fits}
+use Rattle.tca_replay.proofs.Books.{lanes_resumed, fits_settled}
+use Rattle.tca_replay.proofs.Totals.{settled_all}
+use Rattle.tca_replay.proofs.book.Book.settle.Goals as goal
+
+pub invariant_of-self : goal.invariant_of-self
+invariant_of-self g c = record {
+  lanes_are = rw c.resume_all.ensures.lanes (lanes_resumed c.self.inside.plan c.self.inside.k c.self.inside.lanes.items c.self.invariant.lanes_are);
+  some = c.self.invariant.some;
+  small = c.self.invariant.small;
+}
+
+pub returns-clause-settled : goal.returns-clause-settled
+returns-clause-settled g c = rw c.resume_all.ensures.lanes (settled_all c.self.inside.lanes.items)
+
+pub returns-clause-fits : goal.returns-clause-fits
+returns-clause-fits g c rs fits =
+    let i = c.self.inside in
+    let view : BookView = record { plan = i.plan; k = i.k; lanes = i.lanes.items; reports = i.reports; disputed = i.disputed; unassigned = i.unassigned } in
+    let old : Fits rs view = rw (← c.self.view_is) at fits in
+    rw c.resume_all.ensures.lanes (fits_settled view rs old)

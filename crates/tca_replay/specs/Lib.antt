@@ -1,0 +1,5 @@
+pub mod Course
+pub mod Runs
+pub mod Marks
+pub mod Lanes
+pub mod Books

@@ -1,0 +1,233 @@
+//! The rows of one account, metered again from marks.
+ghost use Rattle.std.specs.Prelude.{◌≡◌, ℕ, ◌^◌, true, false, ◌+◌, ◌-◌, ◌*◌, ◌<◌, ◌≤◌, [], length, take, get_or, IfOk, OnOk, OnErr, None, Some, IfSome, vec_len, vec_capacity};
+ghost use Rattle.tca_report.specs.Reports.{report_cmp};
+ghost use Rattle.tca_join.specs.Sets.{has, put};
+ghost use Rattle.tca_log.specs.Ordered.{without, rank};
+ghost use Rattle.tca_replay.specs.Lanes.{lane_put, lane_less, lane_ready, lane_resumed, lower_of};
+ghost use Rattle.tca_replay.specs.Course.{start};
+ghost use Rattle.tca_accounts.specs.Bills.{coloured_by, tally_of};
+ghost use Rattle.tca_accounts.specs.Metering.{with_last};
+ghost use Rattle.tca_replay.specs.Runs.{course_at, metering};
+ghost use Rattle.tca_replay.specs.declared.run.Mark.{Mark};
+ghost use Rattle.tca_replay.specs.declared.run.Terms.{Terms};
+
+use crate::run::{Mark, Run, Terms, begin, replay};
+use std::alloc::{AllocError, Allocator, Global};
+use std::marker::Model;
+use tca_accounts::{Span, Spans, Tally};
+use tca_log::RowsIter;
+use tca_log::rows::Rows;
+use tca_meters::{Colour, Meter};
+use tca_report::Report;
+
+/// How many rows were metered.
+#[derive(Clone, Copy, Debug, PartialEq, Eq)]
+pub struct Replayed {
+    pub steps: u64,
+}
+
+/// The rows of an account, metered in order as they come and go: late, disputed, or at the end.
+///
+/// After each `k` rows a mark keeps where the metering stood. A row that comes or goes costs a search; `resume` then meters
+/// anew from the last mark at or before the first row that changed.
+#[derive(Drop)]
+pub struct Lane<M: Meter, A: Allocator + Copy = Global> {
+    meter: M,
+    terms: Terms,
+    every: usize,
+    rows: Rows<Report, A>,
+    marks: Vec<Mark<M::State>, A>,
+    closed: Vec<Span, A>,
+    run: Run<M::State>,
+    changed: Option<Report>,
+    ready: bool,
+}
+
+impl<M: Meter, A: Allocator + Copy> Model for Lane<M, A> {
+    ghost use Rattle.std.specs.Prelude.{vec_capacity};
+    ghost use Rattle.tca_replay.specs.Lanes.{LaneView, IsLane, kept, row_of};
+    ghost use Rattle.tca_replay.specs.Runs.{metering};
+
+    ghost Value = { LaneView M };
+
+    ghost view = { λ l. record { meter = l.meter; other = l.terms.other; period = l.terms.period; k = l.every; rows = l.rows.rows; changed = row_of l.changed l.rows.rows; ready = l.ready } };
+
+    ghost invariant = { λ l. IsLane (metering (M.rule l.meter) l.terms) l.every l.rows l.changed l.run l.marks.items l.closed.items l.ready (vec_capacity l.closed) (vec_capacity l.marks) };
+}
+
+impl<M: Meter, A: Allocator + Copy> Lane<M, A> {
+    /// A lane without rows: its meter, the colour that a code point without one of its own has, the length of a period in
+    /// milliseconds, and how many rows there are from a mark to the next. It takes no memory.
+    pub fn new(alloc: A, meter: M, other: Colour, period: u64, k: u32) -> Lane<M, A>
+        requires some_time { 0 < period }
+        requires time { period < 2 ^ 48 }
+        requires some_rows { 0 < k }
+        requires few_rows { k ≤ 65536 }
+        ensures { result ≡ record { meter = meter; other = other; period = period; k = k; rows = []; changed = None; ready = false } }
+    {
+        let run = begin(&meter);
+        Lane {
+            meter,
+            terms: Terms { other, period },
+            every: k as usize,
+            rows: Rows::new(alloc),
+            marks: Vec::new(alloc),
+            closed: Vec::new(alloc),
+            run,
+            changed: None,
+            ready: false,
+        }
+    }
+
+    /// The rows in order.
+    pub fn rows(&self) -> RowsIter<'_, Report, A>
+        ensures { result ≡ self.now.rows }
+    {
+        self.rows.iter()
+    }
+
+    /// How many rows there are.
+    pub fn len(&self) -> usize
+        ensures length { result ≡ length self.now.rows }
+        ensures limit { length self.now.rows ≤ 4194304 }
+    {
+        self.rows.len()
+    }
+
+    /// Whether a report is one of the rows.
+    pub fn contains(&self, report: &Report) -> bool
+        ensures { result ≡ has report_cmp self.now.rows report.now }
+    {
+        self.rows.contains(report)
+    }
+
+    /// Makes all room for this report, or any other one, as one more row: for the row, a mark and a span. An error leaves the
+    /// lane as it was.
+    pub fn reserve_row(&mut self, _report: &Report) -> Result<(), AllocError>
+        ensures ok { OnOk result (self.new ≡ lane_ready self.old) }
+        ensures err { OnErr result (self.new ≡ self.old) }
+    {
+        let count = self.rows.len() + 1;
+        self.rows.reserve()?;
+        self.closed
+            .reserve(count.saturating_sub(self.closed.len()))?;
+        self.marks
+            .reserve((count / self.every).saturating_sub(self.marks.len()))?;
+        self.ready = true;
+        Ok(())
+    }
+
+    /// The octets and packets of the rows by colour, in all and by period, as the meter colours them from time 0 on. It takes
+    /// memory for the spans alone.
+    pub fn tally(&self, alloc: Global) -> Result<Tally, AllocError>
+        requires { self.now.changed ≡ None }
+        ensures { IfOk result (λ t. t ≡ tally_of self.now.period (coloured_by (M.rule self.now.meter) self.now.other self.now.rows)) }
+    {
+        let _all = self.rows.len();
+        let spans = all_spans(alloc, &self.closed, self.run.current)?;
+        Ok(Tally {
+            total: self.run.metered.total,
+            spans: Spans::ascending(spans),
+        })
+    }
+
+    /// Puts a row in its place. It takes no memory.
+    pub fn put(&mut self, report: Report)
+        requires ready { self.old.ready ≡ true }
+        requires new { has report_cmp self.old.rows report ≡ false }
+        requires few { length self.old.rows < 4194304 }
+        ensures { self.new ≡ lane_put self.old report }
+    {
+        let _all = self.rows.len();
+        self.rows.put(report);
+        self.changed = Some(lower(self.changed, report));
+        self.ready = false;
+    }
+
+    /// Takes a row away. It takes no memory.
+    pub fn withdraw(&mut self, report: &Report)
+        requires { has report_cmp self.old.rows report.now ≡ true }
+        ensures { self.new ≡ lane_less self.old report.now }
+    {
+        let _all = self.rows.len();
+        self.rows.withdraw(report);
+        self.changed = Some(lower(self.changed, *report));
+    }
+
+    /// Meters anew the rows from the last mark at or before the first row that changed, and answers how many those are: with
+    /// `n` rows and the first change at row `p`, at most `n - p + k`. It takes no memory.
+    pub fn resume(&mut self) -> Replayed
+        ensures lane { self.new ≡ lane_resumed self.old }
+        ensures none { self.old.changed ≡ None → result.steps ≡ 0 }
+        ensures steps { IfSome self.old.changed (λ p. result.steps + p ≤ length self.old.rows + self.old.k) }
+    {
+        let all = self.rows.len();
+        let Some(report) = self.changed else {
+            return Replayed { steps: 0 };
+        };
+        let kept = self.rows.rank(&report);
+        let at = (kept / self.every).min(self.marks.len());
+        let from = self.every * at;
+        let run = rewind(&self.meter, at, &mut self.marks, &mut self.closed);
+        self.run = replay(
+            &self.meter,
+            self.terms,
+            self.every,
+            &self.rows,
+            from,
+            run,
+            &mut self.marks,
+            &mut self.closed,
+        );
+        self.changed = None;
+        Replayed {
+            steps: (all - from) as u64,
+        }
+    }
+}
+
+// The spans that ended, and the one that goes on.
+fn all_spans(alloc: Global, closed: &[Span], current: Option<Span>) -> Result<Vec<Span>, AllocError>
+    ensures { IfOk result (λ v. v.items ≡ with_last closed.now current) }
+{
+    let mut spans = Vec::new(alloc);
+    spans.extend_from_slice(closed)?;
+    if let Some(span) = current {
+        spans.push(span)?;
+    }
+    Ok(spans)
+}
+
+// Goes back to a mark, or to the start.
+fn rewind<M: Meter, A: Allocator>(
+    meter: &M,
+    at: usize,
+    marks: &mut Vec<Mark<M::State>, A>,
+    closed: &mut Vec<Span, A>,
+) -> Run<M::State>
+    requires { at ≤ vec_len marks.old }
+    ensures marks { marks.new.items ≡ take at marks.old.items }
+    ensures len { vec_len marks.new ≡ at }
+    ensures run { (d : Mark M.State) → 0 < at → (result ≡ (get_or marks.old.items (at - 1) d).run) × (closed.new.items ≡ take (get_or marks.old.items (at - 1) d).closed closed.old.items) }
+    ensures start { at ≡ 0 → (t : Terms) → course_at result closed.new.items ≡ start (metering (M.rule meter.now) t) }
+    ensures room { (vec_capacity marks.new ≡ vec_capacity marks.old) × (vec_capacity closed.new ≡ vec_capacity closed.old) }
+{
+    marks.truncate(at);
+    if at == 0 {
+        closed.clear();
+        return begin(meter);
+    }
+    let mark = marks[at - 1];
+    closed.truncate(mark.closed);
+    mark.run
+}
+
+// The lower of a report and the one before, if there is one.
+fn lower(before: Option<Report>, report: Report) -> Report
+    ensures { result ≡ lower_of before report }
+{
+    match before {
+        Some(other) if other < report => other,
+        _ => report,
+    }
+}
