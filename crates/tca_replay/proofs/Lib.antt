@@ -9,3 +9,4 @@ pub mod Books
 pub mod Loops
 pub mod Totals
 pub mod Filling
+pub mod Changes

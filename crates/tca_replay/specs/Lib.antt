@@ -3,3 +3,5 @@ pub mod Runs
 pub mod Marks
 pub mod Lanes
 pub mod Books
+pub mod Changes
+pub mod ChangeLaws

@@ -12,7 +12,9 @@
 
 mod book;
 mod lane;
+mod laws;
 mod run;
 
 pub use book::Book;
 pub use lane::{Lane, Replayed};
+pub use laws::changes_then_resume;
