@@ -16,9 +16,9 @@ use crate::fault::RunFault;
 use crate::inputs::gather_all;
 use crate::texts::meter_lines;
 use std::alloc::{AllocError, Global};
-use tca_accounts::Sums;
+use tca_accounts::{Sums, meter_report, no_reports};
 use tca_log::{Log, Settled};
-use tca_meters::{AnyMeter, Colour, Meter, meter_spec, precolour};
+use tca_meters::{AnyMeter, Colour, Meter, meter_spec};
 use tca_report::{Write, put_all};
 
 // The sums of the reports, metered in their order from time 0 on, each with the precolour of its code
@@ -28,19 +28,11 @@ fn metered<M: Meter>(meter: &M, reports: Settled<'_>) -> Sums
     requires few { length reports ≤ 4194304 }
     ensures { result ≡ sums_of (colours (M.rule meter.now) (packet_of Green) reports.entry) }
 {
-    let mut sums = Sums::new();
-    let mut state = meter.start();
-    let mut last = 0;
+    let mut metered = no_reports(meter);
     for report in reports {
-        let content = report.content();
-        let filled = meter.advance(state, last, content.time);
-        let pre = precolour(content.dscp, Colour::Green);
-        let (colour, next) = meter.offer(filled, content.octets, pre);
-        sums.count(colour, content.octets);
-        state = next;
-        last = content.time;
+        (_, metered) = meter_report(meter, Colour::Green, metered, report);
     }
-    sums
+    metered.total
 }
 
 // The lines of the undisputed reports of a log.

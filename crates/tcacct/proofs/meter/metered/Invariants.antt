@@ -7,4 +7,4 @@ use Rattle.tcacct.proofs.meter.metered.Given as goal
 abbrev pub invariant-loop-report : goal.invariant-loop-report
 invariant-loop-report g l =
     let rule = g.M.Meter.rule l.meter in
-    IsMetering rule (colours rule (packet_of Green) l.fn.reports) l.report-iterator l.state l.last l.sums
+    IsMetering rule (colours rule (packet_of Green) l.fn.reports) l.report-iterator l.metered
