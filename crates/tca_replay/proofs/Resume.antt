@@ -103,9 +103,11 @@ module _ {S : Type 0} (w : Metering S) where
             }
       ]
 
-  pub lane_back : (every : ℕ) (store : Ordered PacketReport) (r : PacketReport) (run : Run S) (all : List (Mark S)) (closed : List Span) (ready : Bool) (sr mr before len at : ℕ) → IsLane w every store (Some r) run all closed ready sr mr → before ≡ rank report_cmp r store.rows → len ≡ length all → at ≡ min (before / every) len → IsBack every (rank report_cmp r store.rows) (length all) at
-  lane_back every store r run all closed ready sr mr before len at l is length_is at_is =
-      back every (rank report_cmp r store.rows) (length all) at l.some (at_is ∙ (λ i. min (is i / every) (length_is i))) l.reach
+  pub lane_reach : (every : ℕ) (store : Ordered PacketReport) (r : PacketReport) (run : Run S) (all : List (Mark S)) (closed : List Span) (ready : Bool) (sr mr before len : ℕ) → IsLane w every store (Some r) run all closed ready sr mr → before ≡ rank report_cmp r store.rows → len ≡ length all → before ≤ every * (len + 1)
+  lane_reach every store r run all closed ready sr mr before len l is length_is = rw (is, length_is) l.reach
+
+  pub lane_back : (every before len at : ℕ) (rows : List PacketReport) (r : PacketReport) (all : List (Mark S)) → before ≡ rank report_cmp r rows → len ≡ length all → every * at ≤ before → before ≤ every * at + every → at ≤ len → IsBack every (rank report_cmp r rows) (length all) at
+  lane_back every before len at rows r all is length_is low near inside = record { before = omega (arith, is, low); near = omega (arith, is, near); inside = omega (arith, length_is, inside) }
 
   pub lane_rewound : (every : ℕ) (store : Ordered PacketReport) (r : PacketReport) (run : Run S) (all : List (Mark S)) (closed : List Span) (ready : Bool) (sr mr at : ℕ) (next : Run S) (ended : List Span) → IsLane w every store (Some r) run all closed ready sr mr → IsBack every (rank report_cmp r store.rows) (length all) at
       → ((d : Mark S) → 0 < at → (next ≡ (get_or all (at - 1) d).run) × (ended ≡ take (get_or all (at - 1) d).closed closed)) → (at ≡ 0 → course_at next ended ≡ start w) → IsRewound every at store.rows next ended (take at all)

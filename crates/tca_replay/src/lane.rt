@@ -166,7 +166,7 @@ impl<M: Meter, A: Allocator + Copy> Lane<M, A> {
             return Replayed { steps: 0 };
         };
         let kept = self.rows.rank(&report);
-        let at = (kept / self.every).min(self.marks.len());
+        let at = mark_before(kept, self.every, self.marks.len());
         let from = self.every * at;
         let run = rewind(&self.meter, at, &mut self.marks, &mut self.closed);
         self.run = replay(
@@ -196,6 +196,17 @@ fn all_spans(alloc: Global, closed: &[Span], current: Option<Span>) -> Result<Ve
         spans.push(span)?;
     }
     Ok(spans)
+}
+
+// How many marks stand at or before the rows that are kept.
+fn mark_before(kept: usize, every: usize, marks: usize) -> usize
+    requires some { 0 < every }
+    requires reach { kept ≤ every * (marks + 1) }
+    ensures before { every * result ≤ kept }
+    ensures near { kept ≤ every * result + every }
+    ensures inside { result ≤ marks }
+{
+    (kept / every).min(marks)
 }
 
 // Goes back to a mark, or to the start.
