@@ -20,7 +20,7 @@ pub equal_is : (a b : ℕ) → a ≡ b → nat_cmp a b ≡ Equal
 equal_is a b h = rw (le-ltb a b (omega arith), eq-eqb a b h) refl
 
 module _ {V : Type 0} where
-  -- what holds of each pair holds of the one at a place
+  -- what holds of each pair holds of the one at an index
   all_at : (P : ℕ × V → Type 0) (es : List (ℕ × V)) (i : ℕ) (d : ℕ × V) → AllByRecursion P es → i < length es → P (get_or es i d)
   all_at P [] i d h l = absurd (omega arith)
   all_at P (e ∷ es) zero d h l = h.0
@@ -37,17 +37,17 @@ module _ {V : Type 0} where
   searchable es key r = searchable_from_sorted nat_cmp_total (λ (e : ℕ × V). e.0) es key (λ j d low high.
       ap is_lt (greater_is (get_or es (j + 1) d).0 (get_or es j d).0 (rise_at es j (j + 1) d r (omega arith) (omega arith))))
 
-  at_place : (es : List (ℕ × V)) (key i : ℕ) → Rises es → i < length es → ((d : ℕ × V) → (get_or es i d).0 ≡ key) → IsAt es key i
-  at_place [] key i r h same = absurd (omega arith)
-  at_place (x ∷ xs) key zero r h same =
+  at_index : (es : List (ℕ × V)) (key i : ℕ) → Rises es → i < length es → ((d : ℕ × V) → (get_or es i d).0 ≡ key) → IsAt es key i
+  at_index [] key i r h same = absurd (omega arith)
+  at_index (x ∷ xs) key zero r h same =
       let k : x.0 ≡ key = same x in
       record {
         within = h;
         has = λ y m. (ap (λ z. z.0) m ∙ k, rw (eq-eqb key x.0 (sym k)) (ap (λ z. Some z.1) (sym m)));
         puts = λ y m f v. rw (equal_is key x.0 (sym k)) (λ j. (subst (λ z. z ≡ y.0) k (ap (λ z. z.0) (sym m)) j, f ((sym m j).1) v) ∷ xs);
       }
-  at_place (x ∷ xs) key (suc i) r h same =
-      let rest = at_place xs key i r.1 (omega arith) same in
+  at_index (x ∷ xs) key (suc i) r h same =
+      let rest = at_index xs key i r.1 (omega arith) same in
       let l : x.0 < key = subst (λ k. x.0 < k) (same x) (all_at (λ next. x.0 < next.0) xs i x r.0 (omega arith)) in
       record {
         within = h;
@@ -55,19 +55,19 @@ module _ {V : Type 0} where
         puts = λ y m f v. rw (greater_is key x.0 l) (ap (λ l. x ∷ l) (rest.puts y m f v));
       }
 
-  gap_place : (es : List (ℕ × V)) (key i : ℕ) → Rises es → i ≤ length es → IsPartitionPoint (λ e. nat_cmp e.0 key ≡ Less) (λ e. nat_cmp e.0 key ≡ Greater) es i → IsGap es key i
-  gap_place [] key zero r h gap = record { within = omega arith; lacks = refl; puts = λ f v. refl }
-  gap_place [] key (suc i) r h gap = absurd (omega arith)
-  gap_place (x ∷ xs) key zero r h gap =
+  gap_index : (es : List (ℕ × V)) (key i : ℕ) → Rises es → i ≤ length es → IsPartitionPoint (λ e. nat_cmp e.0 key ≡ Less) (λ e. nat_cmp e.0 key ≡ Greater) es i → IsGap es key i
+  gap_index [] key zero r h gap = record { within = omega arith; lacks = refl; puts = λ f v. refl }
+  gap_index [] key (suc i) r h gap = absurd (omega arith)
+  gap_index (x ∷ xs) key zero r h gap =
       let l : key < x.0 = ranked x.0 key Greater (sym (gap.1 0 x (omega arith) (omega arith))) in
       record {
         within = omega arith;
         lacks = rw (ne_eqb key x.0 (λ z. omega arith)) (not_there xs key (all_above xs key x.0 l r.0));
         puts = λ f v. rw (less_is key x.0 l) refl;
       }
-  gap_place (x ∷ xs) key (suc i) r h gap =
+  gap_index (x ∷ xs) key (suc i) r h gap =
       let l : x.0 < key = ranked x.0 key Less (sym (gap.0 0 x (omega arith) (omega arith))) in
-      let rest = gap_place xs key i r.1 (omega arith) (λ j d _ m. gap.0 (suc j) d (omega arith) (omega arith), λ j d m n. gap.1 (suc j) d (omega arith) (omega arith)) in
+      let rest = gap_index xs key i r.1 (omega arith) (λ j d _ m. gap.0 (suc j) d (omega arith) (omega arith), λ j d m n. gap.1 (suc j) d (omega arith) (omega arith)) in
       record {
         within = omega (arith, rest.within);
         lacks = rw (ne_eqb key x.0 (λ z. omega arith)) rest.lacks;
@@ -76,8 +76,8 @@ module _ {V : Type 0} where
 
   pub searched : (es : List (ℕ × V)) (key : ℕ) (r : Result ℕ ℕ) → Rises es → IsSearchInRange r (length es) → IsBinarySearchResult (λ e. nat_cmp e.0 key) es r
       → record { found : IfOk r (IsAt es key); absent : IfErr r (IsGap es key) }
-  searched es key (Ok at) rises h is = record { found = at_place es key at rises h (λ d. ranked (get_or es at d).0 key Equal (sym (is d))); absent = tt }
-  searched es key (Err at) rises h is = record { found = tt; absent = gap_place es key at rises h (is (searchable es key rises)) }
+  searched es key (Ok at) rises h is = record { found = at_index es key at rises h (λ d. ranked (get_or es at d).0 key Equal (sym (is d))); absent = tt }
+  searched es key (Err at) rises h is = record { found = tt; absent = gap_index es key at rises h (is (searchable es key rises)) }
 
 -- a map with a value set where its key is, or inserted where it would go, still rises
 pub rises_set : {V : Type 0} (es : List (ℕ × V)) (key at : ℕ) (e : ℕ × V) (v : V) → Rises es → IsAt es key at → e ≡ get_or es at e → Rises (slice_set es at (e.0, v))
