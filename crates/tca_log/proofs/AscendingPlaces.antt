@@ -16,7 +16,7 @@ use Rattle.tca_report.proofs.Identities.{identity_exact}
 use Rattle.tca_log.specs.Disputes.{contents, disputed}
 use Rattle.tca_log.specs.Logs.{count_at}
 use Rattle.tca_log.proofs.Contents.{disputed_is}
-use Rattle.tca_log.proofs.Noting.{count_snoc}
+use Rattle.tca_log.proofs.ReportAdditions.{count_snoc}
 
 -- the last place of a domain, by a map from domains to places
 abbrev pub last_of : List (ℕ × ℕ) → ℕ → Option ℕ

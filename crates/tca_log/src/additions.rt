@@ -3,7 +3,7 @@ ghost use Rattle.std.specs.Prelude.{◌≡◌, ◌<◌, ◌≤◌, List, [], len
 ghost use Rattle.tca_log.specs.declared.by_identity.ByIdentity.{ByIdentity};
 ghost use Rattle.std.specs.List.Sorted.{IsPermutation};
 ghost use Rattle.tca_log.specs.Logs.{indexed};
-ghost use Rattle.tca_log.specs.Noting.{noted, noted_all};
+ghost use Rattle.tca_log.specs.Additions.{with_report, with_reports};
 
 use crate::by_identity::ByIdentity;
 use crate::rows::Rows;
@@ -13,40 +13,40 @@ use tca_report::{Identity, Report};
 
 /// The first contents of identities that were unknown, and the identities that become disputed.
 #[derive(Drop)]
-pub struct Notes<A: Allocator + Copy> {
+pub struct Additions<A: Allocator + Copy> {
     pub fresh: Rows<ByIdentity, A>,
-    pub twice: Rows<Identity, A>,
+    pub newly_disputed: Rows<Identity, A>,
 }
 
-impl<A: Allocator + Copy> Model for Notes<A> {
-    ghost use Rattle.tca_log.specs.Noting.{Noted};
+impl<A: Allocator + Copy> Model for Additions<A> {
+    ghost use Rattle.tca_log.specs.Additions.{AddedRows};
 
-    ghost Value = { Noted };
+    ghost Value = { AddedRows };
 
-    ghost view = { λ n. record { fresh = n.fresh.rows; twice = n.twice.rows } };
+    ghost view = { λ n. record { fresh = n.fresh.rows; newly_disputed = n.newly_disputed.rows } };
 }
 
-impl<A: Allocator + Copy> Notes<A> {
-    /// Nothing noted yet.
-    pub(crate) fn new(alloc: A) -> Notes<A>
-        ensures { result ≡ record { fresh = []; twice = [] } }
+impl<A: Allocator + Copy> Additions<A> {
+    /// Nothing with_report yet.
+    pub(crate) fn new(alloc: A) -> Additions<A>
+        ensures { result ≡ record { fresh = []; newly_disputed = [] } }
     {
-        Notes {
+        Additions {
             fresh: Rows::new(alloc),
-            twice: Rows::new(alloc),
+            newly_disputed: Rows::new(alloc),
         }
     }
 
-    /// Notes one more report.
-    pub(crate) fn note(
+    /// Additions one more report.
+    pub(crate) fn add(
         &mut self,
         index: &Rows<ByIdentity, A>,
         disputed: &Rows<Identity, A>,
         key: ByIdentity,
     ) -> Result<(), AllocError>
         requires few { length self.old.fresh < 4194304 }
-        requires few_disputed { length self.old.twice < 4194304 }
-        ensures { OnOk result (self.new ≡ noted index.now.rows disputed.now.rows key self.old) }
+        requires few_disputed { length self.old.newly_disputed < 4194304 }
+        ensures { OnOk result (self.new ≡ with_report index.now.rows disputed.now.rows key self.old) }
     {
         if !index.contains(&key) && !self.fresh.contains(&key) {
             self.fresh.reserve()?;
@@ -54,29 +54,29 @@ impl<A: Allocator + Copy> Notes<A> {
             return Ok(());
         }
         let identity = key.report.identity();
-        if !disputed.contains(&identity) && !self.twice.contains(&identity) {
-            self.twice.reserve()?;
-            self.twice.put(identity);
+        if !disputed.contains(&identity) && !self.newly_disputed.contains(&identity) {
+            self.newly_disputed.reserve()?;
+            self.newly_disputed.put(identity);
         }
         Ok(())
     }
 }
 
 // What these reports add, one after another.
-fn note_all<A: Allocator + Copy>(
+fn additions_in_order<A: Allocator + Copy>(
     alloc: A,
     index: &Rows<ByIdentity, A>,
     disputed: &Rows<Identity, A>,
     keys: &[ByIdentity],
-) -> Result<Notes<A>, AllocError>
+) -> Result<Additions<A>, AllocError>
     requires { length keys.now ≤ 4194304 }
-    ensures { IfOk result (λ n. n ≡ noted_all index.now.rows disputed.now.rows keys.now (record { fresh = []; twice = [] })) }
+    ensures { IfOk result (λ n. n ≡ with_reports index.now.rows disputed.now.rows keys.now (record { fresh = []; newly_disputed = [] })) }
 {
-    let mut notes = Notes::new(alloc);
+    let mut additions = Additions::new(alloc);
     for key in keys {
-        notes.note(index, disputed, *key)?;
+        additions.add(index, disputed, *key)?;
     }
-    Ok(notes)
+    Ok(additions)
 }
 
 // The reports in the order of their identities, so that those that are searched for lie side by side.
@@ -95,15 +95,15 @@ fn by_identity<A: Allocator + Copy>(
 }
 
 /// What reports that are new add to a log's index and to its disputed identities.
-pub(crate) fn notes_of<A: Allocator + Copy>(
+pub(crate) fn additions_of<A: Allocator + Copy>(
     index: &Rows<ByIdentity, A>,
     disputed: &Rows<Identity, A>,
     news: &Rows<Report, A>,
-) -> Result<Notes<A>, AllocError>
+) -> Result<Additions<A>, AllocError>
     requires few { length news.now.rows ≤ 4194304 }
     ensures { IfOk result (λ n. (keys : List ByIdentity) × IsPermutation (map indexed news.now.rows) keys
-        × (n ≡ noted_all index.now.rows disputed.now.rows keys (record { fresh = []; twice = [] }))) }
+        × (n ≡ with_reports index.now.rows disputed.now.rows keys (record { fresh = []; newly_disputed = [] }))) }
 {
     let keys = by_identity(news.allocator(), news)?;
-    note_all(news.allocator(), index, disputed, &keys)
+    additions_in_order(news.allocator(), index, disputed, &keys)
 }

@@ -1,4 +1,4 @@
--- A set as a list of chunks.
+-- A set as a list of chunks. No public contract cites this: it serves the container's fields and its proofs alone.
 use Rattle.std.specs.Prelude.{◌≡◌, ℕ, ◌+◌, ◌<◌, ◌≤◌, Bool, true, false, List, [], ◌∷◌, length, get_or, Option, IfSome, is_some}
 use Rattle.std.specs.List.{flat_map, All}
 use Rattle.std.specs.List.Sorted.{IsStrictlySortedBy}
@@ -20,7 +20,7 @@ pub record AreChunks {K : Type 0} (R : K → K → Ordering) (cs : List (List K)
   pub some : All (λ c. 0 < length c) cs
 
 -- where a member is, or would go: the chunk does not start after it, unless it is the first, and the next one does
-pub record IsPlace {K : Type 0} (R : K → K → Ordering) (cs : List (List K)) (k : K) (i : ℕ) : Type 0 where
+pub record IsPosition {K : Type 0} (R : K → K → Ordering) (cs : List (List K)) (k : K) (i : ℕ) : Type 0 where
   pub inside : i < length cs
   pub low : 0 < i → starts_after R k (get_or cs i []) ≡ false
   pub high : i + 1 < length cs → starts_after R k (get_or cs (i + 1) []) ≡ true

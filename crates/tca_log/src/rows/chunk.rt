@@ -3,8 +3,8 @@ ghost use Rattle.std.specs.Prelude.{◌≡◌, ℕ, true, false, ◌+◌, ◌-�
 ghost use Rattle.std.specs.List.{insert, remove};
 ghost use Rattle.std.specs.List.Sorted.{IsStrictlySortedBy, IsSearchInRange};
 ghost use Rattle.tca_join.specs.Sets.{put};
-ghost use Rattle.tca_log.specs.Chunks.{starts_after};
-ghost use Rattle.tca_log.specs.Ordered.{without, rank, tied};
+ghost use Rattle.tca_log.specs.Rows.Chunks.{starts_after};
+ghost use Rattle.tca_log.specs.Rows.Ordered.{without, rank, tied};
 
 use std::alloc::{AllocError, Allocator};
 use std::marker::Model;
@@ -81,7 +81,7 @@ impl<K: Ord + Copy, A: Allocator> Chunk<K, A> {
         ensures there { OnOk result (put K.cmp key.now self.now ≡ self.now) }
         ensures gone { IfOk result (λ at. without K.cmp key.now self.now ≡ remove self.now at) }
         ensures none { OnErr result (tied K.cmp key.now self.now ≡ None) }
-        ensures place { IfErr result (λ at. put K.cmp key.now self.now ≡ insert self.now at key.now) }
+        ensures gap { IfErr result (λ at. put K.cmp key.now self.now ≡ insert self.now at key.now) }
         ensures same { OnErr result (without K.cmp key.now self.now ≡ self.now) }
         ensures rank { MatchResult result (λ at. at ≡ rank K.cmp key.now self.now) (λ at. at ≡ rank K.cmp key.now self.now) }
     {

@@ -1,15 +1,15 @@
 //! Where a row is among chunks.
 ghost use Rattle.std.specs.Prelude.{◌≡◌, true, false, ◌<◌, ◌≤◌, length, drop};
-ghost use Rattle.tca_log.specs.Chunks.{IsPlace, joined};
+ghost use Rattle.tca_log.specs.Rows.Chunks.{IsPosition, joined};
 
-use crate::chunk::Chunk;
-use crate::iter::RowsIter;
+use crate::rows::chunk::Chunk;
+use crate::rows::iter::RowsIter;
 use std::alloc::Allocator;
 
 /// The chunk in which a row is, or would go.
-pub(crate) fn place<K: Ord + Copy, A: Allocator>(chunks: &[Chunk<K, A>], key: &K) -> usize
+pub(crate) fn position<K: Ord + Copy, A: Allocator>(chunks: &[Chunk<K, A>], key: &K) -> usize
     requires { 0 < length chunks.now }
-    ensures { IsPlace K.cmp chunks.now key.now result }
+    ensures { IsPosition K.cmp chunks.now key.now result }
 {
     let last = chunks.len() - 1;
     if !chunks[last].starts_after(key) {

@@ -1,6 +1,6 @@
 use Rattle.std.proofs.Common.{arith}
-use Rattle.tca_log.proofs.Ranks.{passed}
-use Rattle.tca_log.proofs.locate.from_row.Goals as goal
+use Rattle.tca_log.proofs.OrderedRows.Ranks.{passed}
+use Rattle.tca_log.proofs.rows.locate.from_row.Goals as goal
 
 pub loop-at-preserved : goal.loop-at-preserved
 loop-at-preserved g c =

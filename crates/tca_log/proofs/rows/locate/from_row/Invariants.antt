@@ -1,6 +1,6 @@
 use Rattle.std.proofs.Common.{◌≡◌, ◌-◌, ◌≤◌, length, drop}
-use Rattle.tca_log.specs.Chunks.{joined}
-use Rattle.tca_log.proofs.locate.from_row.Given as goal
+use Rattle.tca_log.specs.Rows.Chunks.{joined}
+use Rattle.tca_log.proofs.rows.locate.from_row.Given as goal
 
 abbrev pub invariant-loop-at : goal.invariant-loop-at
 invariant-loop-at g l = record {

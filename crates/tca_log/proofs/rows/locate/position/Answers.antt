@@ -1,6 +1,6 @@
 use Rattle.std.proofs.Common.{◌≡◌, true, ◌+◌, get_or, [], subst, arith}
-use Rattle.tca_log.specs.Chunks.{starts_after}
-use Rattle.tca_log.proofs.locate.place.Goals as goal
+use Rattle.tca_log.specs.Rows.Chunks.{starts_after}
+use Rattle.tca_log.proofs.rows.locate.position.Goals as goal
 
 pub returns : goal.returns
 returns g c = record {

@@ -1,6 +1,6 @@
 use Rattle.std.proofs.Common.{◌≡◌, true, false, ◌-◌, ◌<◌, ◌≤◌, length, get_or, []}
-use Rattle.tca_log.specs.Chunks.{starts_after}
-use Rattle.tca_log.proofs.locate.place.Given as goal
+use Rattle.tca_log.specs.Rows.Chunks.{starts_after}
+use Rattle.tca_log.proofs.rows.locate.position.Given as goal
 
 abbrev pub invariant-loop-low : goal.invariant-loop-low
 invariant-loop-low g l = record {

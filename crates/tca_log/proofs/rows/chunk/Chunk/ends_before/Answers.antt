@@ -1,8 +1,8 @@
 use Rattle.std.proofs.Common.{◌≡◌, ◌-◌, Some, None, length, true, ap, sym, ◌∙◌}
 use Rattle.std.specs.Prelude.{slice_get}
 use Rattle.std.specs.Ordering.{is_lt}
-use Rattle.tca_log.proofs.Search.{after_last, after_none}
-use Rattle.tca_log.proofs.chunk.Chunk.ends_before.Goals as goal
+use Rattle.tca_log.proofs.OrderedRows.Search.{after_last, after_none}
+use Rattle.tca_log.proofs.rows.chunk.Chunk.ends_before.Goals as goal
 
 pub returns-in-Some : goal.returns-in-Some
 returns-in-Some g c =

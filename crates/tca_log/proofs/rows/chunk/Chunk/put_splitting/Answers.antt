@@ -1,7 +1,7 @@
 use Rattle.std.proofs.Common.{◌∙◌, ◌<◌, length, sym, arith}
-use Rattle.tca_log.proofs.Places.{some_put}
-use Rattle.tca_log.proofs.Whole.{put_low, put_high, low_rises, high_rises}
-use Rattle.tca_log.proofs.chunk.Chunk.put_splitting.Goals as goal
+use Rattle.tca_log.proofs.OrderedRows.Positions.{some_put}
+use Rattle.tca_log.proofs.OrderedRows.Whole.{put_low, put_high, low_rises, high_rises}
+use Rattle.tca_log.proofs.rows.chunk.Chunk.put_splitting.Goals as goal
 
 pub put-requires-clause-rises : goal.put-requires-clause-rises
 put-requires-clause-rises g c = low_rises g.K.Ord.cmp g.met.K.Ord.total c.args.self.now c.split.new.self c.split.new.upper c.split.ensures.all c.requires.rises

@@ -11,9 +11,9 @@ use Rattle.std.proofs.lemmas.List.{append-nil}
 use Rattle.std.proofs.lemmas.List.Kept.{IsStrictlySortedBy-filter}
 use Rattle.tca_join.specs.Sets.{by_order, has, put}
 use Rattle.tca_join.proofs.Sets.{has-put, rises_put, all_put, or_swap}
-use Rattle.tca_log.specs.Ordered.{without, without_each, put_each, AreApart}
-use Rattle.tca_log.proofs.Parts.{or_parts, put_past, without_absent}
-use Rattle.tca_log.proofs.Places.{length_put}
+use Rattle.tca_log.specs.Rows.Ordered.{without, without_each, put_each, AreApart}
+use Rattle.tca_log.proofs.OrderedRows.Parts.{or_parts, put_past, without_absent}
+use Rattle.tca_log.proofs.OrderedRows.Positions.{length_put}
 
 filter_filter : {K : Type 0} (p q : K → Bool) (xs : List K) → filter p (filter q xs) ≡ filter (λ x. q x && p x) xs
 filter_filter p q [] = refl

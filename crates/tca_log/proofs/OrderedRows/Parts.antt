@@ -8,8 +8,8 @@ use Rattle.std.specs.declared.cmp.Ordering.{Ordering}
 use Rattle.std.specs.declared.cmp.Ordering.TheVariants.{Less, Equal, Greater}
 use Rattle.std.proofs.lemmas.List.Elements.{filter-append}
 use Rattle.tca_join.specs.Sets.{by_order, has, put}
-use Rattle.tca_log.specs.Chunks.{starts_after}
-use Rattle.tca_log.specs.Ordered.{without}
+use Rattle.tca_log.specs.Rows.Chunks.{starts_after}
+use Rattle.tca_log.specs.Rows.Ordered.{without}
 
 pub or_parts : (a b : Bool) → (a || b) ≡ false → (a ≡ false) × (b ≡ false)
 or_parts true b h = absurd cc

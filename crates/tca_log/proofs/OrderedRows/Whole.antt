@@ -7,11 +7,11 @@ use Rattle.std.specs.declared.cmp.Ordering.{Ordering}
 use Rattle.std.proofs.lemmas.List.{get_or_default, append-nil}
 use Rattle.std.proofs.lemmas.List.Elements.{All-nil, All-cons}
 use Rattle.tca_join.specs.Sets.{has, put}
-use Rattle.tca_log.specs.Chunks.{starts_after, joined, AreChunks, IsPlace}
-use Rattle.tca_log.specs.Ordered.{without, tied}
-use Rattle.tca_log.proofs.Parts.{rises_front, rises_back, put_past, put_before, above_since}
-use Rattle.tca_log.proofs.Places.{below_start, chunk_rises, chunks_put, chunks_split, chunks_less, chunks_gone}
-use Rattle.tca_log.proofs.Ties.{tied_place}
+use Rattle.tca_log.specs.Rows.Chunks.{starts_after, joined, AreChunks, IsPosition}
+use Rattle.tca_log.specs.Rows.Ordered.{without, tied}
+use Rattle.tca_log.proofs.OrderedRows.Parts.{rises_front, rises_back, put_past, put_before, above_since}
+use Rattle.tca_log.proofs.OrderedRows.Positions.{below_start, chunk_rises, chunks_put, chunks_split, chunks_less, chunks_gone}
+use Rattle.tca_log.proofs.OrderedRows.Ties.{tied_place}
 use Rattle.std.specs.Prelude.{None}
 
 pub no_items : {A : Type 0} (xs : List A) → length xs ≡ 0 → xs ≡ []
@@ -38,10 +38,10 @@ module _ {K : Type 0} (R : K → K → Ordering) (o : IsTotalOrder R) where
   pub here : (cs : List (List K)) (i : ℕ) (c : List K) → i < length cs → c ≡ get_or cs i c → get_or cs i [] ≡ c
   here cs i c l is = get_or_default cs i [] c l ∙ sym is
 
-  pub rises_here : (k : K) (cs : List (List K)) (i : ℕ) (c : List K) → AreChunks R cs → IsPlace R cs k i → c ≡ get_or cs i c → IsStrictlySortedBy R c
+  pub rises_here : (k : K) (cs : List (List K)) (i : ℕ) (c : List K) → AreChunks R cs → IsPosition R cs k i → c ≡ get_or cs i c → IsStrictlySortedBy R c
   rises_here k cs i c a p is = subst (IsStrictlySortedBy R) (here cs i c p.inside is) (chunk_rises R o cs i a p.inside)
 
-  pub tied_here : (k : K) (cs : List (List K)) (i : ℕ) (c : List K) → AreChunks R cs → IsPlace R cs k i → c ≡ get_or cs i c → tied R k (joined cs) ≡ tied R k c
+  pub tied_here : (k : K) (cs : List (List K)) (i : ℕ) (c : List K) → AreChunks R cs → IsPosition R cs k i → c ≡ get_or cs i c → tied R k (joined cs) ≡ tied R k c
   tied_here k cs i c a p is = tied_place R o k cs i a p ∙ ap (tied R k) (here cs i c p.inside is)
 
   pub tied_empty : (cs : List (List K)) (k : K) → length cs ≡ 0 → None ≡ tied R k (joined cs)
@@ -49,17 +49,17 @@ module _ {K : Type 0} (R : K → K → Ordering) (o : IsTotalOrder R) where
   tied_empty [] k h = refl
   tied_empty (c ∷ cs) k h = absurd (omega arith)
 
-  pub put_here : (k : K) (cs : List (List K)) (i : ℕ) (c : List K) → AreChunks R cs → IsPlace R cs k i → c ≡ get_or cs i c → (joined (set cs i (put R k c)) ≡ put R k (joined cs)) × AreChunks R (set cs i (put R k c))
+  pub put_here : (k : K) (cs : List (List K)) (i : ℕ) (c : List K) → AreChunks R cs → IsPosition R cs k i → c ≡ get_or cs i c → (joined (set cs i (put R k c)) ≡ put R k (joined cs)) × AreChunks R (set cs i (put R k c))
   put_here k cs i c a p is = subst (λ (x : List K). (joined (set cs i (put R k x)) ≡ put R k (joined cs)) × AreChunks R (set cs i (put R k x))) (here cs i c p.inside is) (chunks_put R o k cs i a p)
 
-  pub split_here : (k : K) (cs : List (List K)) (i : ℕ) (c d e : List K) → AreChunks R cs → IsPlace R cs k i → c ≡ get_or cs i c → put R k c ≡ d ++ e → 0 < length d → 0 < length e
+  pub split_here : (k : K) (cs : List (List K)) (i : ℕ) (c d e : List K) → AreChunks R cs → IsPosition R cs k i → c ≡ get_or cs i c → put R k c ≡ d ++ e → 0 < length d → 0 < length e
       → (joined (insert (set cs i d) (i + 1) e) ≡ put R k (joined cs)) × AreChunks R (insert (set cs i d) (i + 1) e)
   split_here k cs i c d e a p is parts some_d some_e = chunks_split R o k cs i d e a p (ap (put R k) (here cs i c p.inside is) ∙ parts) some_d some_e
 
-  pub less_here : (k : K) (cs : List (List K)) (i : ℕ) (c d : List K) → AreChunks R cs → IsPlace R cs k i → c ≡ get_or cs i c → d ≡ without R k c → 0 < length d → (joined (set cs i d) ≡ without R k (joined cs)) × AreChunks R (set cs i d)
+  pub less_here : (k : K) (cs : List (List K)) (i : ℕ) (c d : List K) → AreChunks R cs → IsPosition R cs k i → c ≡ get_or cs i c → d ≡ without R k c → 0 < length d → (joined (set cs i d) ≡ without R k (joined cs)) × AreChunks R (set cs i d)
   less_here k cs i c d a p is less some = chunks_less R o k cs i d a p (less ∙ ap (without R k) (sym (here cs i c p.inside is))) some
 
-  pub gone_here : (k : K) (cs : List (List K)) (i : ℕ) (c d : List K) → AreChunks R cs → IsPlace R cs k i → c ≡ get_or cs i c → d ≡ without R k c → length d ≡ 0 → (joined (remove (set cs i d) i) ≡ without R k (joined cs)) × AreChunks R (remove (set cs i d) i)
+  pub gone_here : (k : K) (cs : List (List K)) (i : ℕ) (c d : List K) → AreChunks R cs → IsPosition R cs k i → c ≡ get_or cs i c → d ≡ without R k c → length d ≡ 0 → (joined (remove (set cs i d) i) ≡ without R k (joined cs)) × AreChunks R (remove (set cs i d) i)
   gone_here k cs i c d a p is less none = chunks_gone R o k cs i d a p (less ∙ ap (without R k) (sym (here cs i c p.inside is))) none
 
   pub first_chunk : (k : K) → AreChunks R ((k ∷ []) ∷ [])

@@ -8,10 +8,10 @@ use Rattle.std.specs.Cmp.{IsTotalOrder}
 use Rattle.std.proofs.lemmas.List.Elements.{filter-append}
 use Rattle.std.specs.declared.cmp.Ordering.{Ordering}
 use Rattle.std.specs.declared.cmp.Ordering.TheVariants.{Less, Equal, Greater}
-use Rattle.tca_log.specs.Chunks.{joined, AreChunks, IsPlace}
-use Rattle.tca_log.specs.Ordered.{rank}
-use Rattle.tca_log.proofs.Parts.{above_tied, below_tied}
-use Rattle.tca_log.proofs.Places.{joined_at, below_first, above_place}
+use Rattle.tca_log.specs.Rows.Chunks.{joined, AreChunks, IsPosition}
+use Rattle.tca_log.specs.Rows.Ordered.{rank}
+use Rattle.tca_log.proofs.OrderedRows.Parts.{above_tied, below_tied}
+use Rattle.tca_log.proofs.OrderedRows.Positions.{joined_at, below_first, above_place}
 
 module _ {K : Type 0} (R : K → K → Ordering) (o : IsTotalOrder R) where
   -- all members come before k, or none does
@@ -46,7 +46,7 @@ module _ {K : Type 0} (R : K → K → Ordering) (o : IsTotalOrder R) where
   rank_gap k (x ∷ xs) (suc i) h gap =
       rw (gap.0 0 x (omega arith) (omega arith)) (ap suc (rank_gap k xs i (omega arith) (λ j d m l. gap.0 (suc j) d (omega arith) (omega arith), λ j d m l. gap.1 (suc j) d (omega arith) (omega arith))))
 
-  pub rank_place : (k : K) (cs : List (List K)) (i : ℕ) → AreChunks R cs → IsPlace R cs k i → rank R k (joined cs) ≡ length (joined (take i cs)) + rank R k (get_or cs i [])
+  pub rank_place : (k : K) (cs : List (List K)) (i : ℕ) → AreChunks R cs → IsPosition R cs k i → rank R k (joined cs) ≡ length (joined (take i cs)) + rank R k (get_or cs i [])
   rank_place k cs i a p =
       let low = joined (take i cs) in
       let here = get_or cs i [] in

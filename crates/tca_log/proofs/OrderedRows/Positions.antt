@@ -10,9 +10,9 @@ use Rattle.std.specs.declared.cmp.Ordering.{Ordering}
 use Rattle.std.specs.declared.cmp.Ordering.TheVariants.{Less, Equal, Greater}
 use Rattle.tca_join.specs.Sets.{by_order, has, put}
 use Rattle.tca_join.proofs.Sets.{rises_put}
-use Rattle.tca_log.specs.Chunks.{starts_after, joined, AreChunks, IsPlace}
-use Rattle.tca_log.specs.Ordered.{without}
-use Rattle.tca_log.proofs.Parts.{rises_front, rises_back, put_middle, without_middle, below_since, above_since, without_absent, has_above}
+use Rattle.tca_log.specs.Rows.Chunks.{starts_after, joined, AreChunks, IsPosition}
+use Rattle.tca_log.specs.Rows.Ordered.{without}
+use Rattle.tca_log.proofs.OrderedRows.Parts.{rises_front, rises_back, put_middle, without_middle, below_since, above_since, without_absent, has_above}
 
 module _ {K : Type 0} where
   -- the chunks as three parts
@@ -53,7 +53,7 @@ module _ {K : Type 0} (R : K → K → Ordering) (o : IsTotalOrder R) where
   below_start k xs [] zs h s e = absurd (omega arith)
   below_start k xs (y ∷ ys) zs h s e = below_since R o k y xs (ys ++ zs) s e
 
-  pub below_first : (k : K) (cs : List (List K)) (i : ℕ) → AreChunks R cs → IsPlace R cs k i → AllByRecursion (λ x. R x k ≡ Less) (joined (take i cs))
+  pub below_first : (k : K) (cs : List (List K)) (i : ℕ) → AreChunks R cs → IsPosition R cs k i → AllByRecursion (λ x. R x k ≡ Less) (joined (take i cs))
   below_first k cs zero a p = tt
   below_first k cs (suc i) a p =
       below_start k (joined (take (suc i) cs)) (get_or cs (suc i) []) (joined (drop (suc (suc i)) cs)) (a.some (suc i) [] p.inside) (subst (IsStrictlySortedBy R) (joined_at cs (suc i) p.inside) a.rises) (p.low (omega arith))
@@ -65,14 +65,14 @@ module _ {K : Type 0} (R : K → K → Ordering) (o : IsTotalOrder R) where
   pub chunk_rises : (cs : List (List K)) (i : ℕ) → AreChunks R cs → i < length cs → IsStrictlySortedBy R (get_or cs i [])
   chunk_rises cs i a l = rises_front R o (get_or cs i []) (joined (drop (suc i) cs)) (rest_rises cs i a l)
 
-  pub above_place : (k : K) (cs : List (List K)) (i : ℕ) → AreChunks R cs → IsPlace R cs k i → AllByRecursion (λ x. R k x ≡ Less) (joined (drop (suc i) cs))
+  pub above_place : (k : K) (cs : List (List K)) (i : ℕ) → AreChunks R cs → IsPosition R cs k i → AllByRecursion (λ x. R k x ≡ Less) (joined (drop (suc i) cs))
   above_place k cs i a p =
       above_rest k cs i (rises_back R o (get_or cs i []) _ (rest_rises cs i a p.inside)) (λ j e l. subst (λ m. starts_after R k (get_or cs m []) ≡ true) (sym e) (p.high (omega arith)))
 
-  pub put_place : (k : K) (cs : List (List K)) (i : ℕ) → AreChunks R cs → IsPlace R cs k i → put R k (joined cs) ≡ joined (take i cs) ++ (put R k (get_or cs i []) ++ joined (drop (suc i) cs))
+  pub put_place : (k : K) (cs : List (List K)) (i : ℕ) → AreChunks R cs → IsPosition R cs k i → put R k (joined cs) ≡ joined (take i cs) ++ (put R k (get_or cs i []) ++ joined (drop (suc i) cs))
   put_place k cs i a p = ap (put R k) (joined_at cs i p.inside) ∙ put_middle R o k (joined (take i cs)) (get_or cs i []) (joined (drop (suc i) cs)) (below_first k cs i a p) (above_place k cs i a p)
 
-  pub without_place : (k : K) (cs : List (List K)) (i : ℕ) → AreChunks R cs → IsPlace R cs k i → without R k (joined cs) ≡ joined (take i cs) ++ (without R k (get_or cs i []) ++ joined (drop (suc i) cs))
+  pub without_place : (k : K) (cs : List (List K)) (i : ℕ) → AreChunks R cs → IsPosition R cs k i → without R k (joined cs) ≡ joined (take i cs) ++ (without R k (get_or cs i []) ++ joined (drop (suc i) cs))
   without_place k cs i a p = ap (without R k) (joined_at cs i p.inside) ∙ without_middle R o k (joined (take i cs)) (get_or cs i []) (joined (drop (suc i) cs)) (below_first k cs i a p) (above_place k cs i a p)
 
   pub length_put : (k : K) (xs : List K) → has R xs k ≡ false → length (put R k xs) ≡ length xs + 1
@@ -96,7 +96,7 @@ module _ {K : Type 0} (R : K → K → Ordering) (o : IsTotalOrder R) where
       ]
 
   -- a chunk that took k
-  pub chunks_put : (k : K) (cs : List (List K)) (i : ℕ) → AreChunks R cs → IsPlace R cs k i → (joined (set cs i (put R k (get_or cs i []))) ≡ put R k (joined cs)) × AreChunks R (set cs i (put R k (get_or cs i [])))
+  pub chunks_put : (k : K) (cs : List (List K)) (i : ℕ) → AreChunks R cs → IsPosition R cs k i → (joined (set cs i (put R k (get_or cs i []))) ≡ put R k (joined cs)) × AreChunks R (set cs i (put R k (get_or cs i [])))
   chunks_put k cs i a p =
       let same : joined (set cs i (put R k (get_or cs i []))) ≡ put R k (joined cs) = joined_set cs i (put R k (get_or cs i [])) p.inside ∙ sym (put_place k cs i a p) in (
         same,
@@ -107,7 +107,7 @@ module _ {K : Type 0} (R : K → K → Ordering) (o : IsTotalOrder R) where
       )
 
   -- a chunk that was split as it took k
-  pub chunks_split : (k : K) (cs : List (List K)) (i : ℕ) (d e : List K) → AreChunks R cs → IsPlace R cs k i → put R k (get_or cs i []) ≡ d ++ e → 0 < length d → 0 < length e
+  pub chunks_split : (k : K) (cs : List (List K)) (i : ℕ) (d e : List K) → AreChunks R cs → IsPosition R cs k i → put R k (get_or cs i []) ≡ d ++ e → 0 < length d → 0 < length e
       → (joined (insert (set cs i d) (i + 1) e) ≡ put R k (joined cs)) × AreChunks R (insert (set cs i d) (i + 1) e)
   chunks_split k cs i d e a p is some_d some_e =
       let same : joined (insert (set cs i d) (i + 1) e) ≡ put R k (joined cs) = rw add-one (joined_split cs i d e p.inside) ∙ sym (put_place k cs i a p ∙ ap (λ (l : List K). joined (take i cs) ++ (l ++ joined (drop (suc i) cs))) is) in
@@ -120,7 +120,7 @@ module _ {K : Type 0} (R : K → K → Ordering) (o : IsTotalOrder R) where
       )
 
   -- a chunk that lost k, and has more
-  pub chunks_less : (k : K) (cs : List (List K)) (i : ℕ) (d : List K) → AreChunks R cs → IsPlace R cs k i → d ≡ without R k (get_or cs i []) → 0 < length d → (joined (set cs i d) ≡ without R k (joined cs)) × AreChunks R (set cs i d)
+  pub chunks_less : (k : K) (cs : List (List K)) (i : ℕ) (d : List K) → AreChunks R cs → IsPosition R cs k i → d ≡ without R k (get_or cs i []) → 0 < length d → (joined (set cs i d) ≡ without R k (joined cs)) × AreChunks R (set cs i d)
   unfolding without
   chunks_less k cs i d a p is some_d =
       let same : joined (set cs i d) ≡ without R k (joined cs) = joined_set cs i d p.inside ∙ ap (λ (l : List K). joined (take i cs) ++ (l ++ joined (drop (suc i) cs))) is ∙ sym (without_place k cs i a p) in (
@@ -132,7 +132,7 @@ module _ {K : Type 0} (R : K → K → Ordering) (o : IsTotalOrder R) where
       )
 
   -- a chunk that lost all it had
-  pub chunks_gone : (k : K) (cs : List (List K)) (i : ℕ) (d : List K) → AreChunks R cs → IsPlace R cs k i → d ≡ without R k (get_or cs i []) → length d ≡ 0 → (joined (remove (set cs i d) i) ≡ without R k (joined cs)) × AreChunks R (remove (set cs i d) i)
+  pub chunks_gone : (k : K) (cs : List (List K)) (i : ℕ) (d : List K) → AreChunks R cs → IsPosition R cs k i → d ≡ without R k (get_or cs i []) → length d ≡ 0 → (joined (remove (set cs i d) i) ≡ without R k (joined cs)) × AreChunks R (remove (set cs i d) i)
   unfolding without
   chunks_gone k cs i d a p is none =
       let empty : d ≡ [] = empty_from_length d none in

@@ -6,11 +6,11 @@ use Rattle.std.specs.Ordering.{eq_by_cmp}
 use Rattle.std.specs.Cmp.{IsTotalOrder}
 use Rattle.std.specs.declared.cmp.Ordering.{Ordering}
 use Rattle.tca_join.specs.Sets.{has}
-use Rattle.tca_log.specs.Chunks.{joined, AreChunks, IsPlace}
-use Rattle.tca_log.specs.Ordered.{tied}
-use Rattle.tca_log.proofs.Parts.{has_below, has_above}
-use Rattle.tca_log.proofs.Places.{joined_at, below_first, above_place}
-use Rattle.tca_log.proofs.Search.{tied_absent}
+use Rattle.tca_log.specs.Rows.Chunks.{joined, AreChunks, IsPosition}
+use Rattle.tca_log.specs.Rows.Ordered.{tied}
+use Rattle.tca_log.proofs.OrderedRows.Parts.{has_below, has_above}
+use Rattle.tca_log.proofs.OrderedRows.Positions.{joined_at, below_first, above_place}
+use Rattle.tca_log.proofs.OrderedRows.Search.{tied_absent}
 
 module _ {K : Type 0} (R : K → K → Ordering) (o : IsTotalOrder R) where
   tied_past : (k : K) (xs ys : List K) → has R xs k ≡ false → tied R k (xs ++ ys) ≡ tied R k ys
@@ -24,7 +24,7 @@ module _ {K : Type 0} (R : K → K → Ordering) (o : IsTotalOrder R) where
   tied_before k [] ys h = tied_absent R o k ys h
   tied_before k (x ∷ xs) ys h = ap (cond (eq_by_cmp R k x) (Some x)) (tied_before k xs ys h)
 
-  pub tied_place : (k : K) (cs : List (List K)) (i : ℕ) → AreChunks R cs → IsPlace R cs k i → tied R k (joined cs) ≡ tied R k (get_or cs i [])
+  pub tied_place : (k : K) (cs : List (List K)) (i : ℕ) → AreChunks R cs → IsPosition R cs k i → tied R k (joined cs) ≡ tied R k (get_or cs i [])
   tied_place k cs i a p =
       ap (tied R k) (joined_at cs i p.inside)
       ∙ tied_past k (joined (take i cs)) _ (has_below R o k (joined (take i cs)) (below_first R o k cs i a p))

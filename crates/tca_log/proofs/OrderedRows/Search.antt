@@ -11,9 +11,9 @@ use Rattle.std.proofs.lemmas.Bool.{or_right}
 use Rattle.std.proofs.lemmas.List.{append-nil}
 use Rattle.tca_join.specs.Sets.{by_order, has, put}
 use Rattle.tca_join.proofs.Search.{gap_at, searchable}
-use Rattle.tca_log.specs.Ordered.{without, rank, tied}
-use Rattle.tca_log.proofs.Parts.{turned, lt_less, above_less, below_tied, without_at, without_absent, has_above, has_below, put_past}
-use Rattle.tca_log.proofs.Ranks.{rank_at, rank_gap}
+use Rattle.tca_log.specs.Rows.Ordered.{without, rank, tied}
+use Rattle.tca_log.proofs.OrderedRows.Parts.{turned, lt_less, above_less, below_tied, without_at, without_absent, has_above, has_below, put_past}
+use Rattle.tca_log.proofs.OrderedRows.Ranks.{rank_at, rank_gap}
 
 module _ {K : Type 0} (R : K → K → Ordering) (o : IsTotalOrder R) where
   -- where one that ties is there, nothing changes
@@ -33,7 +33,7 @@ module _ {K : Type 0} (R : K → K → Ordering) (o : IsTotalOrder R) where
   has_at (x ∷ xs) zero k h at = rw (turned R o x k Equal (at x)) refl
   has_at (x ∷ xs) (suc i) k h at = or_right _ _ (has_at xs i k (omega arith) at)
 
-  -- the one that ties, by its place
+  -- the one that ties, by its index
   pub tied_at : (k : K) (xs : List K) (i : ℕ) (d : K) → IsStrictlySortedBy R xs → i < length xs → HoldsAt (λ y. R y k ≡ Equal) xs i → tied R k xs ≡ Some (get_or xs i d)
   unfolding tied IsStrictlySortedBy
   tied_at k [] i d s h at = absurd (omega arith)
@@ -76,16 +76,16 @@ module _ {K : Type 0} (R : K → K → Ordering) (o : IsTotalOrder R) where
     pub there : OnOk result (put R k xs ≡ xs)
     pub gone : IfOk result (λ at. without R k xs ≡ remove xs at)
     pub none : OnErr result (tied R k xs ≡ None)
-    pub place : IfErr result (λ at. put R k xs ≡ insert xs at k)
+    pub gap : IfErr result (λ at. put R k xs ≡ insert xs at k)
     pub same : OnErr result (without R k xs ≡ xs)
     pub rank : MatchResult result (λ at. at ≡ rank R k xs) (λ at. at ≡ rank R k xs)
 
   pub searched : (xs : List K) (k : K) (result : Result ℕ ℕ) → IsStrictlySortedBy R xs → IsSearchInRange result (length xs) → IsBinarySearchResult (λ y. R y k) xs result → IsFound xs k result
-  searched xs k (Ok i) s bound at = record { tie = tied_at k xs i k s bound at; there = put_there k xs s (has_at xs i k bound at); gone = without_at R o k xs i s bound at; none = tt; place = tt; same = tt; rank = rank_at R o k xs i s bound at }
+  searched xs k (Ok i) s bound at = record { tie = tied_at k xs i k s bound at; there = put_there k xs s (has_at xs i k bound at); gone = without_at R o k xs i s bound at; none = tt; gap = tt; same = tt; rank = rank_at R o k xs i s bound at }
   searched xs k (Err i) s bound part =
       let parts = part (searchable R o xs k s) in
       let gap = gap_at R o xs i k bound parts in
-      record { tie = tt; there = tt; gone = tt; none = tied_absent k xs gap.0; place = gap.1; same = without_absent R o k xs gap.0; rank = rank_gap R o k xs i bound parts }
+      record { tie = tt; there = tt; gone = tt; none = tied_absent k xs gap.0; gap = gap.1; same = without_absent R o k xs gap.0; rank = rank_gap R o k xs i bound parts }
 
   pub put_none : (k : K) → put R k [] ≡ k ∷ []
   unfolding put
