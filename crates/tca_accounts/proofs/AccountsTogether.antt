@@ -87,7 +87,7 @@ names_step differ again name (Err e) s x y = cc
 
 any_pairs : (pair : ℕ × ℕ) (accounts : List PlannedAccount) → list_any (same_pair pair) (all_pairs accounts) ≡ list_any (λ a. owns a pair) accounts
 any_pairs pair [] = refl
-any_pairs pair (a ∷ accounts) = list_any-append (same_pair pair) a.keys (all_pairs accounts) ∙ ap (λ b. owns a pair || b) (any_pairs pair accounts)
+any_pairs pair (a ∷ accounts) = list_any-append (same_pair pair) a.pairs (all_pairs accounts) ∙ ap (λ b. owns a pair || b) (any_pairs pair accounts)
 
 -- an account's pairs, and those behind them
 differ_parts : (pairs : List (ℕ × ℕ)) (others : List PlannedAccount) → all_differ same_pair (pairs ++ all_pairs others) ≡ (differ_before others pairs && pairs_differ others)
@@ -96,11 +96,11 @@ differ_parts (p ∷ pairs) others =
     rw (list_any-append (same_pair p) pairs (all_pairs others), any_pairs p others, differ_parts pairs others) (and_more _ (differ_before others pairs) (pairs_differ others))
 
 pub pairs_step : (differ apart : Bool) (r : Result PlannedAccount PlanFault) (s : Result (List PlannedAccount) PlanFault) (p : Result (List (ℕ × ℕ)) PlanFault)
-    → p ≡ given (λ a. a.keys) r → Ok apart ≡ (p >>= λ pairs. given (λ others. differ_before others pairs) s) → given (λ all. differ && pairs_differ all) (onto r s) ≡ given (λ others. (differ && apart) && pairs_differ others) s
+    → p ≡ given (λ a. a.pairs) r → Ok apart ≡ (p >>= λ pairs. given (λ others. differ_before others pairs) s) → given (λ all. differ && pairs_differ all) (onto r s) ≡ given (λ others. (differ && apart) && pairs_differ others) s
 pairs_step differ apart (Ok a) (Ok others) (Ok pairs) x y =
-    let same : pairs ≡ a.keys = cc in
-    let here : apart ≡ differ_before others a.keys = rw (← same) (cc) in
-    ap Ok (rw (differ_parts a.keys others, here) (and_more differ (differ_before others a.keys) (pairs_differ others)))
+    let same : pairs ≡ a.pairs = cc in
+    let here : apart ≡ differ_before others a.pairs = rw (← same) (cc) in
+    ap Ok (rw (differ_parts a.pairs others, here) (and_more differ (differ_before others a.pairs) (pairs_differ others)))
 pairs_step differ apart (Ok a) (Err e) p x y = refl
 pairs_step differ apart (Ok a) (Ok others) (Err e) x y = cc
 pairs_step differ apart (Err e) s (Ok pairs) x y = cc
@@ -108,7 +108,7 @@ pairs_step differ apart (Err e) s (Err d) x y = cc
 
 -- an account's pairs can be judged before others that are right
 pub pairs_fault : {C : Type 0} (g : List PlannedAccount → C) (e : PlanFault) (r : Result PlannedAccount PlanFault) (s : Result (List PlannedAccount) PlanFault) (p : Result (List (ℕ × ℕ)) PlanFault)
-    → p ≡ given (λ a. a.keys) r → Err e ≡ (p >>= λ pairs. given (λ others. differ_before others pairs) s) → Err e ≡ given g (onto r s)
+    → p ≡ given (λ a. a.pairs) r → Err e ≡ (p >>= λ pairs. given (λ others. differ_before others pairs) s) → Err e ≡ given g (onto r s)
 pairs_fault g e (Ok a) (Ok others) (Ok pairs) x y = cc
 pairs_fault g e (Ok a) (Err d) (Ok pairs) x y = cc
 pairs_fault g e (Ok a) s (Err d) x y = cc
@@ -145,18 +145,18 @@ stops exact sum e =
       | inr below ↦ inl (omega (arith, e, below))
     ]
 
-capped : (count keys others sum : ℕ) → Stops (count + keys) sum → nat_le (count + (keys + others)) 4096 ≡ nat_le (sum + others) 4096
-capped count keys others sum (inl e) = grind (arith, nat_tests)
-capped count keys others sum (inr h) = grind (arith, nat_tests)
+capped : (count pairs others sum : ℕ) → Stops (count + pairs) sum → nat_le (count + (pairs + others)) 4096 ≡ nat_le (sum + others) 4096
+capped count pairs others sum (inl e) = grind (arith, nat_tests)
+capped count pairs others sum (inr h) = grind (arith, nat_tests)
 
-pub few_step : (count sum : ℕ) (keys : List Value) (r : Result PlannedAccount PlanFault) (s : Result (List PlannedAccount) PlanFault)
-    → pairs_of (items_view keys) ≡ given (λ a. a.keys) r → IsOk (pairs_of (items_view keys)) → Stops (count + length keys) sum
+pub few_step : (count sum : ℕ) (pairs : List Value) (r : Result PlannedAccount PlanFault) (s : Result (List PlannedAccount) PlanFault)
+    → pairs_of (items_view pairs) ≡ given (λ a. a.pairs) r → IsOk (pairs_of (items_view pairs)) → Stops (count + length pairs) sum
     → given (λ all. nat_le (count + length (all_pairs all)) 4096) (onto r s) ≡ given (λ others. nat_le (sum + length (all_pairs others)) 4096) s
-few_step count sum keys (Ok a) (Ok others) x ok stops =
-    let many : length a.keys ≡ length keys = pairs_length keys a.keys x in
-    ap Ok (rw (length-append a.keys (all_pairs others), many) (capped count (length keys) (length (all_pairs others)) sum stops))
-few_step count sum keys (Ok a) (Err e) x ok stops = refl
-few_step count sum keys (Err e) s x ok stops = absurd (false≢true (rw x at ok))
+few_step count sum pairs (Ok a) (Ok others) x ok stops =
+    let many : length a.pairs ≡ length pairs = pairs_length pairs a.pairs x in
+    ap Ok (rw (length-append a.pairs (all_pairs others), many) (capped count (length pairs) (length (all_pairs others)) sum stops))
+few_step count sum pairs (Ok a) (Err e) x ok stops = refl
+few_step count sum pairs (Err e) s x ok stops = absurd (false≢true (rw x at ok))
 
 -- all three judged
 right : (few pairs names : Bool) → few ≡ true → pairs ≡ true → names ≡ true → Ok tt ≡ (only_if few fault.Limits >>= λ told. only_if (pairs && names) fault.KeyTwice)

@@ -8,7 +8,7 @@ use Rattle.tca_accounts.specs.declared.key.Key.TheVariants as key
 use Rattle.tca_accounts.specs.declared.fault.PlanFault.TheVariants as fault
 use Rattle.tca_accounts.specs.Documents.{◌>>=◌, at, has_only, items_of, only_if, plan_of, whole_of}
 use Rattle.tca_accounts.specs.Readings.{plan_from}
-use Rattle.tca_accounts.proofs.PairLemmas.{count_items-view}
+use Rattle.tca_accounts.proofs.PairsOfValues.{count_items-view}
 
 abbrev in_limits : List Value → Bool
 in_limits vs = nat_le 1 (length vs) && nat_le (length vs) 256

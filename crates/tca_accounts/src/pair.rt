@@ -13,12 +13,12 @@ use tca_report::Report;
 
 /// An observation domain and one of its interfaces: the pair that an account owns.
 #[derive(Clone, Copy, Debug)]
-pub(crate) struct Point {
+pub(crate) struct Pair {
     domain: u32,
     iface: u32,
 }
 
-impl Model for Point {
+impl Model for Pair {
     ghost use Rattle.std.specs.Prelude.{ℕ};
 
     ghost Value = { ℕ × ℕ };
@@ -28,26 +28,26 @@ impl Model for Point {
     ghost inverse = { λ p. record { domain = p.0; iface = p.1 } };
 }
 
-impl Point {
-    /// The point of a pair.
-    pub(crate) fn new(pair: (u32, u32)) -> Point
+impl Pair {
+    /// The pair of a domain and an interface.
+    pub(crate) fn new(pair: (u32, u32)) -> Pair
         ensures { result ≡ pair }
     {
         let (domain, iface) = pair;
-        Point { domain, iface }
+        Pair { domain, iface }
     }
 
-    /// The point that a report is of.
-    pub(crate) fn of(report: &Report) -> Point
+    /// The pair of a report.
+    pub(crate) fn of(report: &Report) -> Pair
         ensures { result ≡ pair_of report.now }
     {
-        Point {
+        Pair {
             domain: report.identity().domain,
             iface: report.content().iface,
         }
     }
 
-    // The point as one number, in the order of points: one is looked up for every report, and that is comparing.
+    // The pair as one number, in the order of pairs: one is looked up for every report, and that is comparing.
     fn one_number(&self) -> u64
         ensures value { result ≡ self.now.0 * 4294967296 + self.now.1 }
         ensures below { self.now.1 < 4294967296 }
@@ -56,31 +56,31 @@ impl Point {
     }
 }
 
-impl PartialEq for Point {
+impl PartialEq for Pair {
     ghost eq = { λ a b. is_eq (pair_cmp a b) };
 
     ghost laws = { partial_equiv_from_equiv (eq_by_cmp_equiv pair_total) };
 
-    fn eq(&self, other: &Point) -> bool {
+    fn eq(&self, other: &Pair) -> bool {
         self.cmp(other) == Ordering::Equal
     }
 }
 
-impl Eq for Point {
+impl Eq for Pair {
     ghost laws = { eq_by_cmp_equiv pair_total };
 }
 
-impl PartialOrd for Point {
+impl PartialOrd for Pair {
     ghost partial_cmp = { λ a b. Some (pair_cmp a b) };
 
     ghost laws = { partial_order_from_agreeing_total pair_cmp pair_total (λ _ _. refl) (λ _ _. refl) };
 
-    fn partial_cmp(&self, other: &Point) -> Option<Ordering> {
+    fn partial_cmp(&self, other: &Pair) -> Option<Ordering> {
         Some(self.cmp(other))
     }
 }
 
-impl Ord for Point {
+impl Ord for Pair {
     ghost cmp = { pair_cmp };
 
     ghost total = { pair_total };
@@ -89,7 +89,7 @@ impl Ord for Point {
 
     ghost matches_eq = { λ _ _. refl };
 
-    fn cmp(&self, other: &Point) -> Ordering {
+    fn cmp(&self, other: &Pair) -> Ordering {
         self.one_number().cmp(&other.one_number())
     }
 }

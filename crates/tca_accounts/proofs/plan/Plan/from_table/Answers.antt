@@ -1,8 +1,8 @@
 use Rattle.std.proofs.Common.{◌≡◌, ◌<◌, ◌⊎◌, inl, inr, rules, length}
 use Rattle.toml.specs.View.{table_view}
-use Rattle.tca_accounts.proofs.PlanLemmas.{IsRead, plan_of-limits, plan_of-some}
-use Rattle.tca_accounts.proofs.reading.read_table.Goals as goal
-use Rattle.tca_accounts.proofs.reading.read_table.Goals.{then-is_empty-via-then-is_empty, then-is_empty-via-else-is_empty+then-values-gt-MOST_ACCOUNTS}
+use Rattle.tca_accounts.proofs.PlanOfTable.{IsRead, plan_of-limits, plan_of-some}
+use Rattle.tca_accounts.proofs.plan.Plan.from_table.Goals as goal
+use Rattle.tca_accounts.proofs.plan.Plan.from_table.Goals.{then-is_empty-via-then-is_empty, then-is_empty-via-else-is_empty+then-values-gt-MOST_ACCOUNTS}
 
 pub returns-then-is_empty-clause-exact : goal.returns-then-is_empty-clause-exact
 returns-then-is_empty-clause-exact c =
