@@ -4,10 +4,10 @@ pub mod Periods
 pub mod Steps
 pub mod Rising
 pub mod Bills
-pub mod TableLemmas
-pub mod PairLemmas
-pub mod AccountLemmas
-pub mod PlanLemmas
+pub mod TableKeys
+pub mod PairsOfValues
+pub mod AccountsOfValues
+pub mod PlanOfTable
 pub mod Memory
-pub mod TogetherLemmas
+pub mod AccountsTogether
 pub mod Proper

@@ -100,7 +100,7 @@ members d = λ e. cc
 
 account : (n : ℕ) (d : Data) → Suffices (doc.account_in n d)
 account n d =
-    step (doc.members_of d) _ (members d) (λ ms. step (doc.kind_in ms) _ (step (doc.text_of key.Meter (doc.at key.Meter ms)) doc.kind_named (text key.Meter _) kind_named) (λ k. step (doc.only_if _ fault.UnknownKey) _ (tested _ _ (λ e. cc)) (λ known. step (doc.name_in ms) _ (name ms) (λ s. step (doc.truth_or_false key.Aware (doc.at key.Aware ms)) _ (truth_or_false key.Aware _) (λ aware. step (doc.other_of (doc.at key.Other ms)) _ (other (doc.at key.Other ms)) (λ colour. step (doc.meter_in k aware ms) _ (meter k aware ms) (λ told. step (doc.pairs_in ms) _ (listed ms) (λ keys. step (doc.judged n told) _ (judged n told) (λ m. tt)))))))))
+    step (doc.members_of d) _ (members d) (λ ms. step (doc.kind_in ms) _ (step (doc.text_of key.Meter (doc.at key.Meter ms)) doc.kind_named (text key.Meter _) kind_named) (λ k. step (doc.only_if _ fault.UnknownKey) _ (tested _ _ (λ e. cc)) (λ known. step (doc.name_in ms) _ (name ms) (λ s. step (doc.truth_or_false key.Aware (doc.at key.Aware ms)) _ (truth_or_false key.Aware _) (λ aware. step (doc.other_of (doc.at key.Other ms)) _ (other (doc.at key.Other ms)) (λ colour. step (doc.meter_in k aware ms) _ (meter k aware ms) (λ told. step (doc.pairs_in ms) _ (listed ms) (λ pairs. step (doc.judged n told) _ (judged n told) (λ m. tt)))))))))
 
 accounts : (n : ℕ) (ds : Items) → Suffices (doc.accounts_from n ds)
 accounts n no_items = tt

@@ -140,7 +140,7 @@ positions_more pair (k ∷ ks) n rest = ap (cond (same_pair pair k) (Some n)) (p
 pub first_owner : (n : ℕ) (as_ : List PlannedAccount) (pair : Pair) → owner_among (owned n as_) pair ≡ position_from (λ a. owns a pair) n as_
 unfolding owner_among
 first_owner n [] pair = refl
-first_owner n (a ∷ rest) pair = positions_more pair a.keys n (owned (n + 1) rest) ∙ ap (cond (owns a pair) (Some n)) (first_owner (n + 1) rest pair)
+first_owner n (a ∷ rest) pair = positions_more pair a.pairs n (owned (n + 1) rest) ∙ ap (cond (owns a pair) (Some n)) (first_owner (n + 1) rest pair)
 
 map_pairs : (ks : List Pair) (n : ℕ) (rest : Owned) → map (λ (e : Pair × ℕ). e.0) (map (λ (k : Pair). (k, n)) ks ++ rest) ≡ ks ++ map (λ (e : Pair × ℕ). e.0) rest
 map_pairs [] n rest = refl
@@ -149,7 +149,7 @@ map_pairs (k ∷ ks) n rest = ap (λ (xs : List Pair). k ∷ xs) (map_pairs ks n
 -- and these pairs are all pairs
 pub pairs_owned : (n : ℕ) (as_ : List PlannedAccount) → map (λ (e : Pair × ℕ). e.0) (owned n as_) ≡ all_pairs as_
 pairs_owned n [] = refl
-pairs_owned n (a ∷ rest) = map_pairs a.keys n (owned (n + 1) rest) ∙ ap (λ (xs : List Pair). a.keys ++ xs) (pairs_owned (n + 1) rest)
+pairs_owned n (a ∷ rest) = map_pairs a.pairs n (owned (n + 1) rest) ∙ ap (λ (xs : List Pair). a.pairs ++ xs) (pairs_owned (n + 1) rest)
 
 all_hold : (es : Owned) → list_all (λ (e : Pair × ℕ). is_none (owner_in [] e.0)) es ≡ true
 all_hold [] = refl
@@ -261,8 +261,8 @@ module _ (pair : Pair) where
   owned_there [] n a at h = absurd cc
   owned_there (b ∷ rest) zero a at h =
       let same : b ≡ a = cc in
-      among_first pair b.keys (all_pairs rest) (ap (λ (x : PlannedAccount). owns x pair) same ∙ h)
-  owned_there (b ∷ rest) (suc n) a at h = among_later pair b.keys (all_pairs rest) (owned_there rest n a at h)
+      among_first pair b.pairs (all_pairs rest) (ap (λ (x : PlannedAccount). owns x pair) same ∙ h)
+  owned_there (b ∷ rest) (suc n) a at h = among_later pair b.pairs (all_pairs rest) (owned_there rest n a at h)
 
   -- where all pairs differ, an account that owns a pair is the first one that does
   pub sole_owner : (first : ℕ) (as_ : List PlannedAccount) (n : ℕ) (a : PlannedAccount) → all_differ same_pair (all_pairs as_) ≡ true → slice_get as_ n ≡ Some a → owns a pair ≡ true
@@ -274,9 +274,9 @@ module _ (pair : Pair) where
       ap (λ c. cond c (Some first) (position_from (λ a. owns a pair) (first + 1) rest)) (ap (λ (x : PlannedAccount). owns x pair) same ∙ h) ∙ ap Some place
   sole_owner first (b ∷ rest) (suc n) a differ at h =
       let there : list_any (same_pair pair) (all_pairs rest) ≡ true = owned_there rest n a at h in
-      let other : owns b pair ≡ false = not_true (owns b pair) (λ here. sym (among_both pair b.keys (all_pairs rest) here there) ∙ differ) in
+      let other : owns b pair ≡ false = not_true (owns b pair) (λ here. sym (among_both pair b.pairs (all_pairs rest) here there) ∙ differ) in
       let place : (first + 1) + n ≡ first + suc n = omega arith in
-      ap (λ c. cond c (Some first) (position_from (λ a. owns a pair) (first + 1) rest)) other ∙ sole_owner (first + 1) rest n a (others_differ b.keys (all_pairs rest) differ) at h ∙ ap Some place
+      ap (λ c. cond c (Some first) (position_from (λ a. owns a pair) (first + 1) rest)) other ∙ sole_owner (first + 1) rest n a (others_differ b.pairs (all_pairs rest) differ) at h ∙ ap Some place
 
 -- the pairs of accounts that are distinct all differ
 pub pairs_apart : (accounts : List PlannedAccount) → are_distinct accounts ≡ true → all_differ same_pair (all_pairs accounts) ≡ true

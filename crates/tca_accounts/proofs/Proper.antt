@@ -47,7 +47,7 @@ pairs_told ms pairs e =
 -- an account that was read
 record IsProper (a : PlannedAccount) : Type 0 where
   named : is_name a.name ≡ true
-  owning : 0 < length a.keys
+  owning : 0 < length a.pairs
 
 account_told : (n : ℕ) (d : Data) (a : PlannedAccount) → account_in n d ≡ Ok a → IsProper a
 account_told n d a e =
@@ -58,12 +58,12 @@ account_told n d a e =
     let aware = went_on (truth_or_false key.Aware (at key.Aware ms.0)) _ a name.2 in
     let other = went_on (other_of (at key.Other ms.0)) _ a aware.2 in
     let told = went_on (meter_in kind.0 aware.0 ms.0) _ a other.2 in
-    let keys = went_on (pairs_in ms.0) _ a told.2 in
-    let meter = went_on (judged n told.0) _ a keys.2 in
+    let pairs = went_on (pairs_in ms.0) _ a told.2 in
+    let meter = went_on (judged n told.0) _ a pairs.2 in
     let is = same meter.2 in
     record {
       named = subst (λ (b : PlannedAccount). is_name b.name ≡ true) is (name_told ms.0 name.0 name.1);
-      owning = subst (λ (b : PlannedAccount). 0 < length b.keys) is (pairs_told ms.0 keys.0 keys.1);
+      owning = subst (λ (b : PlannedAccount). 0 < length b.pairs) is (pairs_told ms.0 pairs.0 pairs.1);
     }
 
 pub all_named : (n : ℕ) (ds : Items) (accounts : List PlannedAccount) → accounts_from n ds ≡ Ok accounts → AllByRecursion (λ a. is_name a.name ≡ true) accounts
@@ -73,9 +73,9 @@ all_named n (item d ds) accounts e =
     let others = went_on (accounts_from (suc n) ds) _ accounts one.2 in
     subst (AllByRecursion (λ (a : PlannedAccount). is_name a.name ≡ true)) (same others.2) ((account_told n d one.0 one.1).named, all_named (suc n) ds others.0 others.1)
 
-pub all_owning : (n : ℕ) (ds : Items) (accounts : List PlannedAccount) → accounts_from n ds ≡ Ok accounts → AllByRecursion (λ a. 0 < length a.keys) accounts
-all_owning n no_items accounts e = subst (AllByRecursion (λ (a : PlannedAccount). 0 < length a.keys)) (same e) tt
+pub all_owning : (n : ℕ) (ds : Items) (accounts : List PlannedAccount) → accounts_from n ds ≡ Ok accounts → AllByRecursion (λ a. 0 < length a.pairs) accounts
+all_owning n no_items accounts e = subst (AllByRecursion (λ (a : PlannedAccount). 0 < length a.pairs)) (same e) tt
 all_owning n (item d ds) accounts e =
     let one = went_on (account_in n d) _ accounts e in
     let others = went_on (accounts_from (suc n) ds) _ accounts one.2 in
-    subst (AllByRecursion (λ (a : PlannedAccount). 0 < length a.keys)) (same others.2) ((account_told n d one.0 one.1).owning, all_owning (suc n) ds others.0 others.1)
+    subst (AllByRecursion (λ (a : PlannedAccount). 0 < length a.pairs)) (same others.2) ((account_told n d one.0 one.1).owning, all_owning (suc n) ds others.0 others.1)

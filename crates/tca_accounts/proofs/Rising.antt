@@ -5,7 +5,7 @@ use Rattle.std.proofs.lemmas.Bool.{cases_lt}
 use Rattle.std.proofs.lemmas.Cmp.{nat_cmp_total}
 use Rattle.std.proofs.lemmas.List.{get_or-map, length-map}
 use Rattle.std.proofs.lemmas.Map.Keys.{sorted_from_all_adjacent, below_from_sorted}
-use Rattle.tca_join.proofs.Places.{less_is}
+use Rattle.tca_join.proofs.Positions.{less_is}
 use Rattle.tca_accounts.specs.Spans.{Ascend}
 use Rattle.tca_accounts.specs.declared.span.Span.{Span}
 

@@ -12,7 +12,7 @@ use Rattle.tca_meters.specs.MeterSpecs.{as_any}
 use Rattle.tca_meters.specs.SrTcm.{single_rate}
 use Rattle.tca_meters.specs.TrTcm.{peak_rate}
 use Rattle.tca_meters.specs.Rfc4115.{excess_rate}
-use Rattle.tca_accounts.specs.Plans.{AccountPlan, PlannedAccount, all_pairs, are_distinct, is_name}
+use Rattle.tca_accounts.specs.Plans.{AccountPlan, PlannedAccount, all_pairs, are_distinct, is_name, most_pairs}
 use Rattle.tca_accounts.specs.declared.key.Key.{Key}
 use Rattle.tca_accounts.specs.declared.key.Key.TheVariants as key
 use Rattle.tca_accounts.specs.declared.kind.Kind.{Kind}
@@ -212,9 +212,9 @@ account_in n value = do
   aware ← truth_or_false key.Aware (at key.Aware ms)
   other ← other_of (at key.Other ms)
   told ← meter_in kind aware ms
-  keys ← pairs_in ms
+  pairs ← pairs_in ms
   meter ← judged n told
-  Ok (record { name = name; meter = meter; other = other; keys = keys })
+  Ok (record { name = name; meter = meter; other = other; pairs = pairs })
 
 -- the accounts from account n on
 abbrev pub accounts_from : ℕ → Items → Result (List PlannedAccount) PlanFault
@@ -227,7 +227,7 @@ accounts_from n (item d ds) = do
 -- a plan of these accounts
 abbrev pub plan_with : ℕ → List PlannedAccount → Result AccountPlan PlanFault
 plan_with period accounts = do
-  few ← only_if (nat_le (length (all_pairs accounts)) 4096) fault.Limits
+  few ← only_if (nat_le (length (all_pairs accounts)) most_pairs) fault.Limits
   distinct ← only_if (are_distinct accounts) fault.KeyTwice
   Ok (record { period = period; accounts = accounts })
 

@@ -1,4 +1,4 @@
--- A map from pairs to the accounts that own them.
+-- A map from pairs to the accounts that own them. No public contract cites this: it serves the plan's map and its proofs alone.
 use Rattle.std.specs.Prelude.{◌≡◌, ℕ, ◌+◌, Bool, ◌&&◌, false, List, [], ◌∷◌, ◌++◌, map, Option, Some, None, is_none, cond}
 use Rattle.std.specs.List.{list_all, position_from}
 use Rattle.std.specs.Map.{lookup}
@@ -28,7 +28,7 @@ AreOwners accounts entries = (pair : ℕ × ℕ) → owner_in entries pair ≡ p
 -- each pair of accounts with the number of its account, the first of which has number n
 abbrev pub owned : ℕ → List PlannedAccount → List ((ℕ × ℕ) × ℕ)
 owned n [] = []
-owned n (a ∷ rest) = map (λ k. (k, n)) a.keys ++ owned (n + 1) rest
+owned n (a ∷ rest) = map (λ k. (k, n)) a.pairs ++ owned (n + 1) rest
 
 -- the account of a pair, among pairs with their accounts
 unfoldable pub owner_among : List ((ℕ × ℕ) × ℕ) → ℕ × ℕ → Option ℕ

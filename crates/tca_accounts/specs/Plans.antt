@@ -12,12 +12,16 @@ pub record PlannedAccount : Type 0 where
   pub name : List ℕ
   pub meter : AnyMeter
   pub other : Colour
-  pub keys : List (ℕ × ℕ)
+  pub pairs : List (ℕ × ℕ)
 
 -- a plan: the milliseconds of a period, and the accounts in their order
 pub record AccountPlan : Type 0 where
   pub period : ℕ
   pub accounts : List PlannedAccount
+
+-- the most pairs of all accounts
+abbrev pub most_pairs : ℕ
+most_pairs = 4096
 
 -- whether two pairs are the same
 abbrev pub same_pair : ℕ × ℕ → ℕ × ℕ → Bool
@@ -25,7 +29,7 @@ same_pair p q = (p.0 == q.0) && (p.1 == q.1)
 
 -- whether an account owns a pair
 abbrev pub owns : PlannedAccount → ℕ × ℕ → Bool
-owns a pair = list_any (same_pair pair) a.keys
+owns a pair = list_any (same_pair pair) a.pairs
 
 -- the observation domain and the interface of a report
 abbrev pub pair_of : PacketReport → ℕ × ℕ
@@ -37,7 +41,7 @@ account_of plan r = position_from (λ a. owns a (pair_of r)) 0 plan.accounts
 
 -- the pairs of all accounts, in their order
 abbrev pub all_pairs : List PlannedAccount → List (ℕ × ℕ)
-all_pairs accounts = flat_map (λ a. a.keys) accounts
+all_pairs accounts = flat_map (λ a. a.pairs) accounts
 
 -- no member is the same as one behind it
 abbrev pub all_differ : {K : Type 0} → (K → K → Bool) → List K → Bool
@@ -63,7 +67,7 @@ pub record IsPlan (plan : AccountPlan) : Type 0 where
   pub time : plan.period < 2 ^ 48
   pub some : 0 < length plan.accounts
   pub few : length plan.accounts ≤ 256
-  pub pairs : length (all_pairs plan.accounts) ≤ 4096
+  pub pairs : length (all_pairs plan.accounts) ≤ most_pairs
   pub named : AllByRecursion (λ a. is_name a.name ≡ true) plan.accounts
-  pub owning : AllByRecursion (λ a. 0 < length a.keys) plan.accounts
+  pub owning : AllByRecursion (λ a. 0 < length a.pairs) plan.accounts
   pub distinct : are_distinct plan.accounts ≡ true

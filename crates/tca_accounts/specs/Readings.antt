@@ -1,4 +1,5 @@
--- What the parts of a TOML document are to those who read them.
+-- What the parts of a TOML document are to those who read them. No public contract cites this: it serves private functions and
+-- their proofs alone.
 use Rattle.std.specs.Prelude.{ℕ, Bool, true, not, ◌&&◌, ◌||◌, List, [], ◌∷◌, length, Option, Result, Ok, Err, option_map, nat_le}
 use Rattle.std.specs.List.{list_any}
 use Rattle.std.specs.Str.{bytes_eq}
@@ -6,7 +7,7 @@ use Rattle.std.specs.Borrow.{Bor}
 use Rattle.toml.specs.Data.{Data, Items}
 use Rattle.toml.specs.View.{items_view, view}
 use Rattle.toml.specs.declared.value.Value.{Value}
-use Rattle.tca_accounts.specs.Plans.{AccountPlan, PlannedAccount, all_differ, all_pairs, are_distinct, owns, same_pair}
+use Rattle.tca_accounts.specs.Plans.{AccountPlan, PlannedAccount, all_differ, all_pairs, are_distinct, most_pairs, owns, same_pair}
 use Rattle.tca_accounts.specs.Documents.{◌>>=◌, account_in, accounts_from, only_if, pairs_of, plan_with}
 use Rattle.tca_accounts.specs.declared.draft.Draft.{Draft}
 use Rattle.tca_accounts.specs.declared.fault.PlanFault.{PlanFault}
@@ -36,8 +37,8 @@ pairs_read values = values >>= λ list. pairs_of (items_view list.now)
 -- the account that a draft becomes
 abbrev pub drafted : Draft → Result PlannedAccount PlanFault
 drafted d = do
-  keys ← pairs_of (items_view d.keys.now)
-  Ok (record { name = d.name.now; meter = d.meter; other = d.other; keys = keys })
+  pairs ← pairs_of (items_view d.pairs.now)
+  Ok (record { name = d.name.now; meter = d.meter; other = d.other; pairs = pairs })
 
 -- the account that was read, once it becomes one
 abbrev pub account_read : Result Draft PlanFault → Result PlannedAccount PlanFault
@@ -60,12 +61,12 @@ abbrev pub named_in : ℕ → Data → Result (List ℕ) PlanFault
 named_in n d = account_in n d >>= λ a. Ok a.name
 
 -- the pairs of account n
-abbrev pub keys_in : ℕ → Data → Result (List (ℕ × ℕ)) PlanFault
-keys_in n d = account_in n d >>= λ a. Ok a.keys
+abbrev pub pairs_at : ℕ → Data → Result (List (ℕ × ℕ)) PlanFault
+pairs_at n d = account_in n d >>= λ a. Ok a.pairs
 
 -- there are 4,096 pairs at most
 abbrev pub are_few : List PlannedAccount → Bool
-are_few accounts = nat_le (length (all_pairs accounts)) 4096
+are_few accounts = nat_le (length (all_pairs accounts)) most_pairs
 
 -- no two accounts have one name
 abbrev pub names_differ : List PlannedAccount → Bool

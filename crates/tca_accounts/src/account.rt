@@ -2,7 +2,7 @@
 ghost use Rattle.std.specs.Prelude.{◌≡◌, IfOk, length, nat_le};
 ghost use Rattle.std.specs.List.{list_any};
 ghost use Rattle.std.specs.Str.{bytes_eq};
-ghost use Rattle.tca_accounts.specs.Plans.{all_differ, all_pairs};
+ghost use Rattle.tca_accounts.specs.Plans.{all_differ, all_pairs, most_pairs};
 
 use std::alloc::{AllocError, Global};
 use std::marker::Model;
@@ -16,7 +16,7 @@ pub(crate) struct Account {
     /// The colour of a code point that has none of its own.
     pub(crate) other: Colour,
     /// The observation domains and interfaces whose reports it owns.
-    pub(crate) keys: Vec<(u32, u32)>,
+    pub(crate) pairs: Vec<(u32, u32)>,
 }
 
 impl Model for Account {
@@ -25,7 +25,7 @@ impl Model for Account {
 
     ghost Value = { PlannedAccount };
 
-    ghost view = { λ a. record { name = string_bytes a.name; meter = a.meter; other = a.other; keys = a.keys.items } };
+    ghost view = { λ a. record { name = string_bytes a.name; meter = a.meter; other = a.other; pairs = a.pairs.items } };
 }
 
 impl Account {
@@ -37,24 +37,24 @@ impl Account {
             name: String::from_str(alloc, &self.name)?,
             meter: self.meter,
             other: self.other,
-            keys: Vec::from_slice(alloc, &self.keys)?,
+            pairs: Vec::from_slice(alloc, &self.pairs)?,
         })
     }
 }
 
 /// The most pairs of all accounts.
-const MOST_PAIRS: usize = 4096;
+pub(crate) const MOST_PAIRS: usize = 4096;
 
 /// Whether all accounts together have no more pairs than a plan may have.
 pub(crate) fn are_few(accounts: &[Account]) -> bool
-    ensures { result ≡ nat_le (length (all_pairs accounts.now)) 4096 }
+    ensures { result ≡ nat_le (length (all_pairs accounts.now)) most_pairs }
 {
     let mut room = MOST_PAIRS;
     for account in accounts {
-        if account.keys.len() > room {
+        if account.pairs.len() > room {
             return false;
         }
-        room -= account.keys.len();
+        room -= account.pairs.len();
     }
     true
 }

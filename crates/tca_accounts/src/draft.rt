@@ -24,7 +24,7 @@ pub(crate) struct Draft<'a> {
     meter: AnyMeter,
     other: Colour,
     /// The values of its pairs.
-    pub(crate) keys: &'a [Value],
+    pub(crate) pairs: &'a [Value],
 }
 
 // A letter or digit of ASCII, a hyphen or an underscore.
@@ -101,13 +101,13 @@ pub(crate) fn read_account(account: u32, value: &Value) -> Result<Draft<'_>, Pla
     let aware = truth_or_false(at(table, Key::Aware), Key::Aware)?;
     let other = other(at(table, Key::Other))?;
     let told = meter(kind, aware, table)?;
-    let keys = judged(table)?;
+    let pairs = judged(table)?;
     match told {
         Ok(meter) => Ok(Draft {
             name,
             meter,
             other,
-            keys,
+            pairs,
         }),
         Err(fault) => Err(PlanFault::Meter { account, fault }),
     }
@@ -122,7 +122,7 @@ impl Draft<'_> {
             name: String::from_str(alloc, self.name)?,
             meter: self.meter,
             other: self.other,
-            keys: pairs(alloc, self.keys)?,
+            pairs: pairs(alloc, self.pairs)?,
         })
     }
 }

@@ -6,7 +6,7 @@
 //! its reports in their order from time 0 on, and octets and packets are summed by colour, in all and by
 //! period. One pass over the log serves all accounts, and a report's account is found by a search in a map.
 //!
-//! - `plan`, `account`, `owners`, `point`: a plan, its accounts, and which of them owns a report;
+//! - `plan`, `account`, `owners`, `pair`: a plan, its accounts, and which of them owns a report;
 //! - `reading`: a plan read from a text; beneath it `document` (the values of a table), `draft`, `meters` and `pairs` (an
 //!   account and its parts) and `together` (what all accounts have to be together);
 //! - `key`, `kind`, `fault`: the keys of a plan, the kinds of meters, and why a text is no plan;
@@ -26,7 +26,7 @@ mod meters;
 mod owners;
 mod pairs;
 mod plan;
-mod point;
+mod pair;
 mod reading;
 mod running;
 mod span;

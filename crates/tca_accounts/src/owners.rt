@@ -4,20 +4,20 @@ ghost use Rattle.tca_accounts.specs.Plans.{all_differ, all_pairs, same_pair};
 ghost use Rattle.tca_accounts.specs.Owners.{AreOwners, GoesOn, IsTwice};
 
 use crate::account::Account;
-use crate::point::Point;
+use crate::pair::Pair;
 use std::alloc::{AllocError, Global};
 use std::collections::BTreeMap;
 
 /// The number of the account that owns each pair.
-pub(crate) type Owners = BTreeMap<Point, u32>;
+pub(crate) type Owners = BTreeMap<Pair, u32>;
 
 // Enters the pairs of an account, unless one stands there already.
-fn enter(owners: &mut Owners, account: u32, keys: &[(u32, u32)]) -> Result<bool, AllocError>
-    ensures entered { IfOk result (λ b. b ≡ true → GoesOn owners.old.entries (map (λ k. (k, account)) keys.now) owners.new.entries []) }
-    ensures twice { IfOk result (λ b. b ≡ false → IsTwice owners.old.entries (map (λ k. (k, account)) keys.now)) }
+fn enter(owners: &mut Owners, account: u32, pairs: &[(u32, u32)]) -> Result<bool, AllocError>
+    ensures entered { IfOk result (λ b. b ≡ true → GoesOn owners.old.entries (map (λ k. (k, account)) pairs.now) owners.new.entries []) }
+    ensures twice { IfOk result (λ b. b ≡ false → IsTwice owners.old.entries (map (λ k. (k, account)) pairs.now)) }
 {
-    for pair in keys {
-        if owners.insert(Point::new(*pair), account)?.is_some() {
+    for pair in pairs {
+        if owners.insert(Pair::new(*pair), account)?.is_some() {
             return Ok(false);
         }
     }
@@ -32,7 +32,7 @@ pub(crate) fn owners_of(alloc: Global, accounts: &[Account]) -> Result<Option<Ow
 {
     let mut owners = BTreeMap::new(alloc);
     for (n, account) in accounts.iter().enumerate() {
-        if !enter(&mut owners, n as u32, &account.keys)? {
+        if !enter(&mut owners, n as u32, &account.pairs)? {
             return Ok(None);
         }
     }

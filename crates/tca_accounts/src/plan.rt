@@ -8,7 +8,7 @@ ghost use Rattle.tca_accounts.specs.Faults.{Gives};
 use crate::account::{Account, are_few, copied, names_differ};
 use crate::fault::PlanFault;
 use crate::owners::{Owners, owners_of};
-use crate::point::Point;
+use crate::pair::Pair;
 use std::alloc::{AllocError, Global};
 use std::marker::Model;
 use tca_meters::{AnyMeter, Colour};
@@ -43,7 +43,7 @@ impl Plan {
         requires some { 0 < length accounts.items }
         requires few { length accounts.items ≤ 256 }
         requires named { AllByRecursion (λ a. is_name a.name ≡ true) accounts.items }
-        requires owning { AllByRecursion (λ a. 0 < length a.keys) accounts.items }
+        requires owning { AllByRecursion (λ a. 0 < length a.pairs) accounts.items }
         ensures { Gives (λ p. p) result (plan_with period accounts.items) }
     {
         if !are_few(&accounts) {
@@ -68,7 +68,7 @@ impl Plan {
         ensures below { IfSome result (λ n. n < length self.now.accounts) }
         ensures only { (n : ℕ) (a : PlannedAccount) → slice_get self.now.accounts n ≡ Some a → owns a (pair_of report.now) ≡ true → result ≡ Some n }
     {
-        self.owners.get(&Point::of(report)).copied()
+        self.owners.get(&Pair::of(report)).copied()
     }
 
     /// How many accounts there are.

@@ -68,22 +68,6 @@ fn judged_plan(alloc: Global, period: u64, values: &[Value]) -> Result<Plan, Pla
     }
 }
 
-// The plan that a table is.
-fn read_table(alloc: Global, table: &Table) -> Result<Plan, PlanFault>
-    ensures exact { Gives (λ p. p) result (plan_of (table_view table.now)) }
-    ensures last { IfErr result (λ e. e ≡ PlanFault.Memory → IsOk (plan_of (table_view table.now))) }
-{
-    if !has_only(table, &[Key::Period, Key::Account]) {
-        return Err(PlanFault::UnknownKey);
-    }
-    let period = whole(at(table, Key::Period), Key::Period, 1, LONGEST_PERIOD)?;
-    let values = items(at(table, Key::Account), Key::Account)?;
-    if values.is_empty() || values.len() > MOST_ACCOUNTS {
-        return Err(PlanFault::Limits);
-    }
-    judged_plan(alloc, period, values)
-}
-
 impl Plan {
     /// Reads a plan from a text: a TOML document in UTF-8 with the keys `period`, the length of a period in
     /// milliseconds, from 1 to 2^48-1, and `account`, an array of 1 to 256 tables. An account has
@@ -99,14 +83,9 @@ impl Plan {
     /// - `keys`: an array of one or more pairs of an observation domain and an interface, each an array of two
     ///   integers from 0 to 4,294,967,295.
     ///
-    /// The first fault is answered: `Syntax` for a text that isn't UTF-8 or no document; `UnknownKey` for a
-    /// further key at the top; `Missing` or `Wrong` for `period`, then for `account`; `Limits` for no account
-    /// or more than 256. Then account by account: `Wrong` of `account` for one that is no table; `Missing` or
-    /// `Wrong` for `meter`; `UnknownKey` for a key that its kind of meter doesn't have; `Missing` or `Wrong`
-    /// for the other keys in their order; `Meter` where there is no meter of these parameters. Then `Limits`
-    /// for more than 4,096 pairs in all, and `KeyTwice` for a pair or a name that stands twice. `Memory` is
-    /// answered where the document couldn't be kept, and past that only where it is a plan. No fault leaves
-    /// anything behind.
+    /// The first fault is answered: `Syntax` for a text that isn't UTF-8 or no document, and then what
+    /// [`Plan::from_table`] answers for the document. `Memory` is answered besides where memory for the document
+    /// was refused. No fault leaves anything behind.
     pub fn from_text(alloc: Global, text: &[u8]) -> Result<Plan, PlanFault>
         ensures utf8 { IfOk result (λ p. IsUtf8 text.now) }
         ensures ok { IfOk result (λ p. plan_in (parse_document text.now) ≡ Ok p) }
@@ -114,9 +93,32 @@ impl Plan {
         ensures not_text { IfErr result (λ e. e ≢ PlanFault.Memory → ¬ IsUtf8 text.now → e ≡ PlanFault.Syntax) }
     {
         match toml::table_from_slice(alloc, text) {
-            Ok(table) => read_table(alloc, &table),
+            Ok(table) => Plan::from_table(alloc, &table),
             Err(error) if error.is_memory() => Err(PlanFault::Memory),
             Err(_) => Err(PlanFault::Syntax),
         }
+    }
+
+    /// The plan that a TOML document is, of the keys that [`Plan::from_text`] lists.
+    ///
+    /// The first fault is answered: `UnknownKey` for a further key at the top; `Missing` or `Wrong` for `period`,
+    /// then for `account`; `Limits` for no account or more than 256. Then account by account: `Wrong` of `account`
+    /// for one that is no table; `Missing` or `Wrong` for `meter`; `UnknownKey` for a key that its kind of meter
+    /// doesn't have; `Missing` or `Wrong` for the other keys in their order; `Meter` where there is no meter of
+    /// these parameters. Then `Limits` for more than 4,096 pairs in all, and `KeyTwice` for a pair or a name that
+    /// stands twice. `Memory` is answered only where the document is a plan.
+    pub fn from_table(alloc: Global, table: &Table) -> Result<Plan, PlanFault>
+        ensures exact { Gives (λ p. p) result (plan_of (table_view table.now)) }
+        ensures last { IfErr result (λ e. e ≡ PlanFault.Memory → IsOk (plan_of (table_view table.now))) }
+    {
+        if !has_only(table, &[Key::Period, Key::Account]) {
+            return Err(PlanFault::UnknownKey);
+        }
+        let period = whole(at(table, Key::Period), Key::Period, 1, LONGEST_PERIOD)?;
+        let values = items(at(table, Key::Account), Key::Account)?;
+        if values.is_empty() || values.len() > MOST_ACCOUNTS {
+            return Err(PlanFault::Limits);
+        }
+        judged_plan(alloc, period, values)
     }
 }

@@ -1,4 +1,4 @@
-use crate::{Bill, Key, Plan, PlanFault, Tally, bill_all};
+use crate::{Bill, Key, Plan, PlanFault, bill_all};
 use std::alloc::{AllocError, Global};
 use std::test::Fail;
 use tca_log::Log;
@@ -65,7 +65,8 @@ fn reads_an_account_of_each_kind(rt: HostRuntime) -> Result<(), Fail> {
             "keys = [[4294967295, 4294967295]]\n",
         ],
     )?;
-    let plan = Plan::from_text(alloc, text.as_bytes())?;
+    let table = toml::table_from_slice(alloc, text.as_bytes())?;
+    let plan = Plan::from_table(alloc, &table)?;
     let copy = plan.copy(alloc)?;
     assert_eq!(rt; copy.period(), 3_600_000);
     assert_eq!(rt; copy.accounts(), 3);
@@ -281,16 +282,15 @@ fn wide(alloc: Global, accounts: u32, pairs: u32) -> Result<String, AllocError> 
     Ok(text)
 }
 
-fn report(place: u32, time: u64, octets: u32, iface: u32) -> Option<Report> {
-    Report::new(
-        Identity { domain: 7, place },
-        Content {
-            time,
-            octets,
-            dscp: 0,
-            iface,
-        },
-    )
+fn report(place: u32, time: u64, octets: u32, iface: u32) -> Result<Report, Fail> {
+    let identity = Identity { domain: 7, place };
+    let content = Content {
+        time,
+        octets,
+        dscp: 0,
+        iface,
+    };
+    Ok(Report::new(identity, content).ok_or("a report within its ranges")?)
 }
 
 #[test]
@@ -299,12 +299,8 @@ fn takes_accounts_and_pairs_up_to_their_limits(rt: HostRuntime) -> Result<(), Fa
     let text = wide(alloc, 256, 16)?;
     let plan = Plan::from_text(alloc, text.as_bytes())?;
     assert_eq!(rt; plan.accounts(), 256);
-    if let Some(report) = report(0, START, 1, 15) {
-        assert_eq!(rt; plan.account_of(&report), Some(7));
-    }
-    if let Some(report) = report(0, START, 1, 16) {
-        assert_eq!(rt; plan.account_of(&report), None);
-    }
+    assert_eq!(rt; plan.account_of(&report(0, START, 1, 15)?), Some(7));
+    assert_eq!(rt; plan.account_of(&report(0, START, 1, 16)?), None);
     let text = wide(alloc, 257, 1)?;
     assert_eq!(rt;
         Plan::from_text(alloc, text.as_bytes()).err(),
@@ -323,22 +319,27 @@ fn billed(alloc: Global, rows: &[(u32, u64, u32, u32)]) -> Result<Bill, Fail> {
     let plan = Plan::from_text(alloc, PLAN.as_bytes())?;
     let mut log = Log::new(alloc);
     for (place, time, octets, iface) in rows {
-        if let Some(report) = report(*place, *time, *octets, *iface) {
-            log.add(report)?;
-        }
+        log.add(report(*place, *time, *octets, *iface)?)?;
     }
     Ok(bill_all(alloc, &plan, &log)?)
 }
 
-fn is_tally(tally: &Tally, octets: [u64; 3], packets: [u64; 3], spans: &[u64]) -> bool {
-    let list = tally.spans.as_slice();
+// A period, and the octets and packets of each colour in it.
+type Row = (u64, [u64; 3], [u64; 3]);
+
+// Whether a bill has one tally, with this total and just these periods.
+fn has_one_tally(bill: &Bill, octets: [u64; 3], packets: [u64; 3], rows: &[Row]) -> bool {
+    let [tally] = bill.accounts.as_slice() else {
+        return false;
+    };
+    let spans = tally.spans.as_slice();
     tally.total.octets() == octets
         && tally.total.packets() == packets
-        && list.len() == spans.len()
-        && list
+        && spans.len() == rows.len()
+        && spans
             .iter()
-            .zip(spans)
-            .all(|(span, index)| span.index == *index)
+            .zip(rows)
+            .all(|(span, row)| (span.index, span.sums.octets(), span.sums.packets()) == *row)
 }
 
 #[test]
@@ -348,50 +349,26 @@ fn bills_what_no_other_report_disputes(rt: HostRuntime) -> Result<(), Fail> {
     let second = (1, START + 100, 1000, 1);
     let third = (2, START + 200, 800, 1);
     let late = (3, START + 50, 600, 1);
-    let span = [472_222];
+    let (octets, packets) = ([1500, 1000, 800], [1, 1, 1]);
+    let rows = [(472_222, octets, packets)];
     let bill = billed(alloc, &[first, second, third])?;
     assert_eq!(rt; (bill.reports, bill.disputed, bill.unassigned), (3, 0, 0));
-    assert!(rt;
-        bill.accounts
-            .as_slice()
-            .iter()
-            .all(|t| is_tally(t, [1500, 1000, 800], [1, 1, 1], &span))
-    );
+    assert!(rt; has_one_tally(&bill, octets, packets, &rows));
     let bill = billed(alloc, &[late, third, second, first])?;
-    assert!(rt;
-        bill.accounts
-            .as_slice()
-            .iter()
-            .all(|t| is_tally(t, [1500, 600, 1800], [1, 1, 2], &span))
-    );
+    assert_eq!(rt; (bill.reports, bill.disputed, bill.unassigned), (4, 0, 0));
+    let later = ([1500, 600, 1800], [1, 1, 2]);
+    assert!(rt; has_one_tally(&bill, later.0, later.1, &[(472_222, later.0, later.1)]));
     let other = (3, START + 60, 601, 1);
     let bill = billed(alloc, &[first, second, late, third, other])?;
     assert_eq!(rt; (bill.reports, bill.disputed, bill.unassigned), (5, 1, 0));
-    assert!(rt;
-        bill.accounts
-            .as_slice()
-            .iter()
-            .all(|t| is_tally(t, [1500, 1000, 800], [1, 1, 1], &span))
-    );
-    let bill = billed(
-        alloc,
-        &[first, other, late, third, (3, START + 70, 602, 1), second],
-    )?;
+    assert!(rt; has_one_tally(&bill, octets, packets, &rows));
+    let more = (3, START + 70, 602, 1);
+    let bill = billed(alloc, &[first, other, late, third, more, second])?;
     assert_eq!(rt; (bill.reports, bill.disputed, bill.unassigned), (6, 1, 0));
-    assert!(rt;
-        bill.accounts
-            .as_slice()
-            .iter()
-            .all(|t| is_tally(t, [1500, 1000, 800], [1, 1, 1], &span))
-    );
+    assert!(rt; has_one_tally(&bill, octets, packets, &rows));
     let bill = billed(alloc, &[])?;
-    assert_eq!(rt; bill.accounts.as_slice().len(), 1);
-    assert!(rt;
-        bill.accounts
-            .as_slice()
-            .iter()
-            .all(|t| is_tally(t, [0; 3], [0; 3], &[]))
-    );
+    assert_eq!(rt; (bill.reports, bill.disputed, bill.unassigned), (0, 0, 0));
+    assert!(rt; has_one_tally(&bill, [0; 3], [0; 3], &[]));
     Ok(())
 }
 
@@ -407,43 +384,68 @@ fn bills_by_period_and_leaves_out_what_no_account_owns(rt: HostRuntime) -> Resul
         ],
     )?;
     assert_eq!(rt; (bill.reports, bill.disputed, bill.unassigned), (3, 0, 1));
-    let spans = [472_222, 472_223];
-    assert!(rt;
-        bill.accounts
-            .as_slice()
-            .iter()
-            .all(|t| is_tally(t, [200, 0, 0], [2, 0, 0], &spans))
-    );
-    for tally in bill.accounts.as_slice() {
-        for span in tally.spans.as_slice() {
-            assert_eq!(rt; span.sums.octets(), [100, 0, 0]);
-            assert_eq!(rt; span.sums.packets(), [1, 0, 0]);
-        }
+    let one = ([100, 0, 0], [1, 0, 0]);
+    let rows = [(472_222, one.0, one.1), (472_223, one.0, one.1)];
+    assert!(rt; has_one_tally(&bill, [200, 0, 0], [2, 0, 0], &rows));
+    Ok(())
+}
+
+#[test]
+fn faults_have_their_numbers_and_texts(rt: HostRuntime) -> Result<(), Fail> {
+    let key = Key::ExactFit;
+    let (account, fault) = (2, MeterFault::NoBurst);
+    for (fault, number, text) in [
+        (PlanFault::Syntax, 1, "the plan is no TOML document in UTF-8"),
+        (PlanFault::Missing { key }, 2, "the key `exact_fit` is missing"),
+        (
+            PlanFault::Wrong { key },
+            3,
+            "the value of `exact_fit` has the wrong type or is out of range",
+        ),
+        (PlanFault::UnknownKey, 4, "a key stands where no such key is known"),
+        (
+            PlanFault::Meter { account, fault },
+            5,
+            "account 2, counted from 0, has no meter of these parameters: no burst size to meter by: expected one above 0, and for RFC 2698 both",
+        ),
+        (
+            PlanFault::KeyTwice,
+            6,
+            "a pair of domain and interface, or a name, stands twice",
+        ),
+        (
+            PlanFault::Limits,
+            7,
+            "the number of accounts or of pairs is out of range: expected 1 to 256 accounts with at most 4096 pairs",
+        ),
+        (PlanFault::Memory, 8, "out of memory"),
+    ] {
+        assert_eq!(rt; fault.number(), number);
+        assert_eq!(rt; format!(in rt.alloc(); "{fault}")?.as_str(), text);
     }
     Ok(())
 }
 
 #[test]
-fn says_why_a_text_is_no_plan(rt: HostRuntime) -> Result<(), Fail> {
-    let alloc = rt.alloc();
-    let missing = PlanFault::Missing { key: Key::ExactFit };
-    assert_eq!(rt;
-        format!(in alloc; "{missing}")?.as_str(),
-        "the key `exact_fit` is missing"
-    );
-    let wrong = PlanFault::Wrong { key: Key::Period };
-    assert_eq!(rt;
-        format!(in alloc; "{wrong}")?.as_str(),
-        "the value of `period` has the wrong type or is out of range"
-    );
-    let meter = PlanFault::Meter {
-        account: 2,
-        fault: MeterFault::NoBurst,
-    };
-    let said = format!(in alloc; "{meter}")?;
-    assert!(rt;
-        said.as_str()
-            .starts_with("account 2, counted from 0, has no meter")
-    );
+fn keys_are_printed_as_a_document_has_them(rt: HostRuntime) -> Result<(), Fail> {
+    for (key, name) in [
+        (Key::Period, "period"),
+        (Key::Account, "account"),
+        (Key::Meter, "meter"),
+        (Key::Name, "name"),
+        (Key::Aware, "aware"),
+        (Key::Other, "other"),
+        (Key::ExactFit, "exact_fit"),
+        (Key::Cir, "cir"),
+        (Key::Cbs, "cbs"),
+        (Key::Ebs, "ebs"),
+        (Key::Pir, "pir"),
+        (Key::Pbs, "pbs"),
+        (Key::Eir, "eir"),
+        (Key::Keys, "keys"),
+    ] {
+        assert_eq!(rt; key.name(), name);
+        assert_eq!(rt; format!(in rt.alloc(); "{key}")?.as_str(), name);
+    }
     Ok(())
 }

@@ -5,15 +5,13 @@ ghost use Rattle.std.specs.Str.{bytes_eq};
 ghost use Rattle.toml.specs.View.{items_view, view};
 ghost use Rattle.tca_accounts.specs.Plans.{owns, same_pair};
 ghost use Rattle.tca_accounts.specs.Documents.{accounts_from, pairs_of};
-ghost use Rattle.tca_accounts.specs.Readings.{are_accounts, are_few, differ_from, keys_in, mapped, names_differ, named_in, of_accounts, of_pairs, pairs_differ, pairs_read};
+ghost use Rattle.tca_accounts.specs.Readings.{are_accounts, are_few, differ_from, pairs_at, mapped, names_differ, named_in, of_accounts, of_pairs, pairs_differ, pairs_read};
 
+use crate::account::MOST_PAIRS;
 use crate::draft::read_account;
 use crate::fault::PlanFault;
 use crate::pairs::pair;
 use toml::Value;
-
-/// The most pairs of all accounts.
-const MOST_PAIRS: usize = 4096;
 
 // The name of an account.
 fn name_of(account: u32, value: &Value) -> Result<&str, PlanFault>
@@ -26,12 +24,12 @@ fn name_of(account: u32, value: &Value) -> Result<&str, PlanFault>
 }
 
 // The values of an account's pairs.
-fn keys_of(account: u32, value: &Value) -> Result<&[Value], PlanFault>
-    ensures exact { pairs_read result ≡ keys_in account (view value.now) }
-    ensures ok { IfOk result (λ keys. IsOk (pairs_of (items_view keys.now))) }
+fn pair_values(account: u32, value: &Value) -> Result<&[Value], PlanFault>
+    ensures exact { pairs_read result ≡ pairs_at account (view value.now) }
+    ensures ok { IfOk result (λ pairs. IsOk (pairs_of (items_view pairs.now))) }
 {
     match read_account(account, value) {
-        Ok(draft) => Ok(draft.keys),
+        Ok(draft) => Ok(draft.pairs),
         Err(fault) => Err(fault),
     }
 }
@@ -44,7 +42,7 @@ fn has_few_pairs(values: &[Value]) -> Result<bool, PlanFault>
     let mut account = 0;
     let mut count = 0usize;
     for value in values {
-        count = count.saturating_add(keys_of(account, value)?.len());
+        count = count.saturating_add(pair_values(account, value)?.len());
         account += 1;
     }
     Ok(count <= MOST_PAIRS)
@@ -81,12 +79,12 @@ fn names_differ(values: &[Value]) -> Result<bool, PlanFault>
 }
 
 // Whether a pair is one of these values.
-fn is_listed(keys: &[Value], sought: (u32, u32)) -> Result<bool, PlanFault>
-    ensures { result ≡ of_pairs (list_any (same_pair sought)) (items_view keys.now) }
+fn is_listed(pairs: &[Value], sought: (u32, u32)) -> Result<bool, PlanFault>
+    ensures { result ≡ of_pairs (list_any (same_pair sought)) (items_view pairs.now) }
 {
     let mut found = false;
-    for key in keys {
-        let other = pair(key)?;
+    for value in pairs {
+        let other = pair(value)?;
         found |= sought == other;
     }
     Ok(found)
@@ -100,24 +98,24 @@ fn is_owned(first: u32, values: &[Value], sought: (u32, u32)) -> Result<bool, Pl
     let mut account = first;
     let mut found = false;
     for value in values {
-        found |= is_listed(keys_of(account, value)?, sought)?;
+        found |= is_listed(pair_values(account, value)?, sought)?;
         account += 1;
     }
     Ok(found)
 }
 
 // Whether none of an account's pairs is one behind it, or one of the accounts from the next one on.
-fn differ_from(keys: &[Value], first: u32, values: &[Value]) -> Result<bool, PlanFault>
+fn differ_from(pairs: &[Value], first: u32, values: &[Value]) -> Result<bool, PlanFault>
     requires few { first + length values.now ≤ 256 }
     requires others { IsOk (accounts_from first (items_view values.now)) }
-    ensures { result ≡ differ_from first (items_view values.now) (items_view keys.now) }
+    ensures { result ≡ differ_from first (items_view values.now) (items_view pairs.now) }
 {
     let mut next = 0;
     let mut differ = true;
-    for key in keys {
-        let sought = pair(key)?;
+    for value in pairs {
+        let sought = pair(value)?;
         next += 1;
-        let behind = is_listed(&keys[next..], sought)?;
+        let behind = is_listed(&pairs[next..], sought)?;
         let owned = is_owned(first, values, sought)?;
         differ &= !(behind | owned);
     }
@@ -133,9 +131,9 @@ fn pairs_differ(values: &[Value]) -> Result<bool, PlanFault>
     let mut next = 0;
     let mut differ = true;
     for value in values {
-        let keys = keys_of(next as u32, value)?;
+        let pairs = pair_values(next as u32, value)?;
         next += 1;
-        differ &= differ_from(keys, next as u32, &values[next..])?;
+        differ &= differ_from(pairs, next as u32, &values[next..])?;
     }
     Ok(differ)
 }

@@ -2,6 +2,10 @@
 use Rattle.std.specs.Prelude.{ℕ, zero, suc, ◌+◌, ◌-◌, ◌*◌, Bool, ◌&&◌, not, nat_le, List, [], ◌∷◌, length, filter}
 use Rattle.std.specs.List.{list_all, list_any}
 
+-- the most tokens per second of a rate, and the most tokens of a burst
+abbrev pub most_rate : ℕ
+most_rate = 1000000000000
+
 -- so many numbers, from a first one on
 unfoldable pub numbers_from : ℕ → ℕ → List ℕ
 numbers_from first zero = []

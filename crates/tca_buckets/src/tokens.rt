@@ -1,12 +1,12 @@
 //! The tokens of a rate that arrive in an interval.
 ghost use Rattle.std.specs.Prelude.{◌≡◌, ◌<◌, ◌≤◌, ◌^◌};
-ghost use Rattle.tca_buckets.specs.Tokens.{due};
+ghost use Rattle.tca_buckets.specs.Tokens.{due, most_rate};
 
 /// The tokens of a rate of `rate` tokens per second that arrive after `from` and at or before `to`,
 /// both in milliseconds. Token `k`, counted from 1, arrives at the least millisecond `t` at which
 /// `rate * t` is at least `1000 * k`; so adjoining intervals have together what the whole one has.
 pub fn ticks(rate: u64, from: u64, to: u64) -> u128
-    requires rate { rate ≤ 1000000000000 }
+    requires rate { rate ≤ most_rate }
     requires order { from ≤ to }
     requires time { to < 2 ^ 48 }
     ensures { result ≡ due rate from to }

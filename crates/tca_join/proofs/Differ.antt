@@ -9,7 +9,7 @@ use Rattle.tca_join.specs.Chains.{next, differ_at, longer}
 cut : {T : Type 0} (xs : List T) (i : ℕ) (x : T) → i < length xs → x ≡ get_or xs i x → drop i xs ≡ x ∷ drop (i + 1) xs
 cut xs i x h is = drop-cons xs i x h ∙ rw (← add-one i) (ap (λ y. y ∷ drop (i + 1) xs) (sym is))
 
--- a place in the rest of a list from n on, as a place in the list
+-- an index in the rest of a list from n on, as an index in the list
 abbrev pub shifted : ℕ → Option ℕ → Option ℕ
 shifted n None = None
 shifted n (Some at) = Some (at + n)
@@ -59,7 +59,7 @@ longer_covers [] (y ∷ b) h = absurd (omega arith)
 longer_covers (x ∷ a) [] h = refl
 longer_covers (x ∷ a) (y ∷ b) h = ap (λ l. x ∷ l) (longer_covers a b (omega arith))
 
--- a slice from a place on
+-- a slice from an index on
 pub rest_is : {T : Type 0} (xs : List T) (i : ℕ) → take (length xs - i) (drop i xs) ≡ drop i xs
 rest_is xs i = take_all (length xs - i) (drop i xs) (omega (arith, length-drop i xs))
 

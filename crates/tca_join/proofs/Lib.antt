@@ -3,6 +3,6 @@ pub mod Search
 pub mod Merge
 pub mod Unions
 pub mod Differ
-pub mod Places
+pub mod Positions
 pub mod Steps
 pub mod Firsts

@@ -17,7 +17,7 @@ module _ {K : Type 0} (R : K → K → Ordering) (o : IsTotalOrder R) where
   turned : (x y : K) (r : Ordering) → R x y ≡ r → R y x ≡ ordering_reverse r
   turned x y r e = o.antisymm y x ∙ ap ordering_reverse e
 
-  -- one that is found at a place is a member
+  -- one that is found at an index is a member
   has_at : (xs : List K) (i : ℕ) (k : K) → i < length xs → HoldsAt (λ y. R y k ≡ Equal) xs i → has R xs k ≡ true
   unfolding has
   has_at [] i k h at = absurd (omega arith)

@@ -24,12 +24,12 @@ pub record IsKept (count capacity : ℕ) (ready : Bool) : Type 0 where
   pub within : count ≤ 4194304
   pub spare : ready ≡ true → count < capacity
 
--- a place counted from one item further on
+-- an index counted from one item further on
 abbrev pub next : Option ℕ → Option ℕ
 next None = None
 next (Some n) = Some (suc n)
 
--- the first place where both lists have an item and these differ
+-- the first index where both lists have an item and these differ
 abbrev pub differ_at : {T : Type 0} → (T → T → Bool) → List T → List T → Option ℕ
 differ_at eq [] ys = None
 differ_at eq (x ∷ xs) [] = None
@@ -48,7 +48,7 @@ AreEqual eq [] (y ∷ ys) = ⊥
 AreEqual eq (x ∷ xs) [] = ⊥
 AreEqual eq (x ∷ xs) (y ∷ ys) = (eq x y ≡ true) × AreEqual eq xs ys
 
--- chains clash at the first place where their items differ
+-- chains clash at the first index where their items differ
 abbrev pub chain_clash : {T : Type 0} → (T → T → Bool) → ChainView T → ChainView T → Option ℕ
 chain_clash eq a b = differ_at eq a.items b.items
 
@@ -70,7 +70,7 @@ IsPrefix eq [] ys = Unit {0}
 IsPrefix eq (x ∷ xs) [] = ⊥
 IsPrefix eq (x ∷ xs) (y ∷ ys) = (eq x y ≡ true) × IsPrefix eq xs ys
 
--- both have an item at this place, these differ, and at each place before it they don't
+-- both have an item at this index, these differ, and at each index before it they don't
 pub record IsFirstDifference {T : Type 0} (eq : T → T → Bool) (a b : List T) (at : ℕ) : Type 0 where
   pub in_first : at < length a
   pub in_second : at < length b
@@ -78,7 +78,7 @@ pub record IsFirstDifference {T : Type 0} (eq : T → T → Bool) (a b : List T)
   pub before : (k : ℕ) (d : T) → k < at → eq (get_or a k d) (get_or b k d) ≡ true
 
 module _ {T : Type 0} (eq : T → T → Bool) where
-  -- what two lists clash at is the first place at which they differ
+  -- what two lists clash at is the first index at which they differ
   abbrev pub ClashIsFirst : Type 0
   ClashIsFirst = (a b : List T) (at : ℕ) → differ_at eq a b ≡ Some at → IsFirstDifference eq a b at
 

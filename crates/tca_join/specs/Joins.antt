@@ -1,9 +1,13 @@
 -- What a join is: a partial operation on values, with its laws up to a sameness of values.
 use Rattle.std.specs.Prelude.{◌≡◌, ℕ, Bool, false, Option, None}
 
--- two values have a join: they don't clash, and their join is within each limit
+-- two values are compatible: they clash at nothing
+abbrev pub Compatible : {V : Type 0} → (V → V → Option ℕ) → V → V → Type 0
+Compatible clash a b = clash a b ≡ None
+
+-- two values have a join: they are compatible, and their join is within each limit
 abbrev pub Joins : {V : Type 0} → (V → V → Option ℕ) → (V → V → Bool) → V → V → Type 0
-Joins clash full a b = (clash a b ≡ None) × (full a b ≡ false)
+Joins clash full a b = Compatible clash a b × (full a b ≡ false)
 
 module _ {V : Type 0} (proper : V → Type 0) (clash : V → V → Option ℕ) (full : V → V → Bool) (same : V → V → Type 0) (joined : V → V → V) where
   -- what each type of values that join keeps to

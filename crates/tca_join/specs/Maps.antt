@@ -79,13 +79,13 @@ MapSame same es fs = (key : ℕ) → OptionSame same (get es key) (get fs key)
 abbrev pub MapProper : {V : Type 0} → (V → Type 0) → List (ℕ × V) → Type 0
 MapProper proper es = Rises es × AllByRecursion (λ e. proper e.1) es
 
--- the place at which a key is
+-- the index at which a key is
 pub record IsAt {V : Type 0} (es : List (ℕ × V)) (key at : ℕ) : Type 0 where
   pub within : at < length es
   pub has : (e : ℕ × V) → e ≡ get_or es at e → (e.0 ≡ key) × (get es key ≡ Some e.1)
   pub puts : (e : ℕ × V) → e ≡ get_or es at e → (f : V → V → V) (v : V) → put f key v es ≡ slice_set es at (e.0, f e.1 v)
 
--- the place to which a key would go
+-- the index to which a key would go
 pub record IsGap {V : Type 0} (es : List (ℕ × V)) (key at : ℕ) : Type 0 where
   pub within : at ≤ length es
   pub lacks : get es key ≡ None

@@ -2,9 +2,11 @@
 ghost use Rattle.std.specs.Prelude.{◌++◌, ◌∷◌, ◌≡◌, None, Some, Ok, [], false, IsSome, IsOk, OnOk, OnErr, IfErr, IfOk, option_copied};
 ghost use Rattle.std.specs.Option.{option_copied_mut};
 ghost use Rattle.std.specs.Borrow.{sem};
-ghost use Rattle.tca_join.specs.Maps.{get, with_value, keys_of, merged, Rises, MapProper, MapSame, clash_key, map_full, first_of, IsAt, IsGap};
+ghost use Rattle.tca_join.specs.Maps.{get, with_value, keys_of, merged, Rises, MapProper, MapSame, clash_key, map_full, clash_with, full_with, first_of, IsAt, IsGap};
 ghost use Rattle.tca_join.specs.MapLaws.{map_laws};
-ghost use Rattle.tca_join.specs.Faults.{IsJoinFault};
+ghost use Rattle.tca_join.specs.Joins.{Compatible, Joins};
+ghost use Rattle.tca_join.specs.Faults.{IsJoinFault, refusal};
+ghost use Rattle.tca_join.specs.declared.fault.JoinFault.TheVariants.{Memory};
 
 use crate::fault::JoinFault;
 use crate::join::Join;
@@ -134,31 +136,56 @@ fn push_copies<V: Join, A: Allocator>(
     Ok(())
 }
 
-// Adds the join of two values under their key, or answers that it is too large.
+// Why a value has no join with the one that the entries have at its key.
+fn refusal_at<V: Join>(entries: &[(u32, V)], key: u32, value: &V) -> Option<JoinFault>
+    requires { Rises entries.now }
+    ensures { result ≡ refusal (first_of (clash_with V.clash (get entries.now key) (Some value.now)) key None) (full_with V.full (get entries.now key) (Some value.now)) }
+{
+    let Ok(at) = search(entries, key) else {
+        return None;
+    };
+    match entries[at].1.refusal(value) {
+        Some(JoinFault::Clash { .. }) => Some(JoinFault::Clash { key }),
+        other => other,
+    }
+}
+
+// Why two maps have no join. One that is too large at a key is answered only at the end, since a later key may clash.
+fn refusal_of<V: Join>(first: &[(u32, V)], second: &[(u32, V)]) -> Option<JoinFault>
+    requires { Rises first.now }
+    ensures { result ≡ refusal (clash_key V.clash first.now second.now) (map_full V.full first.now second.now) }
+{
+    let mut over = false;
+    for entry in second {
+        let Some(fault) = refusal_at(first, entry.0, &entry.1) else {
+            continue;
+        };
+        if fault != JoinFault::Full {
+            return Some(fault);
+        }
+        over = true;
+    }
+    if over { Some(JoinFault::Full) } else { None }
+}
+
+// Adds the join of two values under their key.
 fn push_joined<V: Join, A: Allocator>(
     out: &mut Vec<(u32, V), A>,
     key: u32,
     first: &V,
     second: &V,
-) -> Result<bool, JoinFault>
-    ensures compatible { OnOk result (V.clash first.now second.now ≡ None) }
-    ensures over { IfOk result (λ over. V.full first.now second.now ≡ over) }
-    ensures joined { result ≡ Ok false → out.new.items ≡ out.old.items ++ (key, V.joined first.now second.now) ∷ [] }
-    ensures fault { IfErr result (IsJoinFault (first_of (V.clash first.now second.now) key None) false) }
+) -> Result<(), JoinFault>
+    requires { Joins V.clash V.full first.now second.now }
+    ensures joined { OnOk result (out.new.items ≡ out.old.items ++ (key, V.joined first.now second.now) ∷ []) }
+    ensures fault { IfErr result (λ e. e ≡ Memory) }
 {
     let mut value = first.copy()?;
-    match value.join_from(second) {
-        Ok(()) => {
-            out.push((key, value))?;
-            Ok(false)
-        }
-        Err(JoinFault::Clash { .. }) => Err(JoinFault::Clash { key }),
-        Err(JoinFault::Full) => Ok(true),
-        Err(JoinFault::Memory) => Err(JoinFault::Memory),
-    }
+    value.join_from(second)?;
+    out.push((key, value))?;
+    Ok(())
 }
 
-// The join of two maps. A join that is too large at one key is answered only at the end, since a later key may clash.
+// The join of two maps that have one.
 fn merge_entries<V: Join, A: Allocator>(
     alloc: A,
     first: &[(u32, V)],
@@ -166,13 +193,12 @@ fn merge_entries<V: Join, A: Allocator>(
 ) -> Result<Vec<(u32, V), A>, JoinFault>
     requires first { Rises first.now }
     requires second { Rises second.now }
+    requires joins { Joins (clash_key V.clash) (map_full V.full) first.now second.now }
     ensures ok { IfOk result (λ v. v.items ≡ merged V.joined first.now second.now) }
-    ensures compatible { OnOk result (clash_key V.clash first.now second.now ≡ None) }
-    ensures within { OnOk result (map_full V.full first.now second.now ≡ false) }
-    ensures fault { IfErr result (IsJoinFault (clash_key V.clash first.now second.now) (map_full V.full first.now second.now)) }
+    ensures fault { IfErr result (λ e. e ≡ Memory) }
 {
     let mut out = Vec::new(alloc);
-    let (mut i, mut j, mut over) = (0, 0, false);
+    let (mut i, mut j) = (0, 0);
     while i < first.len() && j < second.len() {
         let (one, other) = (&first[i], &second[j]);
         match one.0.cmp(&other.0) {
@@ -185,9 +211,7 @@ fn merge_entries<V: Join, A: Allocator>(
                 j += 1;
             }
             Ordering::Equal => {
-                if push_joined(&mut out, other.0, &one.1, &other.1)? {
-                    over = true;
-                }
+                push_joined(&mut out, other.0, &one.1, &other.1)?;
                 i += 1;
                 j += 1;
             }
@@ -195,7 +219,7 @@ fn merge_entries<V: Join, A: Allocator>(
     }
     push_copies(&mut out, &first[i..])?;
     push_copies(&mut out, &second[j..])?;
-    if over { Err(JoinFault::Full) } else { Ok(out) }
+    Ok(out)
 }
 
 impl<V: Join, A: Allocator + Clone> Join for ByKey<V, A> {
@@ -217,10 +241,16 @@ impl<V: Join, A: Allocator + Clone> Join for ByKey<V, A> {
         }
     }
 
-    /// Takes time and memory in proportion to the number of keys of both, since a refusal at a late key leaves the map
+    /// `Clash` names the least key at which the values aren't compatible. It searches the map once for each key of the
+    /// other.
+    fn refusal(&self, other: &ByKey<V, A>) -> Option<JoinFault> {
+        refusal_of(&self.entries, &other.entries)
+    }
+
+    /// Takes memory in proportion to the number of keys of both, since a want of memory at a late key leaves the map
     /// as before. Where the other map has no keys there is nothing to do and no refusal.
     fn join_from(&mut self, other: &ByKey<V, A>) -> Result<(), JoinFault>
-        ensures compatible { OnOk result (clash_key V.clash self.old other.now ≡ None) }
+        ensures compatible { OnOk result (Compatible (clash_key V.clash) self.old other.now) }
         ensures within { OnOk result (map_full V.full self.old other.now ≡ false) }
         ensures ok { OnOk result (self.new ≡ merged V.joined self.old other.now) }
         ensures err { OnErr result (self.new ≡ self.old) }
@@ -229,6 +259,9 @@ impl<V: Join, A: Allocator + Clone> Join for ByKey<V, A> {
     {
         if other.entries.is_empty() {
             return Ok(());
+        }
+        if let Some(fault) = self.refusal(other) {
+            return Err(fault);
         }
         let alloc = self.entries.allocator().clone()?;
         self.entries = merge_entries(alloc, &self.entries, &other.entries)?;

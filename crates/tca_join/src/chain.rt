@@ -2,6 +2,7 @@
 ghost use Rattle.std.specs.Prelude.{◌≡◌, ◌+◌, ◌<◌, ◌≤◌, None, [], ◌∷◌, ◌++◌, true, false, length, slice_get, OnOk, OnErr, IfErr, IfOk, IsOk, MatchOption};
 ghost use Rattle.tca_join.specs.Chains.{chain, IsChain, differ_at, chain_clash, chain_full, chain_joined, IsSameChain};
 ghost use Rattle.tca_join.specs.ChainLaws.{chain_laws};
+ghost use Rattle.tca_join.specs.Joins.{Compatible};
 ghost use Rattle.tca_join.specs.Faults.{IsJoinFault};
 ghost use Rattle.tca_join.specs.declared.fault.JoinFault.TheVariants.{Memory};
 
@@ -52,7 +53,7 @@ impl<T: Copy + Eq, A: Allocator + Clone> Chain<T, A> {
         self.items.len() as u32
     }
 
-    /// The item at a place, counted from 0; `None` at the end and past it.
+    /// The item at an index, counted from 0; `None` at the end and past it.
     pub fn item(&self, at: u32) -> Option<T>
         ensures { result ≡ slice_get self.now.items at }
     {
@@ -88,7 +89,7 @@ impl<T: Copy + Eq, A: Allocator + Clone> Chain<T, A> {
     }
 }
 
-// The first place where both have an item and these differ.
+// The first index where both have an item and these differ.
 fn difference<T: Copy + Eq>(first: &[T], second: &[T]) -> Option<usize>
     ensures value { result ≡ differ_at T.eq first.now second.now }
     ensures within { MatchOption result (differ_at T.eq first.now second.now ≡ None) (λ at. at < length first.now) }
@@ -120,24 +121,29 @@ impl<T: Copy + Eq + Drop, A: Allocator + Clone> Join for Chain<T, A> {
         let _items = &self.items;
     }
 
+    fn refusal(&self, other: &Chain<T, A>) -> Option<JoinFault> {
+        match difference(&self.items, &other.items) {
+            Some(at) => Some(JoinFault::Clash { key: at as u32 }),
+            None => None,
+        }
+    }
+
     fn join_from(&mut self, other: &Chain<T, A>) -> Result<(), JoinFault>
-        ensures compatible { OnOk result (chain_clash T.eq self.old other.now ≡ None) }
+        ensures compatible { OnOk result (Compatible (chain_clash T.eq) self.old other.now) }
         ensures ok { OnOk result (self.new ≡ chain_joined self.old other.now) }
         ensures err { OnErr result (self.new ≡ self.old) }
         ensures fault { IfErr result (IsJoinFault (chain_clash T.eq self.old other.now) false) }
-        ensures memory { IfErr result (λ e. e ≡ Memory → (chain_clash T.eq self.old other.now ≡ None) × (length self.old.items < length other.now.items)) }
+        ensures memory { IfErr result (λ e. e ≡ Memory → length self.old.items < length other.now.items) }
     {
-        match difference(&self.items, &other.items) {
-            Some(at) => Err(JoinFault::Clash { key: at as u32 }),
-            None => {
-                if self.items.len() < other.items.len() {
-                    self.items
-                        .extend_from_slice(&other.items[self.items.len()..])?;
-                }
-                self.ready = false;
-                Ok(())
-            }
+        if let Some(fault) = self.refusal(other) {
+            return Err(fault);
         }
+        if self.items.len() < other.items.len() {
+            self.items
+                .extend_from_slice(&other.items[self.items.len()..])?;
+        }
+        self.ready = false;
+        Ok(())
     }
 
     fn copy(&self) -> Result<Chain<T, A>, AllocError> {

@@ -1,5 +1,5 @@
 //! A count, of which the greater is kept.
-ghost use Rattle.std.specs.Prelude.{◌≡◌, max, IsOk, Ok};
+ghost use Rattle.std.specs.Prelude.{◌≡◌, max, IsOk, None, Ok};
 ghost use Rattle.tca_join.specs.Counts.{IsCount, count_clash, count_full};
 ghost use Rattle.tca_join.specs.CountLaws.{count_laws};
 
@@ -37,6 +37,12 @@ impl Join for MaxOf {
 
     fn known(&self) {
         let _count = self.0;
+    }
+
+    fn refusal(&self, other: &MaxOf) -> Option<JoinFault>
+        ensures { result ≡ None }
+    {
+        None
     }
 
     fn join_from(&mut self, other: &MaxOf) -> Result<(), JoinFault>

@@ -8,7 +8,7 @@ use thiserror::Error;
 /// Why two values were not joined. Both are then as before.
 #[derive(Clone, Copy, Debug, PartialEq, Eq, Error)]
 pub enum JoinFault {
-    /// They have no join. `key` is the least key of maps at which they have none, or the first place, counted from 0,
+    /// They have no join. `key` is the least key of maps at which they have none, or the first index, counted from 0,
     /// at which chains differ.
     #[error("the values have no join: they clash at {key}")]
     Clash { key: u32 },
@@ -21,7 +21,7 @@ pub enum JoinFault {
 }
 
 impl JoinFault {
-    /// The fault's place in the order of tests, counted from 1.
+    /// The number of the fault, from 1, in the order in which faults are tested.
     pub fn number(&self) -> u8
         ensures { result ≡ fault_number self.now }
     {

@@ -1,7 +1,13 @@
 //! What a join is, and its laws.
-ghost use Rattle.std.specs.Prelude.{◌≡◌, ℕ, Bool, false, Option, None, IfOk, IfErr, OnOk, OnErr};
-ghost use Rattle.tca_join.specs.Joins.{IsJoin, Commutes, Associates, AssociatesBack, IsIdempotent, IsAbove, IsLeast, IsTransitive, IsAntisymmetric};
-ghost use Rattle.tca_join.specs.Faults.{IsJoinFault};
+//!
+//! A type describes its joins by members that contracts alone see. `proper` holds of each value of the type.
+//! `clash` names what two values clash at; where it is `None` they are compatible. `full` says of two compatible
+//! values that their join is above a limit. `joined` is the join of two values that have one. `same` says that two
+//! values count as one, and the laws hold up to it. `known` is a call that changes nothing, and its clause says of
+//! the value at hand that it is proper.
+ghost use Rattle.std.specs.Prelude.{◌≡◌, ℕ, Bool, false, Option, IfOk, IfErr, OnOk, OnErr};
+ghost use Rattle.tca_join.specs.Joins.{Compatible, IsJoin, Commutes, Associates, AssociatesBack, IsIdempotent, IsAbove, IsLeast, IsTransitive, IsAntisymmetric};
+ghost use Rattle.tca_join.specs.Faults.{IsJoinFault, refusal};
 
 use crate::fault::JoinFault;
 use std::alloc::AllocError;
@@ -14,7 +20,7 @@ pub trait Join: Drop + Sized {
     /// Holds of each value of the type.
     ghost proper: { Self → Type 0 };
 
-    /// `None` where the two are compatible; else what they clash at, which `Clash` names.
+    /// What the two clash at, which `Clash` names; `None` where they are compatible.
     ghost clash: { Self → Self → Option ℕ };
 
     /// Whether the join of two compatible values is above a limit.
@@ -30,12 +36,17 @@ pub trait Join: Drop + Sized {
     fn known(&self)
         ensures { proper self.now };
 
+    /// Why the two have no join: `Clash` where they aren't compatible, else `Full` where their join is above a limit.
+    /// `None` where they have one. It takes no memory.
+    fn refusal(&self, other: &Self) -> Option<JoinFault>
+        ensures { result ≡ refusal (clash self.now other.now) (full self.now other.now) };
+
     /// Makes this the join of the two.
     ///
-    /// `Clash` comes exactly where the two have no join, and `Full` where they have one that is above a limit, want of
-    /// memory apart. On each refusal the value is as before.
+    /// `Clash` comes exactly where the two aren't compatible, `Full` exactly where they are and their join is above a
+    /// limit, and `Memory` only where they have a join. On each refusal the value is as before.
     fn join_from(&mut self, other: &Self) -> Result<(), JoinFault>
-        ensures compatible { OnOk result (clash self.old other.now ≡ None) }
+        ensures compatible { OnOk result (Compatible clash self.old other.now) }
         ensures within { OnOk result (full self.old other.now ≡ false) }
         ensures ok { OnOk result (self.new ≡ joined self.old other.now) }
         ensures err { OnErr result (self.new ≡ self.old) }

@@ -16,7 +16,7 @@ pub fn set_laws<T>()
     ensures union_least { (R : T → T → Ordering) → IsExact R → UnionLeast R }
 {}
 
-/// What the words of a chain's contracts come to, as a contract: two chains clash at the first place at which both
+/// What the words of a chain's contracts come to, as a contract: two chains clash at the first index at which both
 /// have an item and these differ, else one begins with the other, and their join is the longer.
 pub fn chain_words<T: Eq>()
     ensures clash { ClashIsFirst T.eq }

@@ -69,6 +69,7 @@ fn faults_have_their_numbers_and_texts(rt: HostRuntime) -> Result<(), Fail> {
 #[test]
 fn the_greater_count_is_kept(rt: HostRuntime) -> Result<(), Fail> {
     for (first, second, greater) in [(3, 5, 5), (5, 3, 5), (4, 4, 4)] {
+        assert_eq!(rt; MaxOf(first).refusal(&MaxOf(second)), None);
         assert_eq!(rt; joined(&MaxOf(first), &MaxOf(second))?, MaxOf(greater));
     }
     Ok(())
@@ -85,6 +86,7 @@ fn the_longer_chain_is_kept(rt: HostRuntime) -> Result<(), Fail> {
         (3, Some(6), None)
     );
     let mut other = chain_of(rt.alloc(), &[4, 7, 5])?;
+    assert_eq!(rt; other.refusal(&long), Some(JoinFault::Clash { key: 1 }));
     assert_eq!(rt; other.join_from(&long), Err(JoinFault::Clash { key: 1 }));
     assert_eq!(rt; other.items(), [4, 7, 5].as_slice());
     Ok(())
@@ -138,9 +140,8 @@ fn the_least_key_that_clashes_is_named(rt: HostRuntime) -> Result<(), Fail> {
     let before = shown(alloc, &first)?;
     assert_eq!(rt; first.join_from(&second), Err(JoinFault::Clash { key: 1 }));
     assert_eq!(rt; shown(alloc, &first)?, before);
-    if let Some(chain) = first.get_mut(1) {
-        *chain = chain_of(alloc, &[2, 2, 6])?;
-    }
+    let chain = first.get_mut(1).ok_or("a chain at 1")?;
+    *chain = chain_of(alloc, &[2, 2, 6])?;
     assert!(rt; first.get_mut(2).is_none());
     assert_eq!(rt; first.join_from(&second), Err(JoinFault::Clash { key: 5 }));
     assert_eq!(rt; first.get(1).map_or(0, |chain| chain.len()), 3);
@@ -160,6 +161,67 @@ fn maps_of_counts_join_key_by_key(rt: HostRuntime) -> Result<(), Fail> {
         all.entries(),
         [(1, MaxOf(4)), (2, MaxOf(7)), (300, MaxOf(5))].as_slice()
     );
+    Ok(())
+}
+
+// Takes all that a heap has left, so that it refuses each growth.
+fn exhausted(alloc: Global, heap: &LocalHeap) -> Result<Vec<Vec<u8, &LocalHeap>>, AllocError> {
+    let mut taken = Vec::new(alloc);
+    for _ in 0..1024 {
+        let Ok(block) = Vec::with_capacity(heap, 1) else {
+            break;
+        };
+        taken.push(block)?;
+    }
+    Ok(taken)
+}
+
+#[test]
+fn a_push_into_reserved_room_takes_no_memory(rt: HostRuntime) -> Result<(), Fail> {
+    let heap = LocalHeap::new(rt.alloc(), 1 << 12)?;
+    let mut chain = chain_of(&heap, &[4, 6])?;
+    chain.reserve()?;
+    let taken = exhausted(rt.alloc(), &heap)?;
+    let used = heap.used();
+    assert!(rt; chain.len() < 4_194_304);
+    chain.push(9);
+    assert_eq!(rt; chain.items(), [4, 6, 9].as_slice());
+    assert!(rt; chain.copy().is_err());
+    assert_eq!(rt; heap.used(), used);
+    assert!(rt; taken.len() > 0);
+    Ok(())
+}
+
+// Two maps in one heap: they clash at 5 where the items there differ, and else have a join.
+fn two_maps<'a>(
+    heap: &'a LocalHeap,
+    item: u32,
+) -> Result<[ByKey<Chain<u32, &'a LocalHeap>, &'a LocalHeap>; 2], AllocError> {
+    let mut first = ByKey::new(heap);
+    first.set(3, chain_of(heap, &[1])?)?;
+    first.set(5, chain_of(heap, &[7])?)?;
+    let mut second = ByKey::new(heap);
+    second.set(3, chain_of(heap, &[1, 2])?)?;
+    second.set(5, chain_of(heap, &[item])?)?;
+    Ok([first, second])
+}
+
+#[test]
+fn a_clash_is_named_where_memory_lacks(rt: HostRuntime) -> Result<(), Fail> {
+    let heap = LocalHeap::new(rt.alloc(), 1 << 12)?;
+    let [mut first, second] = two_maps(&heap, 8)?;
+    let [mut third, fourth] = two_maps(&heap, 7)?;
+    let none = ByKey::new(&heap);
+    let taken = exhausted(rt.alloc(), &heap)?;
+    let used = heap.used();
+    let clash = JoinFault::Clash { key: 5 };
+    assert_eq!(rt; first.refusal(&second), Some(clash));
+    assert_eq!(rt; first.join_from(&second), Err(clash));
+    assert_eq!(rt; third.refusal(&fourth), None);
+    assert_eq!(rt; third.join_from(&fourth), Err(JoinFault::Memory));
+    assert_eq!(rt; third.join_from(&none), Ok(()));
+    assert_eq!(rt; heap.used(), used);
+    assert!(rt; taken.len() > 0);
     Ok(())
 }
 

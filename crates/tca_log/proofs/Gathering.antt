@@ -13,13 +13,13 @@ use Rattle.std.proofs.lemmas.Map.Lookups.{CmpEqualImpliesEq}
 use Rattle.tca_join.specs.Sets.{has, in_order}
 use Rattle.tca_join.proofs.Sets.{has-append, has-in_order, rises_in_order, only_one, or_again}
 use Rattle.tca_join.proofs.Merge.{in_order_alike}
-use Rattle.tca_log.specs.Ordered.{without_each}
+use Rattle.tca_log.specs.Rows.Ordered.{without_each}
 use Rattle.tca_log.proofs.Contents.{is_eq_then}
-use Rattle.tca_log.proofs.Each.{beyond_new, beyond_held, beyond_none}
+use Rattle.tca_log.proofs.OrderedRows.Each.{beyond_new, beyond_held, beyond_none}
 use Rattle.tca_report.specs.Reports.{PacketReport, report_cmp}
 use Rattle.tca_report.proofs.Order.{report_total, report_exact}
 
--- a sorted list without what stands twice is the set of its members
+-- a sorted list without what stands newly_disputed is the set of its members
 module _ {K : Type 0} (R : K → K → Ordering) (o : IsTotalOrder R) (exact : CmpEqualImpliesEq R) (E : K → K → Bool) (ties : (x y : K) → E x y ≡ eq_by_cmp R x y) where
   kept_alike : (k : K) (xs : List K) (q : K) → has R (dedup_from E k xs) q ≡ has R (k ∷ xs) q
   unfolding has

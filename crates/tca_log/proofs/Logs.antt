@@ -16,11 +16,11 @@ use Rattle.tca_report.proofs.Identities.{identity_total, identity_exact}
 use Rattle.tca_report.specs.declared.report.Identity.{Identity}
 use Rattle.tca_log.specs.declared.answer.Added.TheVariants.{Fresh, Repeat, NewDispute, MoreDispute}
 use Rattle.tca_log.specs.declared.by_identity.ByIdentity.{ByIdentity}
-use Rattle.tca_log.specs.Ordered.{tied}
+use Rattle.tca_log.specs.Rows.Ordered.{tied}
 use Rattle.tca_log.specs.Disputes.{has_identity, contents, added, added_to}
-use Rattle.tca_log.specs.Logs.{index_cmp, indexed, count_at, IsKept, IsLog, answered, index_after, disputes_after}
-use Rattle.tca_log.proofs.Places.{length_put}
-use Rattle.tca_log.proofs.Search.{has_tied, put_there, tied_is, all_tied}
+use Rattle.tca_log.specs.Logs.{index_cmp, indexed, count_at, IsKept, IsLog, answered, index_after, disputed_after}
+use Rattle.tca_log.proofs.OrderedRows.Positions.{length_put}
+use Rattle.tca_log.proofs.OrderedRows.Search.{has_tied, put_there, tied_is, all_tied}
 use Rattle.tca_log.proofs.Contents.{tests_alike, count_put, has-disputed, disputed_rises, disputed_is, has_identity_is, has-filter}
 
 pub index_total : IsTotalOrder index_cmp
@@ -33,27 +33,27 @@ nothing = record {
   limit = omega arith;
   known = λ r. refl;
   among = tt;
-  disputes = disputed_is [] [] tt (λ i. refl);
+  disputed_are = disputed_is [] [] tt (λ i. refl);
   fewer = omega arith;
-  fewer_disputes = omega arith;
+  fewer_disputed = omega arith;
 }
 
 pub nothing_kept : IsKept [] None []
 nothing_kept = record {
   rises = nothing.rises;
   limit = nothing.limit;
-  disputes = nothing.disputes;
-  fewer_disputes = nothing.fewer_disputes;
+  disputed_are = nothing.disputed_are;
+  fewer_disputed = nothing.fewer_disputed;
   indexed = tt;
 }
 
 -- a log that keeps its index
-pub kept : {rs : List PacketReport} {index : List ByIdentity} {doubled : List Identity} → IsLog rs index doubled → IsKept rs (Some index) doubled
+pub kept : {rs : List PacketReport} {index : List ByIdentity} {disputed_identities : List Identity} → IsLog rs index disputed_identities → IsKept rs (Some index) disputed_identities
 kept log = record {
   rises = log.rises;
   limit = log.limit;
-  disputes = log.disputes;
-  fewer_disputes = log.fewer_disputes;
+  disputed_are = log.disputed_are;
+  fewer_disputed = log.fewer_disputed;
   indexed = log;
 }
 
@@ -101,18 +101,18 @@ pub further_one : (b : Bool) (n : ℕ) → (b ≡ true → 1 < n) → nat_lt 1 n
 further_one true n h = let many : 1 < n = h refl in tests_alike 1 n 1 (n + 1) (λ g. omega arith) (λ g. many)
 further_one false n h = tests_alike 1 n 1 (n + 0) (λ g. omega arith) (λ g. omega arith)
 
-module _ (rs : List PacketReport) (index : List ByIdentity) (doubled : List Identity) (r : PacketReport) (log : IsLog rs index doubled) (new : has report_cmp rs r ≡ false) (few : length rs < 4194304) where
+module _ (rs : List PacketReport) (index : List ByIdentity) (disputed_identities : List Identity) (r : PacketReport) (log : IsLog rs index disputed_identities) (new : has report_cmp rs r ≡ false) (few : length rs < 4194304) where
   more : (i : Identity) → count_at (put report_cmp r rs) i ≡ count_at rs i + cond (eq_by_cmp identity_cmp i (identity_of r)) 1 0
   more i = count_put rs r i new
 
   longer : length (put report_cmp r rs) ≡ length rs + 1
   longer = length_put report_cmp report_total r rs new
 
-  is_doubled : (i : Identity) → has identity_cmp doubled i ≡ nat_lt 1 (count_at rs i)
-  is_doubled i = ap (λ is. has identity_cmp is i) log.disputes ∙ has-disputed rs i
+  is_disputed_by : (i : Identity) → has identity_cmp disputed_identities i ≡ nat_lt 1 (count_at rs i)
+  is_disputed_by i = ap (λ is. has identity_cmp is i) log.disputed_are ∙ has-disputed rs i
 
-  doubled_rises : IsStrictlySortedBy identity_cmp doubled
-  doubled_rises = subst (IsStrictlySortedBy identity_cmp) (sym log.disputes) (disputed_rises rs)
+  disputed_all_rise : IsStrictlySortedBy identity_cmp disputed_identities
+  disputed_all_rise = subst (IsStrictlySortedBy identity_cmp) (sym log.disputed_are) (disputed_rises rs)
 
   -- the first report of an identity
   module _ (absent : has index_cmp index (indexed r) ≡ false) where
@@ -122,15 +122,15 @@ module _ (rs : List PacketReport) (index : List ByIdentity) (doubled : List Iden
     none_at : (i : Identity) → eq_by_cmp identity_cmp i (identity_of r) ≡ true → count_at rs i ≡ 0
     none_at i e = same_count rs i (identity_of r) e ∙ none
 
-    pub fresh_log : IsLog (put report_cmp r rs) (put index_cmp (indexed r) index) doubled
+    pub fresh_log : IsLog (put report_cmp r rs) (put index_cmp (indexed r) index) disputed_identities
     fresh_log = record {
       rises = rises_put report_cmp report_total r rs log.rises;
       limit = omega (arith, longer);
       known = λ q. has-put index_cmp index_total (indexed r) index (indexed q) ∙ ap (λ b. eq_by_cmp identity_cmp (identity_of q) (identity_of r) || b) (log.known q) ∙ one_more (eq_by_cmp identity_cmp (identity_of q) (identity_of r)) (count_at rs (identity_of q)) ∙ ap (nat_lt 0) (sym (more (identity_of q)));
       among = all_put index_cmp index_total (λ b. has report_cmp (put report_cmp r rs) b.report ≡ true) (indexed r) index (new_itself rs r) (more_among rs r index log.among);
-      disputes = disputed_is (put report_cmp r rs) doubled doubled_rises (λ i. is_doubled i ∙ first_one (eq_by_cmp identity_cmp i (identity_of r)) (count_at rs i) (none_at i) ∙ ap (nat_lt 1) (sym (more i)));
+      disputed_are = disputed_is (put report_cmp r rs) disputed_identities disputed_all_rise (λ i. is_disputed_by i ∙ first_one (eq_by_cmp identity_cmp i (identity_of r)) (count_at rs i) (none_at i) ∙ ap (nat_lt 1) (sym (more i)));
       fewer = omega (arith, longer, length_put index_cmp index_total (indexed r) index absent, log.fewer);
-      fewer_disputes = omega (arith, longer, log.fewer_disputes);
+      fewer_disputed = omega (arith, longer, log.fewer_disputed);
     }
 
   -- a further one
@@ -144,37 +144,37 @@ module _ (rs : List PacketReport) (index : List ByIdentity) (doubled : List Iden
     still_known : (q : PacketReport) → has index_cmp index (indexed q) ≡ nat_lt 0 (count_at (put report_cmp r rs) (identity_of q))
     still_known q = log.known q ∙ one_more_there (eq_by_cmp identity_cmp (identity_of q) (identity_of r)) (count_at rs (identity_of q)) (some_at (identity_of q)) ∙ ap (nat_lt 0) (sym (more (identity_of q)))
 
-    pub second_log : has identity_cmp doubled (identity_of r) ≡ false → IsLog (put report_cmp r rs) index (put identity_cmp (identity_of r) doubled)
+    pub second_log : has identity_cmp disputed_identities (identity_of r) ≡ false → IsLog (put report_cmp r rs) index (put identity_cmp (identity_of r) disputed_identities)
     second_log single = record {
       rises = rises_put report_cmp report_total r rs log.rises;
       limit = omega (arith, longer);
       known = still_known;
       among = more_among rs r index log.among;
-      disputes = disputed_is (put report_cmp r rs) (put identity_cmp (identity_of r) doubled) (rises_put identity_cmp identity_total (identity_of r) doubled doubled_rises) (λ i. has-put identity_cmp identity_total (identity_of r) doubled i ∙ ap (λ b. eq_by_cmp identity_cmp i (identity_of r) || b) (is_doubled i) ∙ second_one (eq_by_cmp identity_cmp i (identity_of r)) (count_at rs i) (some_at i) ∙ ap (nat_lt 1) (sym (more i)));
+      disputed_are = disputed_is (put report_cmp r rs) (put identity_cmp (identity_of r) disputed_identities) (rises_put identity_cmp identity_total (identity_of r) disputed_identities disputed_all_rise) (λ i. has-put identity_cmp identity_total (identity_of r) disputed_identities i ∙ ap (λ b. eq_by_cmp identity_cmp i (identity_of r) || b) (is_disputed_by i) ∙ second_one (eq_by_cmp identity_cmp i (identity_of r)) (count_at rs i) (some_at i) ∙ ap (nat_lt 1) (sym (more i)));
       fewer = omega (arith, longer, log.fewer);
-      fewer_disputes = omega (arith, longer, length_put identity_cmp identity_total (identity_of r) doubled single, log.fewer_disputes);
+      fewer_disputed = omega (arith, longer, length_put identity_cmp identity_total (identity_of r) disputed_identities single, log.fewer_disputed);
     }
 
-    pub further_log : has identity_cmp doubled (identity_of r) ≡ true → IsLog (put report_cmp r rs) index doubled
+    pub further_log : has identity_cmp disputed_identities (identity_of r) ≡ true → IsLog (put report_cmp r rs) index disputed_identities
     further_log double = record {
       rises = rises_put report_cmp report_total r rs log.rises;
       limit = omega (arith, longer);
       known = still_known;
       among = more_among rs r index log.among;
-      disputes = disputed_is (put report_cmp r rs) doubled doubled_rises (λ i. is_doubled i ∙ further_one (eq_by_cmp identity_cmp i (identity_of r)) (count_at rs i) (λ e. subst (λ n. 1 < n) (sym (same_count rs i (identity_of r) e)) many) ∙ ap (nat_lt 1) (sym (more i)));
+      disputed_are = disputed_is (put report_cmp r rs) disputed_identities disputed_all_rise (λ i. is_disputed_by i ∙ further_one (eq_by_cmp identity_cmp i (identity_of r)) (count_at rs i) (λ e. subst (λ n. 1 < n) (sym (same_count rs i (identity_of r) e)) many) ∙ ap (nat_lt 1) (sym (more i)));
       fewer = omega (arith, longer, log.fewer);
-      fewer_disputes = omega (arith, longer, log.fewer_disputes);
+      fewer_disputed = omega (arith, longer, log.fewer_disputed);
     }
       where
         many : 1 < count_at rs (identity_of r)
-        many = ltb-true 1 (count_at rs (identity_of r)) (sym (is_doubled (identity_of r)) ∙ double)
+        many = ltb-true 1 (count_at rs (identity_of r)) (sym (is_disputed_by (identity_of r)) ∙ double)
 
   -- the three cases together
-  pub next_log : IsLog (put report_cmp r rs) (index_after (tied index_cmp (indexed r) index) r index) (disputes_after (tied index_cmp (indexed r) index) (has identity_cmp doubled (identity_of r)) r doubled)
+  pub next_log : IsLog (put report_cmp r rs) (index_after (tied index_cmp (indexed r) index) r index) (disputed_after (tied index_cmp (indexed r) index) (has identity_cmp disputed_identities (identity_of r)) r disputed_identities)
   next_log =
-      elim (tied index_cmp (indexed r) index) as (λ t. has index_cmp index (indexed r) ≡ is_some t → IsLog (put report_cmp r rs) (index_after t r index) (disputes_after t (has identity_cmp doubled (identity_of r)) r doubled)) [
+      elim (tied index_cmp (indexed r) index) as (λ t. has index_cmp index (indexed r) ≡ is_some t → IsLog (put report_cmp r rs) (index_after t r index) (disputed_after t (has identity_cmp disputed_identities (identity_of r)) r disputed_identities)) [
         | None ↦ λ e. fresh_log e
-        | Some first ↦ λ e. elim (has identity_cmp doubled (identity_of r)) as (λ b. has identity_cmp doubled (identity_of r) ≡ b → IsLog (put report_cmp r rs) index (disputes_after (Some first) b r doubled)) [ true ↦ λ d. further_log e d | false ↦ λ d. second_log e d ] refl
+        | Some first ↦ λ e. elim (has identity_cmp disputed_identities (identity_of r)) as (λ b. has identity_cmp disputed_identities (identity_of r) ≡ b → IsLog (put report_cmp r rs) index (disputed_after (Some first) b r disputed_identities)) [ true ↦ λ d. further_log e d | false ↦ λ d. second_log e d ] refl
       ] (has_tied index_cmp index_total (indexed r) index)
 
 -- the answer, by how many members the identity has
@@ -197,29 +197,29 @@ answer_one (x ∷ []) q h m = ap NewDispute (report_exact q x ((Equal-is (report
     or_none false = refl
 answer_one (x ∷ y ∷ xs) q h m = absurd (omega arith)
 
-module _ (rs : List PacketReport) (index : List ByIdentity) (doubled : List Identity) (r : PacketReport) (log : IsLog rs index doubled) (new : has report_cmp rs r ≡ false) (few : length rs < 4194304) where
+module _ (rs : List PacketReport) (index : List ByIdentity) (disputed_identities : List Identity) (r : PacketReport) (log : IsLog rs index disputed_identities) (new : has report_cmp rs r ≡ false) (few : length rs < 4194304) where
   opened : added_to (contents rs (identity_of r)) ≡ added rs r
   unfolding added
   opened = sym (ap (λ b. cond b Repeat (added_to (contents rs (identity_of r)))) new)
 
   first_answer : has index_cmp index (indexed r) ≡ false → Fresh ≡ added_to (contents rs (identity_of r))
-  first_answer absent = answer_by (contents rs (identity_of r)) (none rs index doubled r log new few absent)
+  first_answer absent = answer_by (contents rs (identity_of r)) (none rs index disputed_identities r log new few absent)
 
-  further_answer : has identity_cmp doubled (identity_of r) ≡ true → MoreDispute ≡ added_to (contents rs (identity_of r))
-  further_answer double = answer_many (contents rs (identity_of r)) (ltb-true 1 (count_at rs (identity_of r)) (sym (is_doubled rs index doubled r log new few (identity_of r)) ∙ double))
+  further_answer : has identity_cmp disputed_identities (identity_of r) ≡ true → MoreDispute ≡ added_to (contents rs (identity_of r))
+  further_answer double = answer_many (contents rs (identity_of r)) (ltb-true 1 (count_at rs (identity_of r)) (sym (is_disputed_by rs index disputed_identities r log new few (identity_of r)) ∙ double))
 
-  second_answer : (first : ByIdentity) → tied index_cmp (indexed r) index ≡ Some first → has identity_cmp doubled (identity_of r) ≡ false → NewDispute first.report ≡ added_to (contents rs (identity_of r))
+  second_answer : (first : ByIdentity) → tied index_cmp (indexed r) index ≡ Some first → has identity_cmp disputed_identities (identity_of r) ≡ false → NewDispute first.report ≡ added_to (contents rs (identity_of r))
   unfolding contents
   second_answer first e single =
       let there : has report_cmp rs first.report ≡ true = all_tied index_cmp index_total (λ b. has report_cmp rs b.report ≡ true) (indexed r) index first log.among e in
       let ties : has_identity (identity_of r) first.report ≡ true = has_identity_is (identity_of r) first.report ∙ tied_is index_cmp index_total (indexed r) index first e in
-      answer_one (filter (has_identity (identity_of r)) rs) first.report (ltb-false 1 (count_at rs (identity_of r)) (sym (is_doubled rs index doubled r log new few (identity_of r)) ∙ single))
+      answer_one (filter (has_identity (identity_of r)) rs) first.report (ltb-false 1 (count_at rs (identity_of r)) (sym (is_disputed_by rs index disputed_identities r log new few (identity_of r)) ∙ single))
       (has-filter report_cmp report_exact (has_identity (identity_of r)) rs first.report ∙ (λ i. ties i && there i))
 
-  pub next_answer : answered (tied index_cmp (indexed r) index) (has identity_cmp doubled (identity_of r)) ≡ added rs r
+  pub next_answer : answered (tied index_cmp (indexed r) index) (has identity_cmp disputed_identities (identity_of r)) ≡ added rs r
   next_answer =
-      elim (tied index_cmp (indexed r) index) as (λ t. tied index_cmp (indexed r) index ≡ t → has index_cmp index (indexed r) ≡ is_some t → answered t (has identity_cmp doubled (identity_of r)) ≡ added_to (contents rs (identity_of r))) [
+      elim (tied index_cmp (indexed r) index) as (λ t. tied index_cmp (indexed r) index ≡ t → has index_cmp index (indexed r) ≡ is_some t → answered t (has identity_cmp disputed_identities (identity_of r)) ≡ added_to (contents rs (identity_of r))) [
         | None ↦ λ e h. first_answer h
-        | Some first ↦ λ e h. elim (has identity_cmp doubled (identity_of r)) as (λ b. has identity_cmp doubled (identity_of r) ≡ b → answered (Some first) b ≡ added_to (contents rs (identity_of r))) [ true ↦ λ d. further_answer d | false ↦ λ d. second_answer first e d ] refl
+        | Some first ↦ λ e h. elim (has identity_cmp disputed_identities (identity_of r)) as (λ b. has identity_cmp disputed_identities (identity_of r) ≡ b → answered (Some first) b ≡ added_to (contents rs (identity_of r))) [ true ↦ λ d. further_answer d | false ↦ λ d. second_answer first e d ] refl
       ] refl (has_tied index_cmp index_total (indexed r) index)
       ∙ opened

@@ -15,20 +15,20 @@ use Rattle.tca_report.proofs.Identities.{identity_total}
 use Rattle.tca_report.specs.declared.report.Identity.{Identity}
 use Rattle.tca_log.specs.Disputes.{has_identity, contents, disputed, undisputed, settled_of}
 use Rattle.tca_log.specs.Logs.{count_at}
-use Rattle.tca_log.proofs.Each.{members}
+use Rattle.tca_log.proofs.OrderedRows.Each.{members}
 use Rattle.tca_log.proofs.Contents.{has-disputed, has_identity_is, has-filter}
 
-pub settled_keep : (disputes : List Identity) (r : PacketReport) (rs : List PacketReport) → has identity_cmp disputes (identity_of r) ≡ false → settled_of disputes (r ∷ rs) ≡ r ∷ settled_of disputes rs
+pub settled_keep : (disputed_identities : List Identity) (r : PacketReport) (rs : List PacketReport) → has identity_cmp disputed_identities (identity_of r) ≡ false → settled_of disputed_identities (r ∷ rs) ≡ r ∷ settled_of disputed_identities rs
 unfolding settled_of
-settled_keep disputes r rs h = rw h refl
+settled_keep disputed_identities r rs h = rw h refl
 
-pub settled_skip : (disputes : List Identity) (r : PacketReport) (rs : List PacketReport) → has identity_cmp disputes (identity_of r) ≡ true → settled_of disputes (r ∷ rs) ≡ settled_of disputes rs
+pub settled_skip : (disputed_identities : List Identity) (r : PacketReport) (rs : List PacketReport) → has identity_cmp disputed_identities (identity_of r) ≡ true → settled_of disputed_identities (r ∷ rs) ≡ settled_of disputed_identities rs
 unfolding settled_of
-settled_skip disputes r rs h = rw h refl
+settled_skip disputed_identities r rs h = rw h refl
 
-pub settled_none : (disputes : List Identity) → settled_of disputes [] ≡ []
+pub settled_none : (disputed_identities : List Identity) → settled_of disputed_identities [] ≡ []
 unfolding settled_of
-settled_none disputes = refl
+settled_none disputed_identities = refl
 
 filter_among : (p q : PacketReport → Bool) (xs : List PacketReport) → AllByRecursion (λ x. p x ≡ q x) xs → filter p xs ≡ filter q xs
 filter_among p q [] h = refl
@@ -62,9 +62,9 @@ all_alone rs [] h = tt
 all_alone rs (x ∷ xs) h = (alone rs x h.0, all_alone rs xs h.1)
 
 -- what is left without the disputed identities is what is undisputed
-pub settled_are : (rs : List PacketReport) (disputes : List Identity) → disputes ≡ disputed rs → settled_of disputes rs ≡ undisputed rs
+pub settled_are : (rs : List PacketReport) (disputed_identities : List Identity) → disputed_identities ≡ disputed rs → settled_of disputed_identities rs ≡ undisputed rs
 unfolding settled_of undisputed
-settled_are rs disputes e =
+settled_are rs disputed_identities e =
     ap (λ is. settled_of is rs) e
     ∙ filter_among (λ x. not (has identity_cmp (disputed rs) (identity_of x))) (λ x. count_at rs (identity_of x) == 1) rs (all_alone rs rs (members report_cmp report_total rs))
 

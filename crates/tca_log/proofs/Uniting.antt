@@ -16,14 +16,14 @@ use Rattle.tca_report.proofs.Order.{report_total}
 use Rattle.tca_report.proofs.Identities.{identity_total}
 use Rattle.tca_report.specs.declared.report.Identity.{Identity}
 use Rattle.tca_log.specs.declared.by_identity.ByIdentity.{ByIdentity}
-use Rattle.tca_log.specs.Ordered.{put_each, without_each, AreApart}
+use Rattle.tca_log.specs.Rows.Ordered.{put_each, without_each, AreApart}
 use Rattle.tca_log.specs.Disputes.{has_identity, contents, disputed}
 use Rattle.tca_log.specs.Logs.{index_cmp, indexed, count_at, IsLog}
-use Rattle.tca_log.specs.Noting.{AreNotes, Noted, noted_all, reports_in}
-use Rattle.tca_log.proofs.Each.{has-put_each, rises_put_each, all_put_each, length-put_each, still_apart, beyond_rises, beyond_apart, apart_none, put_each_none}
+use Rattle.tca_log.specs.Additions.{AreAdditions, AddedRows, with_reports, reports_in}
+use Rattle.tca_log.proofs.OrderedRows.Each.{has-put_each, rises_put_each, all_put_each, length-put_each, still_apart, beyond_rises, beyond_apart, apart_none, put_each_none}
 use Rattle.tca_log.proofs.Contents.{length-filter_put, disputed_rises, disputed_is, has-filter}
 use Rattle.tca_log.proofs.Logs.{index_total, nothing}
-use Rattle.tca_log.proofs.Noting.{notes_all, or_comm, or_true, put_each_longest}
+use Rattle.tca_log.proofs.ReportAdditions.{additions_all, or_comm, or_true, put_each_longest}
 
 reports_back : (rs : List PacketReport) → reports_in (map indexed rs) ≡ rs
 reports_back [] = refl
@@ -63,29 +63,29 @@ count_put_each (r ∷ news) rs i s a =
     ∙ elim (has_identity i r) as (λ b. (length (filter (has_identity i) rs) + cond b 1 0) + length (filter (has_identity i) news) ≡ length (filter (has_identity i) rs) + length (cond b (r ∷ filter (has_identity i) news) (filter (has_identity i) news))) [ true ↦ omega arith | false ↦ omega arith ]
 
 -- the three parts with all that is new
-module _ (rs : List PacketReport) (index : List ByIdentity) (doubled : List Identity) (news : List PacketReport) (keys : List ByIdentity) (n : Noted) (log : IsLog rs index doubled) (same : IsPermutation (map indexed news) keys)
-    (is : n ≡ noted_all index doubled keys (record { fresh = []; twice = [] })) where
-  pub notes : AreNotes rs index doubled (reports_in keys) n.fresh n.twice
-  notes = notes_all rs index doubled keys n log is
+module _ (rs : List PacketReport) (index : List ByIdentity) (disputed_identities : List Identity) (news : List PacketReport) (keys : List ByIdentity) (n : AddedRows) (log : IsLog rs index disputed_identities) (same : IsPermutation (map indexed news) keys)
+    (is : n ≡ with_reports index disputed_identities keys (record { fresh = []; newly_disputed = [] })) where
+  pub additions : AreAdditions rs index disputed_identities (reports_in keys) n.fresh n.newly_disputed
+  additions = additions_all rs index disputed_identities keys n log is
 
   pub few_fresh : length n.fresh ≤ length news
-  few_fresh = omega (arith, notes.fewer, length_moved news keys same)
+  few_fresh = omega (arith, additions.fewer, length_moved news keys same)
 
-  pub few_twice : length n.twice ≤ length news
-  few_twice = omega (arith, notes.fewer_disputes, length_moved news keys same)
+  pub few_newly_disputed : length n.newly_disputed ≤ length news
+  few_newly_disputed = omega (arith, additions.fewer_disputed, length_moved news keys same)
 
-  pub united_log : IsStrictlySortedBy report_cmp news → AreApart report_cmp news rs → length rs + length news ≤ 4194304 → IsLog (put_each report_cmp news rs) (put_each index_cmp n.fresh index) (put_each identity_cmp n.twice doubled)
+  pub united_log : IsStrictlySortedBy report_cmp news → AreApart report_cmp news rs → length rs + length news ≤ 4194304 → IsLog (put_each report_cmp news rs) (put_each index_cmp n.fresh index) (put_each identity_cmp n.newly_disputed disputed_identities)
   united_log s a few = record {
     rises = rises_put_each report_cmp report_total news rs log.rises;
     limit = omega (arith, longer, few);
-    known = λ r. has-put_each index_cmp index_total n.fresh index (indexed r) ∙ or_comm (has index_cmp n.fresh (indexed r)) (has index_cmp index (indexed r)) ∙ notes.known r ∙ ap (nat_lt 0) (counts (identity_of r));
+    known = λ r. has-put_each index_cmp index_total n.fresh index (indexed r) ∙ or_comm (has index_cmp n.fresh (indexed r)) (has index_cmp index (indexed r)) ∙ additions.known r ∙ ap (nat_lt 0) (counts (identity_of r));
     among = all_put_each index_cmp index_total (λ b. has report_cmp (put_each report_cmp news rs) b.report ≡ true) n.fresh index
-        (all_more (λ b. has report_cmp (reports_in keys) b.report ≡ true) (λ b. has report_cmp (put_each report_cmp news rs) b.report ≡ true) (λ b e. has-put_each report_cmp report_total news rs b.report ∙ ap (λ c. c || has report_cmp rs b.report) (sym (has_moved news keys same b.report) ∙ e)) n.fresh notes.among)
+        (all_more (λ b. has report_cmp (reports_in keys) b.report ≡ true) (λ b. has report_cmp (put_each report_cmp news rs) b.report ≡ true) (λ b e. has-put_each report_cmp report_total news rs b.report ∙ ap (λ c. c || has report_cmp rs b.report) (sym (has_moved news keys same b.report) ∙ e)) n.fresh additions.among)
         (all_more (λ b. has report_cmp rs b.report ≡ true) (λ b. has report_cmp (put_each report_cmp news rs) b.report ≡ true) (λ b e. has-put_each report_cmp report_total news rs b.report ∙ ap (λ c. has report_cmp news b.report || c) e ∙ or_true (has report_cmp news b.report)) index log.among);
-    disputes = disputed_is (put_each report_cmp news rs) (put_each identity_cmp n.twice doubled) (rises_put_each identity_cmp identity_total n.twice doubled (subst (IsStrictlySortedBy identity_cmp) (sym log.disputes) (disputed_rises rs)))
-        (λ i. has-put_each identity_cmp identity_total n.twice doubled i ∙ or_comm (has identity_cmp n.twice i) (has identity_cmp doubled i) ∙ notes.doubled i ∙ ap (nat_lt 1) (counts i));
+    disputed_are = disputed_is (put_each report_cmp news rs) (put_each identity_cmp n.newly_disputed disputed_identities) (rises_put_each identity_cmp identity_total n.newly_disputed disputed_identities (subst (IsStrictlySortedBy identity_cmp) (sym log.disputed_are) (disputed_rises rs)))
+        (λ i. has-put_each identity_cmp identity_total n.newly_disputed disputed_identities i ∙ or_comm (has identity_cmp n.newly_disputed i) (has identity_cmp disputed_identities i) ∙ additions.disputed_are i ∙ ap (nat_lt 1) (counts i));
     fewer = omega (arith, put_each_longest index_cmp n.fresh index, few_fresh, log.fewer, longer);
-    fewer_disputes = omega (arith, put_each_longest identity_cmp n.twice doubled, few_twice, log.fewer_disputes, longer);
+    fewer_disputed = omega (arith, put_each_longest identity_cmp n.newly_disputed disputed_identities, few_newly_disputed, log.fewer_disputed, longer);
   }
     where
       counts : (i : Identity) → count_at rs i + count_at (reports_in keys) i ≡ count_at (put_each report_cmp news rs) i
@@ -113,9 +113,9 @@ module _ {K : Type 0} (R : K → K → Ordering) (o : IsTotalOrder R) (exact : C
   union_length rs others s t = sym (ap length (union_is rs others s)) ∙ length-put_each R o (without_each R rs others) rs (beyond_rises R o rs others t) (beyond_apart R o rs others)
 
 -- the index of reports by themselves
-pub index_made : (rs : List PacketReport) (keys : List ByIdentity) (n : Noted) → IsPermutation (map indexed rs) keys → n ≡ noted_all [] [] keys (record { fresh = []; twice = [] })
-    → IsStrictlySortedBy report_cmp rs → length rs ≤ 4194304 → (doubled : List Identity) → doubled ≡ disputed rs → IsLog rs (put_each index_cmp n.fresh []) doubled
-index_made rs keys n same is rises few doubled all =
+pub index_made : (rs : List PacketReport) (keys : List ByIdentity) (n : AddedRows) → IsPermutation (map indexed rs) keys → n ≡ with_reports [] [] keys (record { fresh = []; newly_disputed = [] })
+    → IsStrictlySortedBy report_cmp rs → length rs ≤ 4194304 → (disputed_identities : List Identity) → disputed_identities ≡ disputed rs → IsLog rs (put_each index_cmp n.fresh []) disputed_identities
+index_made rs keys n same is rises few disputed_identities all =
     let whole = united_log [] [] [] rs keys n nothing same is rises (apart_none report_cmp report_total rs) (omega (arith, few)) in
-    let log : IsLog rs (put_each index_cmp n.fresh []) (put_each identity_cmp n.twice []) = subst (λ (l : List PacketReport). IsLog l (put_each index_cmp n.fresh []) (put_each identity_cmp n.twice [])) (put_each_none report_cmp report_total rs rises) whole in
-    subst (IsLog rs (put_each index_cmp n.fresh [])) (log.disputes ∙ sym all) log
+    let log : IsLog rs (put_each index_cmp n.fresh []) (put_each identity_cmp n.newly_disputed []) = subst (λ (l : List PacketReport). IsLog l (put_each index_cmp n.fresh []) (put_each identity_cmp n.newly_disputed [])) (put_each_none report_cmp report_total rs rises) whole in
+    subst (IsLog rs (put_each index_cmp n.fresh [])) (log.disputed_are ∙ sym all) log

@@ -30,7 +30,7 @@ disputed rs = filter (λ i. nat_lt 1 (length (contents rs i))) (in_order identit
 
 -- the reports whose identity is not among these
 unfoldable pub settled_of : List Identity → List PacketReport → List PacketReport
-settled_of disputes rs = filter (λ r. not (has identity_cmp disputes (identity_of r))) rs
+settled_of disputed_identities rs = filter (λ r. not (has identity_cmp disputed_identities (identity_of r))) rs
 
 -- what a new report is to the members with its identity
 abbrev pub added_to : List PacketReport → Added

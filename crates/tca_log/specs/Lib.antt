@@ -1,9 +1,8 @@
-pub mod Chunks
-pub mod Ordered
+pub mod Rows
 pub mod Disputes
 pub mod Faults
 pub mod Logs
-pub mod Noting
+pub mod Additions
 pub mod LogJoin
 pub mod Arrivals
 pub mod Next

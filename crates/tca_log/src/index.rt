@@ -3,11 +3,11 @@ ghost use Rattle.std.specs.Prelude.{◌≡◌, ◌<◌, ◌≤◌, List, length,
 ghost use Rattle.std.specs.List.Sorted.{IsStrictlySortedBy};
 ghost use Rattle.tca_report.specs.Reports.{report_cmp};
 ghost use Rattle.tca_report.specs.declared.report.Identity.{Identity};
-ghost use Rattle.tca_log.specs.Logs.{first_of, is_disputed, answered, index_after, disputes_after, index_rows, IsKept, IsLog};
+ghost use Rattle.tca_log.specs.Logs.{first_of, is_disputed, answered, index_after, disputed_after, index_rows, IsKept, IsLog};
 
 use crate::answer::Added;
 use crate::by_identity::ByIdentity;
-use crate::notes::notes_of;
+use crate::additions::additions_of;
 use crate::rows::Rows;
 use std::alloc::{AllocError, Allocator};
 use tca_report::{Identity, Report};
@@ -23,7 +23,7 @@ pub(crate) fn enter<A: Allocator + Copy>(
     requires few_disputed { length disputed.old.rows < 4194304 }
     ensures answer { IfOk result (λ a. a ≡ answered (first_of index.old.rows report) (is_disputed disputed.old.rows report)) }
     ensures index { OnOk result (index.new.rows ≡ index_after (first_of index.old.rows report) report index.old.rows) }
-    ensures disputed { OnOk result (disputed.new.rows ≡ disputes_after (first_of index.old.rows report) (is_disputed disputed.old.rows report) report disputed.old.rows) }
+    ensures disputed { OnOk result (disputed.new.rows ≡ disputed_after (first_of index.old.rows report) (is_disputed disputed.old.rows report) report disputed.old.rows) }
     ensures err { OnErr result (index.new.rows ≡ index.old.rows) }
     ensures err_disputed { OnErr result (disputed.new.rows ≡ disputed.old.rows) }
 {
@@ -51,15 +51,15 @@ pub(crate) fn index_of<A: Allocator + Copy>(
 ) -> Result<Rows<ByIdentity, A>, AllocError>
     requires rises { IsStrictlySortedBy report_cmp rows.now.rows }
     requires few { length rows.now.rows ≤ 4194304 }
-    ensures { IfOk result (λ index. (disputes : List Identity) → IsKept rows.now.rows (index_rows kept) disputes → IsLog rows.now.rows index.rows disputes) }
+    ensures { IfOk result (λ index. (disputed_identities : List Identity) → IsKept rows.now.rows (index_rows kept) disputed_identities → IsLog rows.now.rows index.rows disputed_identities) }
 {
     if let Some(index) = kept {
         return Ok(index);
     }
     let alloc = rows.allocator();
     let mut index = Rows::new(alloc);
-    let notes = notes_of(&index, &Rows::new(alloc), rows)?;
-    index.take_all(notes.fresh)?;
+    let additions = additions_of(&index, &Rows::new(alloc), rows)?;
+    index.take_all(additions.fresh)?;
     Ok(index)
 }
 

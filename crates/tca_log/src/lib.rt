@@ -7,32 +7,29 @@
 //!
 //! - `rows`: the ordered container, with `chunk`, `locate` and `iter` beneath it;
 //! - `log`, `union`: the log, one report and many reports at a time;
-//! - `index`, `notes`, `by_identity`, `ascending`: which identities the log knows, and which are disputed;
+//! - `index`, `additions`, `by_identity`, `ascending`: which identities the log knows, and which are disputed;
 //! - `settled`: the reports that no other disputes; `answer`, `fault`: what a log answers; `laws`: what one more report
 //!   changes.
 #![tactic(auto)]
 
+mod additions;
 mod answer;
 mod ascending;
 mod by_identity;
-mod chunk;
 mod fault;
 mod index;
-mod iter;
 mod joins;
 mod laws;
-mod locate;
 mod log;
-mod notes;
 pub mod rows;
 mod settled;
 mod union;
 
 pub use answer::Added;
 pub use fault::LogFault;
-pub use iter::RowsIter;
 pub use laws::one_more_report;
 pub use log::{Log, same_reports_make_one_log};
+pub use rows::RowsIter;
 pub use settled::Settled;
 
 #[cfg(test)]

@@ -1,14 +1,21 @@
-//! An ordered set that makes room first, and then takes no memory.
+//! An ordered set that makes room first, and then takes no memory. It knows nothing of reports.
+//!
+//! - `chunk`: rows that lie side by side in memory; `locate`: which chunk a row is in; `iter`: the rows one by one.
 ghost use Rattle.std.specs.Prelude.{◌≡◌, ℕ, true, false, ◌+◌, ◌-◌, ◌<◌, ◌≤◌, [], ◌∷◌, ◌++◌, length, drop, OnOk, OnErr, IfOk, IsTrue, Some, is_some, IfSome, vec_len, vec_capacity, option_copied};
 ghost use Rattle.std.specs.List.{All};
 ghost use Rattle.std.specs.List.Sorted.{IsStrictlySortedBy};
 ghost use Rattle.tca_join.specs.Sets.{has, put};
-ghost use Rattle.tca_log.specs.Chunks.{joined, AreChunks};
-ghost use Rattle.tca_log.specs.Ordered.{without, rank, tied, put_each, without_each, AreApart, Ordered};
+ghost use Rattle.tca_log.specs.Rows.Chunks.{joined, AreChunks};
+ghost use Rattle.tca_log.specs.Rows.Ordered.{without, rank, tied, put_each, without_each, AreApart, Ordered};
 
-use crate::chunk::{CHUNK, Chunk};
-use crate::iter::RowsIter;
-use crate::locate::{count_of, from_row, place};
+mod chunk;
+mod iter;
+mod locate;
+
+pub use iter::RowsIter;
+
+use chunk::{CHUNK, Chunk};
+use locate::{count_of, from_row, position};
 use std::alloc::{AllocError, Allocator, Global};
 use std::marker::Model;
 
@@ -26,8 +33,8 @@ pub struct Rows<K: Ord + Copy, A: Allocator + Copy = Global> {
 
 impl<K: Ord + Copy, A: Allocator + Copy> Model for Rows<K, A> {
     ghost use Rattle.std.specs.Prelude.{is_some, vec_capacity};
-    ghost use Rattle.tca_log.specs.Chunks.{joined, AreRows};
-    ghost use Rattle.tca_log.specs.Ordered.{Ordered};
+    ghost use Rattle.tca_log.specs.Rows.Chunks.{joined, AreRows};
+    ghost use Rattle.tca_log.specs.Rows.Ordered.{Ordered};
 
     ghost Value = { Ordered K };
 
@@ -99,7 +106,7 @@ impl<K: Ord + Copy, A: Allocator + Copy> Rows<K, A> {
         if self.chunks.len() == 0 {
             return None;
         }
-        let at = place(&self.chunks, key);
+        let at = position(&self.chunks, key);
         self.chunks[at].get(key)
     }
 
@@ -117,7 +124,7 @@ impl<K: Ord + Copy, A: Allocator + Copy> Rows<K, A> {
         if self.chunks.len() == 0 {
             return 0;
         }
-        let at = place(&self.chunks, key);
+        let at = position(&self.chunks, key);
         count_of(&self.chunks[..at]) + self.chunks[at].rank(key)
     }
 
@@ -276,7 +283,7 @@ fn put_in<K: Ord + Copy, A: Allocator>(
         }
         return;
     }
-    let at = place(chunks, &key);
+    let at = position(chunks, &key);
     if chunks[at].len() < CHUNK {
         chunks[at].put(key);
     } else if let Some(mut upper) = spare.take() {
@@ -295,7 +302,7 @@ fn take_from<K: Ord + Copy, A: Allocator>(chunks: &mut Vec<Chunk<K, A>, A>, key:
     ensures fewer { vec_len chunks.new ≤ vec_len chunks.old }
     ensures capacity { vec_capacity chunks.new ≡ vec_capacity chunks.old }
 {
-    let at = place(chunks, key);
+    let at = position(chunks, key);
     let chunk = &mut chunks[at];
     chunk.withdraw(key);
     if chunk.len() == 0 {

@@ -3,8 +3,7 @@ ghost use Rattle.std.specs.Prelude.{◌≡◌};
 ghost use Rattle.std.specs.Iterator.{YieldsFirstRef, item_count};
 ghost use Rattle.tca_log.specs.Disputes.{settled_of};
 
-use crate::iter::RowsIter;
-use crate::rows::Rows;
+use crate::rows::{Rows, RowsIter};
 use std::alloc::{Allocator, Global};
 use std::marker::Model;
 use tca_report::{Identity, Report};

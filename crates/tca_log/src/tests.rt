@@ -2,7 +2,7 @@
 use crate::rows::Rows;
 use crate::{Added, Log, LogFault};
 use linked_list_allocator::LocalHeap;
-use std::alloc::{AllocError, Allocator, Global};
+use std::alloc::{Allocator, Global};
 use std::test::Fail;
 use tca_join::{Join, JoinFault};
 use tca_report::{Content, Identity, Report};
@@ -22,31 +22,28 @@ const ROWS: [(u32, u32, u32); 6] = [
     (3, 70, 602),
 ];
 
-fn report(place: u32, late: u32, octets: u32) -> Option<Report> {
-    Report::new(
-        Identity { domain: 7, place },
-        Content {
-            time: START + late as u64,
-            octets,
-            dscp: 0,
-            iface: 1,
-        },
-    )
+fn report(place: u32, late: u32, octets: u32) -> Result<Report, Fail> {
+    let identity = Identity { domain: 7, place };
+    let content = Content {
+        time: START + late as u64,
+        octets,
+        dscp: 0,
+        iface: 1,
+    };
+    Ok(Report::new(identity, content).ok_or("a report within its ranges")?)
 }
 
-fn rows(alloc: Global, count: usize) -> Result<Vec<Report>, AllocError> {
+fn rows(alloc: Global, count: usize) -> Result<Vec<Report>, Fail> {
     let mut list = Vec::new(alloc);
     for (place, late, octets) in ROWS {
-        if let Some(report) = report(place, late, octets) {
-            list.push(report)?;
-        }
+        list.push(report(place, late, octets)?)?;
     }
     list.truncate(count);
     Ok(list)
 }
 
 // The list in one of its orders: each code below the factorial of its length gives another one.
-fn in_turn(left: &mut Vec<Report>, code: usize, order: &mut Vec<Report>) -> Result<(), AllocError> {
+fn in_turn(left: &mut Vec<Report>, code: usize, order: &mut Vec<Report>) -> Result<(), Fail> {
     let mut code = code;
     for _ in 0..6 {
         let count = left.len();
@@ -60,7 +57,7 @@ fn in_turn(left: &mut Vec<Report>, code: usize, order: &mut Vec<Report>) -> Resu
 }
 
 // What a plain list of reports answers to one more, which it then has.
-fn added_to(list: &mut Vec<Report>, report: Report) -> Result<Added, AllocError> {
+fn added_to(list: &mut Vec<Report>, report: Report) -> Result<Added, Fail> {
     if list.contains(&report) {
         return Ok(Added::Repeat);
     }
@@ -118,7 +115,7 @@ fn has_all<A: Allocator + Copy>(log: &Log<A>, list: &[Report]) -> bool {
 }
 
 // Adds each report to both, and compares the answers.
-fn add_each(log: &mut Log, plain: &mut Vec<Report>, order: &[Report]) -> Result<bool, AllocError> {
+fn add_each(log: &mut Log, plain: &mut Vec<Report>, order: &[Report]) -> Result<bool, Fail> {
     for report in order {
         let wanted = added_to(plain, *report)?;
         if log.add(*report) != Ok(wanted) {
@@ -129,7 +126,7 @@ fn add_each(log: &mut Log, plain: &mut Vec<Report>, order: &[Report]) -> Result<
 }
 
 // Whether a log that gets the reports one by one answers as a plain list does and has what that has.
-fn agrees(alloc: Global, order: &[Report], disputed: u32) -> Result<bool, AllocError> {
+fn agrees(alloc: Global, order: &[Report], disputed: u32) -> Result<bool, Fail> {
     let mut log = Log::new(alloc);
     let mut plain = Vec::new(alloc);
     let alike = add_each(&mut log, &mut plain, order)?;
@@ -162,14 +159,14 @@ fn adds_all(
     order: &[Report],
     list: &[Report],
     new: u32,
-) -> Result<bool, AllocError> {
+) -> Result<bool, Fail> {
     let mut log = Log::new(alloc);
     let added = log.add_all(Vec::from_slice(alloc, order)?) == Ok(new);
     Ok(added && has_all(&log, list))
 }
 
 // Whether an order of the first reports, each twice, gives one log by all three calls.
-fn is_one_log(alloc: Global, code: usize) -> Result<bool, AllocError> {
+fn is_one_log(alloc: Global, code: usize) -> Result<bool, Fail> {
     let list = &rows(alloc, 3)?;
     let mut order = Vec::new(alloc);
     in_turn(&mut rows(alloc, 3)?, code, &mut order)?;
@@ -183,7 +180,7 @@ fn agrees_in_turn(
     count: usize,
     code: usize,
     disputed: u32,
-) -> Result<bool, AllocError> {
+) -> Result<bool, Fail> {
     let mut order = Vec::new(alloc);
     in_turn(&mut rows(alloc, count)?, code, &mut order)?;
     agrees(alloc, &order, disputed)
@@ -217,7 +214,7 @@ fn answers_late(log: &mut Log, late: Report, second: Report, third: Report) -> b
         && log.add(second) == Ok(Added::Repeat)
 }
 
-fn copies(alloc: Global) -> Result<bool, AllocError> {
+fn copies(alloc: Global) -> Result<bool, Fail> {
     let list = rows(alloc, 6)?;
     let mut log = Log::new(alloc);
     let added = log.add_all(Vec::from_slice(alloc, &list)?) == Ok(6);
@@ -231,27 +228,26 @@ fn copies(alloc: Global) -> Result<bool, AllocError> {
 fn late_contents_dispute(rt: HostRuntime) -> Result<(), Fail> {
     let list = rows(rt.alloc(), 6)?;
     let mut log = Log::new(rt.alloc());
-    if let [_, _, _, late, second, third] = list.as_slice() {
-        assert!(rt; answers_late(&mut log, *late, *second, *third));
-    }
+    let [_, _, _, late, second, third] = list.as_slice() else {
+        return Err(Fail::from("six reports"));
+    };
+    assert!(rt; answers_late(&mut log, *late, *second, *third));
     assert_eq!(rt; (log.len(), log.disputed()), (3, 1));
     assert!(rt; copies(rt.alloc())?);
     Ok(())
 }
 
 // 513 reports, of which 213 identities have two contents.
-fn many(alloc: Global) -> Result<Vec<Report>, AllocError> {
+fn many(alloc: Global) -> Result<Vec<Report>, Fail> {
     let mut list = Vec::new(alloc);
     for i in 0..513 {
-        if let Some(report) = report(i % 300, i, 40 + i) {
-            list.push(report)?;
-        }
+        list.push(report(i % 300, i, 40 + i)?)?;
     }
     Ok(list)
 }
 
 // The first, the last, the second, the last but one, and so on.
-fn alternating(alloc: Global, list: &[Report]) -> Result<Vec<Report>, AllocError> {
+fn alternating(alloc: Global, list: &[Report]) -> Result<Vec<Report>, Fail> {
     let mut order = Vec::new(alloc);
     for (i, report) in list.iter().enumerate() {
         order.push(*report)?;
@@ -272,18 +268,16 @@ fn chunks_do_not_show(rt: HostRuntime) -> Result<(), Fail> {
     Ok(())
 }
 
-fn fill(log: &mut Log) -> bool {
+fn fill(log: &mut Log) -> Result<bool, Fail> {
     for i in 0..LIMIT {
-        if let Some(report) = report(i, i, 40) {
-            if log.add(report) != Ok(Added::Fresh) {
-                return false;
-            }
+        if log.add(report(i, i, 40)?) != Ok(Added::Fresh) {
+            return Ok(false);
         }
     }
-    log.len() == LIMIT
+    Ok(log.len() == LIMIT)
 }
 
-fn refuses(alloc: Global, log: &mut Log, new: Report, old: Report) -> Result<bool, AllocError> {
+fn refuses(alloc: Global, log: &mut Log, new: Report, old: Report) -> Result<bool, Fail> {
     let alone = log.add(new) == Err(LogFault::Full) && log.add(old) == Ok(Added::Repeat);
     let new = log.add_all(Vec::from_slice(alloc, &[new])?);
     let old = log.add_all(Vec::from_slice(alloc, &[old])?);
@@ -298,6 +292,7 @@ fn join_refused<J: Join>(value: &mut J, other: &J) -> Option<JoinFault> {
 fn refuses_union(alloc: Global, log: &mut Log, report: Report) -> bool {
     let mut other = Log::new(alloc);
     other.add(report) == Ok(Added::Fresh)
+        && log.refusal(&other) == Some(JoinFault::Full)
         && log.union(&other) == Err(LogFault::Full)
         && join_refused(log, &other) == Some(JoinFault::Full)
         && log.len() == LIMIT
@@ -306,11 +301,10 @@ fn refuses_union(alloc: Global, log: &mut Log, report: Report) -> bool {
 #[test]
 fn a_full_log_refuses_what_is_new(rt: HostRuntime) -> Result<(), Fail> {
     let mut log = Log::new(rt.alloc());
-    assert!(rt; fill(&mut log));
-    if let (Some(new), Some(old)) = (report(9, LIMIT, 40), report(9, 9, 40)) {
-        assert!(rt; refuses(rt.alloc(), &mut log, new, old)?);
-        assert!(rt; refuses_union(rt.alloc(), &mut log, new));
-    }
+    assert!(rt; fill(&mut log)?);
+    let (new, old) = (report(9, LIMIT, 40)?, report(9, 9, 40)?);
+    assert!(rt; refuses(rt.alloc(), &mut log, new, old)?);
+    assert!(rt; refuses_union(rt.alloc(), &mut log, new));
     Ok(())
 }
 
@@ -327,7 +321,7 @@ fn part(
     list: &[Report],
     without: usize,
     count: usize,
-) -> Result<Vec<Report>, AllocError> {
+) -> Result<Vec<Report>, Fail> {
     let mut part = Vec::new(alloc);
     for report in list.iter().skip(without).take(count) {
         part.push(*report)?;
@@ -342,7 +336,7 @@ fn joins_to(first: &Log, second: &Log, list: &[Report]) -> bool {
     }
 }
 
-fn joins(alloc: Global) -> Result<bool, AllocError> {
+fn joins(alloc: Global) -> Result<bool, Fail> {
     let list = many(alloc)?;
     let lower = part(alloc, &list, 0, 400)?;
     let upper = part(alloc, &list, 200, 313)?;
@@ -424,7 +418,7 @@ fn dispute_step(small: &LocalHeap, first: Report, second: Report) -> Step {
 }
 
 // What the heap held after each refusal, once for heaps in a row that then held the same.
-fn kept(alloc: Global, steps: &[Step]) -> Result<Vec<usize>, AllocError> {
+fn kept(alloc: Global, steps: &[Step]) -> Result<Vec<usize>, Fail> {
     let mut kept = Vec::new(alloc);
     for step in steps {
         if let Step::Refused(octets) = *step {
@@ -436,7 +430,7 @@ fn kept(alloc: Global, steps: &[Step]) -> Result<Vec<usize>, AllocError> {
     Ok(kept)
 }
 
-fn dispute_steps(alloc: Global, first: Report, second: Report) -> Result<Vec<Step>, AllocError> {
+fn dispute_steps(alloc: Global, first: Report, second: Report) -> Result<Vec<Step>, Fail> {
     let mut met = Vec::new(alloc);
     for size in 1..1024 {
         let small = LocalHeap::new(alloc, STEP * size)?;
@@ -451,12 +445,10 @@ fn dispute_steps(alloc: Global, first: Report, second: Report) -> Result<Vec<Ste
 
 #[test]
 fn a_refused_dispute_leaves_the_log_as_it_was(rt: HostRuntime) -> Result<(), Fail> {
-    if let (Some(first), Some(second)) = (report(3, 50, 600), report(3, 60, 601)) {
-        let met = dispute_steps(rt.alloc(), first, second)?;
-        // Refused to the reports, to the disputed identities' list of chunks, and to a chunk of these.
-        assert_eq!(rt; kept(rt.alloc(), &met)?.len(), 3);
-        assert!(rt; met.contains(&Step::Done) && !met.contains(&Step::Wrong));
-    }
+    let met = dispute_steps(rt.alloc(), report(3, 50, 600)?, report(3, 60, 601)?)?;
+    // Refused to the reports, to the disputed identities' list of chunks, and to a chunk of these.
+    assert_eq!(rt; kept(rt.alloc(), &met)?.len(), 3);
+    assert!(rt; met.contains(&Step::Done) && !met.contains(&Step::Wrong));
     Ok(())
 }
 
@@ -465,7 +457,7 @@ fn late_content_step(
     small: &LocalHeap,
     list: &[Report],
     all: &[Report],
-) -> Result<Step, AllocError> {
+) -> Result<Step, Fail> {
     let [_, second, _, content] = all else {
         return Ok(Step::Wrong);
     };
@@ -484,7 +476,7 @@ fn late_content_step(
     })
 }
 
-fn late_content_steps(alloc: Global, content: Report) -> Result<Vec<Step>, AllocError> {
+fn late_content_steps(alloc: Global, content: Report) -> Result<Vec<Step>, Fail> {
     let list = rows(alloc, 3)?;
     let mut all = rows(alloc, 3)?;
     all.push(content)?;
@@ -502,13 +494,11 @@ fn late_content_steps(alloc: Global, content: Report) -> Result<Vec<Step>, Alloc
 
 #[test]
 fn a_list_in_order_is_disputed_later(rt: HostRuntime) -> Result<(), Fail> {
-    if let Some(content) = report(1, 300, 60) {
-        let met = late_content_steps(rt.alloc(), content)?;
-        // Refused to the reports, to the index that is made now, to the disputed identities' list of chunks, and to a chunk
-        // of these.
-        assert_eq!(rt; kept(rt.alloc(), &met)?.len(), 4);
-        assert!(rt; met.contains(&Step::Done) && !met.contains(&Step::Wrong));
-    }
+    let met = late_content_steps(rt.alloc(), report(1, 300, 60)?)?;
+    // Refused to the reports, to the index that is made now, to the disputed identities' list of chunks, and to a chunk of
+    // these.
+    assert_eq!(rt; kept(rt.alloc(), &met)?.len(), 4);
+    assert!(rt; met.contains(&Step::Done) && !met.contains(&Step::Wrong));
     Ok(())
 }
 
@@ -520,7 +510,7 @@ enum Call {
 }
 
 // 256 reports, which fill a chunk, then two whose identities lie between theirs, and a second content of the first.
-fn chunk_and_three(alloc: Global) -> Result<Vec<Report>, AllocError> {
+fn chunk_and_three(alloc: Global) -> Result<Vec<Report>, Fail> {
     let mut list = Vec::new(alloc);
     for i in 0..259 {
         let place = match i {
@@ -529,9 +519,7 @@ fn chunk_and_three(alloc: Global) -> Result<Vec<Report>, AllocError> {
             258 => 0,
             _ => 2 * i,
         };
-        if let Some(report) = report(place, i, 40) {
-            list.push(report)?;
-        }
+        list.push(report(place, i, 40)?)?;
     }
     Ok(list)
 }
@@ -542,7 +530,7 @@ fn call_step<'a>(
     call: Call,
     (lower, more): (&[Report], &[Report]),
     list: &[Report],
-) -> Result<Step, AllocError> {
+) -> Result<Step, Fail> {
     let given = Vec::from_slice(ample, more)?;
     let mut other = Log::new(ample);
     if add_to(&mut other, more).is_err() {
@@ -568,14 +556,14 @@ fn call_within(
     call: Call,
     parts: (&[Report], &[Report]),
     list: &[Report],
-) -> Result<Step, AllocError> {
+) -> Result<Step, Fail> {
     let small = LocalHeap::new(alloc, octets)?;
     let ample = LocalHeap::new(alloc, 1 << 17)?;
     call_step((&small, &ample), call, parts, list)
 }
 
 // The last reports, some of which the log has, each twice and out of order, in larger and larger heaps.
-fn call_steps(alloc: Global, call: Call) -> Result<Vec<Step>, AllocError> {
+fn call_steps(alloc: Global, call: Call) -> Result<Vec<Step>, Fail> {
     let list = chunk_and_three(alloc)?;
     let lower = part(alloc, &list, 0, 256)?;
     let more = alternating(alloc, &part(alloc, &list, 200, 59)?)?;
@@ -595,7 +583,7 @@ fn call_steps(alloc: Global, call: Call) -> Result<Vec<Step>, AllocError> {
 // reports, the disputed identities' list of chunks, a chunk of these, and a chunk of the index, at whose refusal the
 // chunk of the disputed is freed again, so that it leaves what that chunk's own left; the lists of chunks of the reports
 // and of the index have room. Three new reports are so few that their order, which is freed before, makes no room for any.
-fn refuses_each_growth(alloc: Global, call: Call) -> Result<bool, AllocError> {
+fn refuses_each_growth(alloc: Global, call: Call) -> Result<bool, Fail> {
     let met = call_steps(alloc, call)?;
     let from_the_first = met.first() == Some(&Step::Before);
     let to_the_last = met.last() == Some(&Step::Done);
@@ -615,8 +603,88 @@ fn a_refused_list_leaves_the_log_as_it_was(rt: HostRuntime) -> Result<(), Fail> 
     Ok(())
 }
 
+// Takes all that a heap has left, so that it refuses each growth.
+fn exhausted(alloc: Global, heap: &LocalHeap) -> Result<Vec<Vec<u8, &LocalHeap>>, Fail> {
+    let mut taken = Vec::new(alloc);
+    for _ in 0..4096 {
+        let Ok(block) = Vec::with_capacity(heap, 1) else {
+            break;
+        };
+        taken.push(block)?;
+    }
+    Ok(taken)
+}
+
+// Whether a log that has all of a list answers that it has, by each call and without a change of the heap.
+fn has_them_already<'a>(
+    log: &mut Log<&'a LocalHeap>,
+    heap: &LocalHeap,
+    list: &[Report],
+    other: &Log<&'a LocalHeap>,
+    given: Vec<Report, &'a LocalHeap>,
+) -> bool {
+    let used = heap.used();
+    let each = list.iter().all(|report| log.contains(report));
+    let repeats = repeats_each(log, list);
+    let united = log.union(other) == Ok(0) && log.join_from(other) == Ok(());
+    let given = log.add_all(given) == Ok(0);
+    each && repeats && united && given && heap.used() == used
+}
+
+fn repeats_each<A: Allocator + Copy>(log: &mut Log<A>, list: &[Report]) -> bool {
+    for report in list {
+        if log.add(*report) != Ok(Added::Repeat) {
+            return false;
+        }
+    }
+    true
+}
+
+#[test]
+fn what_is_there_already_takes_no_memory(rt: HostRuntime) -> Result<(), Fail> {
+    let alloc = rt.alloc();
+    let small = LocalHeap::new(alloc, 1 << 17)?;
+    let ample = LocalHeap::new(alloc, 1 << 17)?;
+    let list = rows(alloc, 6)?;
+    let mut other = Log::new(&ample);
+    assert_eq!(rt; other.add_all(Vec::from_slice(&ample, &list)?), Ok(6));
+    let mut log = Log::new(&small);
+    assert_eq!(rt; log.add_all(Vec::from_slice(&small, &list)?), Ok(6));
+    let given = Vec::from_slice(&ample, &list)?;
+    assert!(rt; has_them_already(&mut log, &small, &list, &other, given));
+    let taken = exhausted(alloc, &small)?;
+    let given = Vec::from_slice(&ample, &list)?;
+    assert!(rt; has_them_already(&mut log, &small, &list, &other, given));
+    assert_eq!(rt; log.add(report(4, 0, 40)?), Err(LogFault::Memory));
+    assert!(rt; taken.len() > 0);
+    Ok(())
+}
+
+#[test]
+fn rows_are_put_and_withdrawn_without_memory(rt: HostRuntime) -> Result<(), Fail> {
+    let heap = LocalHeap::new(rt.alloc(), 1 << 13)?;
+    let mut rows = Rows::new(&heap);
+    for i in 0..256u32 {
+        rows.reserve()?;
+        assert!(rt; !rows.contains(&(2 * i)) && rows.len() < 4_194_304);
+        rows.put(2 * i);
+    }
+    rows.reserve()?;
+    let taken = exhausted(rt.alloc(), &heap)?;
+    let used = heap.used();
+    assert!(rt; !rows.contains(&77) && rows.len() < 4_194_304);
+    rows.put(77);
+    assert!(rt; rows.contains(&78));
+    rows.withdraw(&78);
+    assert_eq!(rt; (rows.len(), rows.rank(&80)), (256, 40));
+    assert!(rt; rows.reserve().is_err());
+    assert_eq!(rt; heap.used(), used);
+    assert!(rt; taken.len() > 0);
+    Ok(())
+}
+
 // A container that gets rows from another, and gives them back.
-fn exchanges(alloc: Global) -> Result<(usize, usize, usize), AllocError> {
+fn exchanges(alloc: Global) -> Result<(usize, usize, usize), Fail> {
     let mut odd = Rows::new(alloc);
     let mut all = Rows::new(alloc);
     for i in 0..600u32 {
@@ -642,15 +710,16 @@ fn containers_exchange_rows(rt: HostRuntime) -> Result<(), Fail> {
 
 #[test]
 fn faults_have_numbers_and_texts(rt: HostRuntime) -> Result<(), Fail> {
-    let (full, memory) = (LogFault::Full, LogFault::Memory);
-    assert_eq!(rt; (full.number(), memory.number()), (1, 2));
-    assert_eq!(rt;
-        format!(in rt.alloc(); "{full}")?.as_str(),
-        "the log is full: it has at most 4194304 reports"
-    );
-    assert_eq!(rt;
-        format!(in rt.alloc(); "{memory}")?.as_str(),
-        "no memory for more reports in the log"
-    );
+    for (fault, number, text) in [
+        (
+            LogFault::Full,
+            1,
+            "the log is full: it has at most 4194304 reports",
+        ),
+        (LogFault::Memory, 2, "no memory for more reports in the log"),
+    ] {
+        assert_eq!(rt; fault.number(), number);
+        assert_eq!(rt; format!(in rt.alloc(); "{fault}")?.as_str(), text);
+    }
     Ok(())
 }

@@ -5,8 +5,9 @@ ghost use Rattle.tca_join.specs.Sets.{in_order};
 ghost use Rattle.tca_report.specs.Reports.{report_cmp};
 ghost use Rattle.tca_report.specs.Identities.{identity_cmp};
 ghost use Rattle.tca_log.specs.Arrivals.{Many, after};
-ghost use Rattle.tca_log.specs.Ordered.{put_each, without_each, AreApart};
+ghost use Rattle.tca_log.specs.Rows.Ordered.{put_each, without_each, AreApart};
 ghost use Rattle.tca_log.specs.Faults.{IsUnionRefused, IsRefusedBy};
+ghost use Rattle.tca_log.specs.LogJoin.{log_full};
 ghost use Rattle.tca_log.specs.Logs.{index_cmp, index_rows, IsKept, IsLog};
 
 use crate::ascending::places_ascend;
@@ -14,7 +15,7 @@ use crate::by_identity::ByIdentity;
 use crate::fault::LogFault;
 use crate::index::index_of;
 use crate::log::Log;
-use crate::notes::{Notes, notes_of};
+use crate::additions::{Additions, additions_of};
 use crate::rows::{LIMIT, Rows};
 use std::alloc::{AllocError, Allocator};
 use tca_report::{Identity, Report};
@@ -40,6 +41,13 @@ impl<A: Allocator + Copy> Log<A> {
         let news = other.rows.difference(self.rows.allocator(), &self.rows)?;
         take_in(&mut self.rows, &mut self.index, &mut self.disputed, news)?;
         Ok(new as u32)
+    }
+
+    // Whether the log and another one together have more reports than a log may have. It takes no memory.
+    pub(crate) fn is_over_with(&self, other: &Log<A>) -> bool
+        ensures { result ≡ log_full self.now other.now }
+    {
+        other.rows.count_beyond(&self.rows) > LIMIT - self.rows.len()
     }
 
     /// Adds all reports of a list in any order, where some may stand more than once, and answers how many were
@@ -159,13 +167,13 @@ fn take_in<A: Allocator + Copy>(
         return Ok(());
     }
     let mut kept = index_of(rows, index.take())?;
-    let outcome = take_noted(rows, &mut kept, disputed, news);
+    let outcome = take_with_index(rows, &mut kept, disputed, news);
     *index = Some(kept);
     outcome
 }
 
 // Puts reports that are new into a log's three parts. A log without reports takes them as they are.
-fn take_noted<A: Allocator + Copy>(
+fn take_with_index<A: Allocator + Copy>(
     rows: &mut Rows<Report, A>,
     index: &mut Rows<ByIdentity, A>,
     disputed: &mut Rows<Identity, A>,
@@ -179,14 +187,14 @@ fn take_noted<A: Allocator + Copy>(
     ensures err { OnErr result (rows.new.rows ≡ rows.old.rows) }
     ensures log { IsLog rows.new.rows index.new.rows disputed.new.rows }
 {
-    let notes = notes_of(index, disputed, &news)?;
+    let additions = additions_of(index, disputed, &news)?;
     if rows.len() == 0 {
-        put_notes(index, disputed, notes)?;
+        put_additions(index, disputed, additions)?;
         *rows = news;
         return Ok(());
     }
     rows.put_all(&news)?;
-    if let Err(refused) = put_notes(index, disputed, notes) {
+    if let Err(refused) = put_additions(index, disputed, additions) {
         rows.withdraw_all(&news);
         return Err(refused);
     }
@@ -194,24 +202,24 @@ fn take_noted<A: Allocator + Copy>(
 }
 
 // Puts what is new into both, or into none.
-fn put_notes<A: Allocator + Copy>(
+fn put_additions<A: Allocator + Copy>(
     index: &mut Rows<ByIdentity, A>,
     disputed: &mut Rows<Identity, A>,
-    notes: Notes<A>,
+    additions: Additions<A>,
 ) -> Result<(), AllocError>
-    requires apart { AreApart index_cmp notes.fresh index.old.rows }
-    requires few { length index.old.rows + length notes.fresh ≤ 4194304 }
-    requires apart_disputed { AreApart identity_cmp notes.twice disputed.old.rows }
-    requires few_disputed { length disputed.old.rows + length notes.twice ≤ 4194304 }
-    ensures index { OnOk result (index.new.rows ≡ put_each index_cmp notes.fresh index.old.rows) }
-    ensures disputed { OnOk result (disputed.new.rows ≡ put_each identity_cmp notes.twice disputed.old.rows) }
+    requires apart { AreApart index_cmp additions.fresh index.old.rows }
+    requires few { length index.old.rows + length additions.fresh ≤ 4194304 }
+    requires apart_disputed { AreApart identity_cmp additions.newly_disputed disputed.old.rows }
+    requires few_disputed { length disputed.old.rows + length additions.newly_disputed ≤ 4194304 }
+    ensures index { OnOk result (index.new.rows ≡ put_each index_cmp additions.fresh index.old.rows) }
+    ensures disputed { OnOk result (disputed.new.rows ≡ put_each identity_cmp additions.newly_disputed disputed.old.rows) }
     ensures err { OnErr result (index.new.rows ≡ index.old.rows) }
     ensures err_disputed { OnErr result (disputed.new.rows ≡ disputed.old.rows) }
 {
-    let Notes { fresh, twice } = notes;
-    disputed.put_all(&twice)?;
+    let Additions { fresh, newly_disputed } = additions;
+    disputed.put_all(&newly_disputed)?;
     if let Err(refused) = index.take_all(fresh) {
-        disputed.withdraw_all(&twice);
+        disputed.withdraw_all(&newly_disputed);
         return Err(refused);
     }
     Ok(())

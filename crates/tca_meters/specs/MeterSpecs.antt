@@ -13,11 +13,6 @@ use Rattle.tca_meters.specs.SrTcm.{single_rate}
 use Rattle.tca_meters.specs.TrTcm.{peak_rate}
 use Rattle.tca_meters.specs.Rfc4115.{excess_rate}
 
--- the number of each fault
-abbrev pub spec_number : SpecFault → ℕ
-spec_number Text = 1
-spec_number (Meter fault) = 2
-
 -- one octet more at the front of the first part
 abbrev pub onto_first : ℕ → List (List ℕ) → List (List ℕ)
 onto_first c [] = (c ∷ []) ∷ []

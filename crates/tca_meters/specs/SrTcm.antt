@@ -1,6 +1,6 @@
 -- The meter of RFC 2697: its parameters, and what one token and one packet do.
 use Rattle.std.specs.Prelude.{ℕ, ◌+◌, ◌<◌, ◌≤◌, ◌==◌, Bool, true, ◌&&◌, Result, Ok, Err, if◌then◌else◌}
-use Rattle.tca_buckets.specs.Tokens.{due}
+use Rattle.tca_buckets.specs.Tokens.{due, most_rate}
 use Rattle.tca_buckets.specs.Buckets.{TokenBucket, spill, repeated}
 use Rattle.tca_meters.specs.declared.colour.Colour.{Colour}
 use Rattle.tca_meters.specs.declared.fault.MeterFault.{MeterFault}
@@ -20,9 +20,9 @@ pub record SingleRate : Type 0 where
 
 -- each is in range, and one burst size at least is above 0
 pub record IsSingleRate (m : SingleRate) : Type 0 where
-  pub cir : m.cir ≤ 1000000000000
-  pub cbs : m.cbs ≤ 1000000000000
-  pub ebs : m.ebs ≤ 1000000000000
+  pub cir : m.cir ≤ most_rate
+  pub cbs : m.cbs ≤ most_rate
+  pub ebs : m.ebs ≤ most_rate
   pub burst : 0 < m.cbs + m.ebs
 
 -- a meter of these parameters, or why there is none

@@ -1,6 +1,6 @@
 -- The meter of RFC 2698: its parameters, and what one token and one packet do.
 use Rattle.std.specs.Prelude.{ℕ, ◌<◌, ◌≤◌, ◌==◌, Bool, true, ◌&&◌, ◌||◌, not, nat_lt, Result, Ok, Err, if◌then◌else◌}
-use Rattle.tca_buckets.specs.Tokens.{due}
+use Rattle.tca_buckets.specs.Tokens.{due, most_rate}
 use Rattle.tca_buckets.specs.Buckets.{fits, after_spending}
 use Rattle.tca_meters.specs.declared.colour.Colour.{Colour}
 use Rattle.tca_meters.specs.declared.colour.Colour.TheVariants.{Green, Yellow, Red}
@@ -22,10 +22,10 @@ pub record PeakRate : Type 0 where
 
 -- each is in range, both burst sizes are above 0, and the peak rate is at least the committed rate
 pub record IsPeakRate (m : PeakRate) : Type 0 where
-  pub pir : m.pir ≤ 1000000000000
-  pub pbs : m.pbs ≤ 1000000000000
-  pub cir : m.cir ≤ 1000000000000
-  pub cbs : m.cbs ≤ 1000000000000
+  pub pir : m.pir ≤ most_rate
+  pub pbs : m.pbs ≤ most_rate
+  pub cir : m.cir ≤ most_rate
+  pub cbs : m.cbs ≤ most_rate
   pub peak_burst : 0 < m.pbs
   pub committed_burst : 0 < m.cbs
   pub peak : m.cir ≤ m.pir

@@ -2,7 +2,8 @@
 ghost use Rattle.std.specs.Prelude.{◌≡◌, ◌≢◌, ◌∷◌, [], MatchOption, length};
 ghost use Rattle.std.specs.List.{list_all};
 ghost use Rattle.std.specs.Char.{is_ascii_digit};
-ghost use Rattle.tca_meters.specs.MeterSpecs.{spec_number, parts_of, is_number, number_in, mode_in, fit_in, single_rate_in, peak_rate_in, excess_rate_in, meter_in, spec_in, PartsMakeText, OnlyParts};
+ghost use Rattle.tca_meters.specs.Faults.{spec_number};
+ghost use Rattle.tca_meters.specs.MeterSpecs.{parts_of, is_number, number_in, mode_in, fit_in, single_rate_in, peak_rate_in, excess_rate_in, meter_in, spec_in, PartsMakeText, OnlyParts};
 
 use crate::any_meter::AnyMeter;
 use crate::fault::MeterFault;

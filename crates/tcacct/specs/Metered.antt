@@ -7,7 +7,8 @@ use Rattle.tca_meters.specs.declared.spec.SpecFault.{SpecFault}
 use Rattle.tca_meters.specs.Packets.{colours}
 use Rattle.tca_meters.specs.declared.any_meter.AnyMeter.{AnyMeter}
 use Rattle.tca_meters.specs.AnyMeters.{any_rule}
-use Rattle.tca_meters.specs.MeterSpecs.{spec_in, spec_number}
+use Rattle.tca_meters.specs.Faults.{spec_number}
+use Rattle.tca_meters.specs.MeterSpecs.{spec_in}
 use Rattle.tca_log.specs.Disputes.{undisputed}
 use Rattle.tca_accounts.specs.Sums.{packet_of, sums_of}
 use Rattle.tcacct.specs.declared.fault.RunFault.{RunFault}

@@ -1,7 +1,7 @@
 //! Why a command was refused.
 ghost use Rattle.std.specs.Prelude.{◌≡◌, Some, None};
 ghost use Rattle.tca_log.specs.Faults.{fault_number};
-ghost use Rattle.tca_meters.specs.MeterSpecs.{spec_number};
+ghost use Rattle.tca_meters.specs.Faults.{spec_number};
 ghost use Rattle.tca_accounts.specs.Faults.{plan_number};
 ghost use Rattle.tcacct.specs.Runs.{refusal, input_refusal};
 ghost use Rattle.tcacct.specs.declared.fault.Family.TheVariants as family;

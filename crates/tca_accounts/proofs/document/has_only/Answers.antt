@@ -3,7 +3,7 @@ use Rattle.std.specs.List.{list_all, list_any}
 use Rattle.std.specs.Str.{bytes_eq}
 use Rattle.std.specs.Map.{keys_of}
 use Rattle.tca_accounts.specs.Documents.{key_name}
-use Rattle.tca_accounts.proofs.TableLemmas.{has_only-names, known}
+use Rattle.tca_accounts.proofs.TableKeys.{has_only-names, known}
 use Rattle.tca_accounts.proofs.document.has_only.Goals as goal
 
 pub returns : goal.returns

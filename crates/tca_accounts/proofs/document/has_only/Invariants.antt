@@ -1,6 +1,6 @@
 use Rattle.std.proofs.Common.{◌≡◌}
 use Rattle.std.specs.List.{list_all}
-use Rattle.tca_accounts.proofs.TableLemmas.{known}
+use Rattle.tca_accounts.proofs.TableKeys.{known}
 use Rattle.tca_accounts.proofs.document.has_only.Given as goal
 
 abbrev pub invariant-loop-name : goal.invariant-loop-name

@@ -6,10 +6,10 @@ use Rattle.tca_accounts.proofs.owners.enter.Goals as goal
 
 pub loop-pair-preserved : goal.loop-pair-preserved
 loop-pair-preserved c =
-    let keys = c.args.keys.now in
+    let pairs = c.args.pairs.now in
     let k0 : ℕ × ℕ = (0, 0) in
     let i = c.loop-pair.pair-index in
-    let k : ℕ × ℕ = slice_index_or keys i k0 in
+    let k : ℕ × ℕ = slice_index_or pairs i k0 in
     let f : ℕ × ℕ → (ℕ × ℕ) × ℕ = λ k. (k, c.args.account) in
     let old = c.loop-pair.owners.entries in
     let new = c.insert.new.self.entries in
@@ -17,19 +17,19 @@ loop-pair-preserved c =
     let none : owner_in old k ≡ None = ap (owner_in old) (sym c.new.ensures) ∙ sym c.in_ok-insert.ensures.old ∙ from_none c.in_ok-insert.field-0 gone in
     let gains : (q : ℕ × ℕ) → owner_in new q ≡ cond (is_at (pair_cmp k) q) (Some c.args.account) (owner_in old q) =
     subst (λ (p : ℕ × ℕ). (q : ℕ × ℕ) → owner_in new q ≡ cond (is_at (pair_cmp p) q) (Some c.args.account) (owner_in old q)) c.new.ensures c.in_ok-insert.ensures.updates.0 in
-    let split : drop i keys ≡ k ∷ drop (i + 1) keys = cut keys i k0 c.loop-pair-test.true in
-    goes_on c.args.owners.now.entries (map f keys) old (map f (drop i keys)) new (map f (drop (i + 1) keys)) c.loop-pair.invariant
-    (rw split (step old new k c.args.account (gains_of old k c.args.account new gains) none (map f (drop (i + 1) keys))))
+    let split : drop i pairs ≡ k ∷ drop (i + 1) pairs = cut pairs i k0 c.loop-pair-test.true in
+    goes_on c.args.owners.now.entries (map f pairs) old (map f (drop i pairs)) new (map f (drop (i + 1) pairs)) c.loop-pair.invariant
+    (rw split (step old new k c.args.account (gains_of old k c.args.account new gains) none (map f (drop (i + 1) pairs))))
 
 pub returns-then-is_some-clause-twice : goal.returns-then-is_some-clause-twice
 returns-then-is_some-clause-twice c e more =
-    let keys = c.args.keys.now in
+    let pairs = c.args.pairs.now in
     let k0 : ℕ × ℕ = (0, 0) in
     let i = c.loop-pair.pair-index in
-    let k : ℕ × ℕ = slice_index_or keys i k0 in
+    let k : ℕ × ℕ = slice_index_or pairs i k0 in
     let f : ℕ × ℕ → (ℕ × ℕ) × ℕ = λ k. (k, c.args.account) in
     let old = c.loop-pair.owners.entries in
     let there : is_some (owner_in old k) ≡ true = ap is_some (ap (owner_in old) (sym c.new.ensures) ∙ sym c.in_ok-insert.ensures.old) ∙ sym c.is_some.ensures ∙ c.if-is_some.true in
-    let split : drop i keys ≡ k ∷ drop (i + 1) keys = cut keys i k0 c.loop-pair-test.true in
+    let split : drop i pairs ≡ k ∷ drop (i + 1) pairs = cut pairs i k0 c.loop-pair-test.true in
     let x = from_some (owner_in old k) there in
-    c.loop-pair.invariant.are_new more ∙ rw split (stands old k c.args.account x.0 (map f (drop (i + 1) keys)) more x.1)
+    c.loop-pair.invariant.are_new more ∙ rw split (stands old k c.args.account x.0 (map f (drop (i + 1) pairs)) more x.1)

@@ -16,11 +16,11 @@ loop-n-preserved c =
     let old = c.loop-n.owners.entries in
     let new = c.enter.new.owners.entries in
     let rest = owned (n + 1) (drop (n + 1) accounts) in
-    let keys : c.deref.result.now ≡ a.keys = c.deref.ensures.value ∙ ap (λ (x : PlannedAccount). x.keys) c.account.view_is in
+    let pairs : c.deref.result.now ≡ a.pairs = c.deref.ensures.value ∙ ap (λ (x : PlannedAccount). x.pairs) c.account.view_is in
     let split : drop n accounts ≡ a ∷ drop (n + 1) accounts = cut accounts n a c.loop-n-test.true ∙ ap (λ (x : PlannedAccount). x ∷ drop (n + 1) accounts) (sym c.index-accounts-n.is) in
-    let parts : owned n (drop n accounts) ≡ numbered n a.keys ++ rest = ap (owned n) split in
-    let entered : GoesOn old (numbered n a.keys) new [] = rw (← keys) (c.in_ok-enter.ensures.entered c.if-not-branch.false) in
-    goes_on [] (owned 0 accounts) old (owned n (drop n accounts)) new rest c.loop-n.invariant (rw parts (with_rest old (numbered n a.keys) new rest entered))
+    let parts : owned n (drop n accounts) ≡ numbered n a.pairs ++ rest = ap (owned n) split in
+    let entered : GoesOn old (numbered n a.pairs) new [] = rw (← pairs) (c.in_ok-enter.ensures.entered c.if-not-branch.false) in
+    goes_on [] (owned 0 accounts) old (owned n (drop n accounts)) new rest c.loop-n.invariant (rw parts (with_rest old (numbered n a.pairs) new rest entered))
 
 pub returns-then-not-branch : goal.returns-then-not-branch
 returns-then-not-branch c =
@@ -29,11 +29,11 @@ returns-then-not-branch c =
     let a = c.index-accounts-n.result in
     let old = c.loop-n.owners.entries in
     let rest = owned (n + 1) (drop (n + 1) accounts) in
-    let keys : c.deref.result.now ≡ a.keys = c.deref.ensures.value ∙ ap (λ (x : PlannedAccount). x.keys) c.account.view_is in
+    let pairs : c.deref.result.now ≡ a.pairs = c.deref.ensures.value ∙ ap (λ (x : PlannedAccount). x.pairs) c.account.view_is in
     let split : drop n accounts ≡ a ∷ drop (n + 1) accounts = cut accounts n a c.loop-n-test.true ∙ ap (λ (x : PlannedAccount). x ∷ drop (n + 1) accounts) (sym c.index-accounts-n.is) in
-    let parts : owned n (drop n accounts) ≡ numbered n a.keys ++ rest = ap (owned n) split in
-    let twice : IsTwice old (numbered n a.keys) = rw (← keys) (c.in_ok-enter.ensures.twice c.if-not-branch.true) in
-    not_all accounts old (numbered n a.keys) rest (rw (← parts) c.loop-n.invariant) twice
+    let parts : owned n (drop n accounts) ≡ numbered n a.pairs ++ rest = ap (owned n) split in
+    let twice : IsTwice old (numbered n a.pairs) = rw (← pairs) (c.in_ok-enter.ensures.twice c.if-not-branch.true) in
+    not_all accounts old (numbered n a.pairs) rest (rw (← parts) c.loop-n.invariant) twice
 
 pub returns : goal.returns
 returns c =

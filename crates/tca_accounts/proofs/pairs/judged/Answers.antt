@@ -3,7 +3,7 @@ use Rattle.std.proofs.lemmas.Result.{err_from_is_err_and}
 use Rattle.toml.specs.View.{items_view, table_view}
 use Rattle.tca_accounts.specs.declared.key.Key.TheVariants as key
 use Rattle.tca_accounts.specs.Documents.{items_of}
-use Rattle.tca_accounts.proofs.PairLemmas.{fault_of-each, pairs_in-some}
+use Rattle.tca_accounts.proofs.PairsOfValues.{fault_of-each, pairs_in-some}
 use Rattle.tca_accounts.proofs.pairs.judged.Goals as goal
 
 pub returns-in_err-judge-clause-exact : goal.returns-in_err-judge-clause-exact

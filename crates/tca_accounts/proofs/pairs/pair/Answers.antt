@@ -1,5 +1,5 @@
 use Rattle.toml.specs.View.{view}
-use Rattle.tca_accounts.proofs.PairLemmas.{not_two}
+use Rattle.tca_accounts.proofs.PairsOfValues.{not_two}
 use Rattle.tca_accounts.proofs.pairs.pair.Goals as goal
 
 pub returns-then-values-ne2 : goal.returns-then-values-ne2

@@ -3,7 +3,7 @@ use Rattle.std.proofs.lemmas.List.{length_push}
 use Rattle.toml.specs.View.{items_view, view}
 use Rattle.tca_accounts.specs.Plans.{PlannedAccount}
 use Rattle.tca_accounts.specs.Documents.{◌>>=◌, account_in, accounts_from}
-use Rattle.tca_accounts.proofs.AccountLemmas.{list_step}
+use Rattle.tca_accounts.proofs.AccountsOfValues.{list_step}
 use Rattle.tca_accounts.proofs.reading.accounts.Goals as goal
 
 pub loop-value-preserved : goal.loop-value-preserved

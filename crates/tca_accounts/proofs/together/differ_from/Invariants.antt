@@ -5,8 +5,8 @@ use Rattle.tca_accounts.specs.Readings.{differ_before, differ_from, of_accounts}
 use Rattle.tca_accounts.proofs.together.differ_from.Given as goal
 
 -- what is left decides, unless a pair stood twice
-abbrev pub invariant-loop-key : goal.invariant-loop-key
-invariant-loop-key l = record {
-  place : l.next ≡ l.key-index;
-  decides : differ_from l.first (items_view l.values) (items_view l.keys) ≡ (pairs_of (items_view (drop l.key-index l.keys)) >>= λ pairs. of_accounts (λ others. l.differ && differ_before others pairs) l.first (items_view l.values));
+abbrev pub invariant-loop-value : goal.invariant-loop-value
+invariant-loop-value l = record {
+  place : l.next ≡ l.value-index;
+  decides : differ_from l.first (items_view l.values) (items_view l.pairs) ≡ (pairs_of (items_view (drop l.value-index l.pairs)) >>= λ pairs. of_accounts (λ others. l.differ && differ_before others pairs) l.first (items_view l.values));
 }

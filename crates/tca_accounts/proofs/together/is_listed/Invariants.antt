@@ -6,6 +6,6 @@ use Rattle.tca_accounts.specs.Readings.{of_pairs}
 use Rattle.tca_accounts.proofs.together.is_listed.Given as goal
 
 -- what is left decides, unless the pair was found
-abbrev pub invariant-loop-key : goal.invariant-loop-key
-invariant-loop-key l =
-    of_pairs (list_any (same_pair l.sought)) (items_view l.keys) ≡ of_pairs (λ pairs. l.found || list_any (same_pair l.sought) pairs) (items_view (drop l.key-index l.keys))
+abbrev pub invariant-loop-value : goal.invariant-loop-value
+invariant-loop-value l =
+    of_pairs (list_any (same_pair l.sought)) (items_view l.pairs) ≡ of_pairs (λ pairs. l.found || list_any (same_pair l.sought) pairs) (items_view (drop l.value-index l.pairs))

@@ -1,6 +1,6 @@
 use Rattle.std.proofs.Common.{rules}
 use Rattle.std.proofs.lemmas.List.Sorted.{answers_always}
-use Rattle.tca_join.proofs.Places.{searched}
+use Rattle.tca_join.proofs.Positions.{searched}
 use Rattle.tca_join.proofs.by_key.search.Goals as goal
 
 pub returns : goal.returns

@@ -3,7 +3,7 @@ use Rattle.std.proofs.lemmas.List.{append-nil}
 use Rattle.tca_report.specs.Reports.{PacketReport}
 use Rattle.tca_report.specs.declared.report.Identity.{Identity}
 use Rattle.tca_log.specs.Logs.{count_at}
-use Rattle.tca_log.proofs.Alone.{IsAbove, alone_more, alone_none, last_of, none_disputed}
+use Rattle.tca_log.proofs.AscendingPlaces.{IsAbove, alone_more, alone_none, last_of, none_disputed}
 use Rattle.tca_log.proofs.ascending.places_ascend.Goals as goal
 
 pub loop-report-init : goal.loop-report-init

@@ -1,6 +1,6 @@
 use Rattle.std.proofs.Common.{◌≡◌, List, ◌++◌}
 use Rattle.tca_report.specs.Reports.{PacketReport}
-use Rattle.tca_log.proofs.Alone.{AreAlone}
+use Rattle.tca_log.proofs.AscendingPlaces.{AreAlone}
 use Rattle.tca_log.proofs.ascending.places_ascend.Given as goal
 
 -- the reports that were seen, and then those that are left

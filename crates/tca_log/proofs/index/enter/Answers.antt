@@ -1,7 +1,7 @@
 use Rattle.std.proofs.Common.{sym, ap, ◌∙◌}
 use Rattle.std.specs.Prelude.{is_some}
 use Rattle.tca_log.specs.Logs.{index_cmp, indexed}
-use Rattle.tca_log.proofs.Search.{has_tied}
+use Rattle.tca_log.proofs.OrderedRows.Search.{has_tied}
 use Rattle.tca_log.proofs.Logs.{index_total}
 use Rattle.tca_log.proofs.index.enter.Goals as goal
 

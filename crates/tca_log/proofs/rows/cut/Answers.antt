@@ -3,7 +3,7 @@ use Rattle.std.specs.List.{All}
 use Rattle.std.proofs.lemmas.List.{append-nil}
 use Rattle.std.proofs.lemmas.List.Elements.{All-append}
 use Rattle.std.proofs.lemmas.Grind.{flat_map-append}
-use Rattle.tca_log.specs.Chunks.{joined}
+use Rattle.tca_log.specs.Rows.Chunks.{joined}
 use Rattle.tca_log.proofs.rows.cut.Goals as goal
 
 one : {K : Type 0} (l : List K) → 0 < length l → All (λ c. 0 < length c) (l ∷ [])

@@ -1,5 +1,5 @@
 use Rattle.std.proofs.Common.{◌≡◌, ◌⊎◌, inl, sym}
-use Rattle.tca_join.proofs.Places.{rises_set}
+use Rattle.tca_join.proofs.Positions.{rises_set}
 use Rattle.tca_join.proofs.by_key.ByKey.get_mut.Goals as goal
 
 -- two ways to end are one where they end alike at each value

@@ -1,5 +1,5 @@
 use Rattle.std.proofs.Common.{sym}
-use Rattle.tca_join.proofs.Places.{rises_set, rises_insert}
+use Rattle.tca_join.proofs.Positions.{rises_set, rises_insert}
 use Rattle.tca_join.proofs.by_key.ByKey.set.Goals as goal
 
 pub returns-in-Ok-clause-ok : goal.returns-in-Ok-clause-ok

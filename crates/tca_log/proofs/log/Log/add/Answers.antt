@@ -16,16 +16,16 @@ pub invariant_of-self-2 : goal.invariant_of-self-2
 invariant_of-self-2 g c =
     let rs = c.self.inside.rows.rows in
     let index = c.in_ok-index.index.rows in
-    let doubled = c.self.inside.disputed.rows in
+    let disputed_identities = c.self.inside.disputed.rows in
     let few : length rs < 4194304 = omega arith in
-    let log : IsLog rs index doubled = subst (λ (l : List PacketReport). IsLog l index doubled) c.in_ok-reserve.ensures.rows (c.in_ok-index.ensures doubled (rw (c.in_ok-reserve.ensures.rows, c.take.ensures.value) c.self.invariant)) in
-    rw (c.put.ensures, c.in_ok-reserve.ensures.rows, c.in_ok-answer.ensures.index, c.in_ok-answer.ensures.disputed) (kept (next_log rs index doubled c.args.report log (sym c.contains.ensures ∙ c.if-contains.false) few))
+    let log : IsLog rs index disputed_identities = subst (λ (l : List PacketReport). IsLog l index disputed_identities) c.in_ok-reserve.ensures.rows (c.in_ok-index.ensures disputed_identities (rw (c.in_ok-reserve.ensures.rows, c.take.ensures.value) c.self.invariant)) in
+    rw (c.put.ensures, c.in_ok-reserve.ensures.rows, c.in_ok-answer.ensures.index, c.in_ok-answer.ensures.disputed) (kept (next_log rs index disputed_identities c.args.report log (sym c.contains.ensures ∙ c.if-contains.false) few))
 
 pub returns-clause-answer : goal.returns-clause-answer
 returns-clause-answer g c =
     let rs = c.self.inside.rows.rows in
     let index = c.in_ok-index.index.rows in
-    let doubled = c.self.inside.disputed.rows in
+    let disputed_identities = c.self.inside.disputed.rows in
     let few : length rs < 4194304 = omega arith in
-    let log : IsLog rs index doubled = subst (λ (l : List PacketReport). IsLog l index doubled) c.in_ok-reserve.ensures.rows (c.in_ok-index.ensures doubled (rw (c.in_ok-reserve.ensures.rows, c.take.ensures.value) c.self.invariant)) in
-    rw (← c.self.view_is) (c.in_ok-answer.ensures.answer ∙ next_answer rs index doubled c.args.report log (sym c.contains.ensures ∙ c.if-contains.false) few)
+    let log : IsLog rs index disputed_identities = subst (λ (l : List PacketReport). IsLog l index disputed_identities) c.in_ok-reserve.ensures.rows (c.in_ok-index.ensures disputed_identities (rw (c.in_ok-reserve.ensures.rows, c.take.ensures.value) c.self.invariant)) in
+    rw (← c.self.view_is) (c.in_ok-answer.ensures.answer ∙ next_answer rs index disputed_identities c.args.report log (sym c.contains.ensures ∙ c.if-contains.false) few)

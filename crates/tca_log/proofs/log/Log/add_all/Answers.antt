@@ -5,9 +5,9 @@ use Rattle.tca_join.specs.Sets.{in_order}
 use Rattle.tca_join.proofs.Sets.{rises_in_order}
 use Rattle.tca_report.specs.Reports.{PacketReport, report_cmp}
 use Rattle.tca_report.proofs.Order.{report_total, report_exact}
-use Rattle.tca_log.specs.Ordered.{put_each, without_each}
+use Rattle.tca_log.specs.Rows.Ordered.{put_each, without_each}
 use Rattle.tca_log.specs.Faults.{IsRefusedBy}
-use Rattle.tca_log.proofs.Each.{putting_nothing, beyond_apart, beyond_rises}
+use Rattle.tca_log.proofs.OrderedRows.Each.{putting_nothing, beyond_apart, beyond_rises}
 use Rattle.tca_log.proofs.Uniting.{union_is, union_length}
 use Rattle.tca_log.proofs.Gathering.{union_set}
 use Rattle.tca_log.proofs.log.Log.add_all.Goals as goal

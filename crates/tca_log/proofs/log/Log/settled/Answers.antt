@@ -4,7 +4,7 @@ use Rattle.tca_log.proofs.Undisputed.{settled_are, undisputed_few, undisputed_ri
 use Rattle.tca_log.proofs.log.Log.settled.Goals as goal
 
 pub returns-clause-all : goal.returns-clause-all
-returns-clause-all g c = c.new.ensures ∙ settled_are c.self.inside.rows.rows c.self.inside.disputed.rows c.self.invariant.disputes ∙ ap undisputed c.self.view_is
+returns-clause-all g c = c.new.ensures ∙ settled_are c.self.inside.rows.rows c.self.inside.disputed.rows c.self.invariant.disputed_are ∙ ap undisputed c.self.view_is
 
 pub returns-clause-rises : goal.returns-clause-rises
 returns-clause-rises g c = rw (← c.self.view_is) (undisputed_rises c.self.inside.rows.rows c.self.invariant.rises)

@@ -1,6 +1,6 @@
 use Rattle.std.proofs.Common.{sym, ap, ◌∙◌}
 use Rattle.std.specs.Prelude.{is_some}
-use Rattle.tca_log.proofs.Search.{has_tied, copied_some}
+use Rattle.tca_log.proofs.OrderedRows.Search.{has_tied, copied_some}
 use Rattle.tca_log.proofs.rows.Rows.contains.Goals as goal
 
 pub returns : goal.returns

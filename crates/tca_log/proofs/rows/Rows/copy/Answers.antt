@@ -1,7 +1,7 @@
 use Rattle.std.proofs.Common.{ap, ◌∙◌}
 use Rattle.std.specs.List.Sorted.{IsStrictlySortedBy}
-use Rattle.tca_log.proofs.Each.{apart_none, put_each_none}
-use Rattle.tca_log.specs.Ordered.{put_each}
+use Rattle.tca_log.proofs.OrderedRows.Each.{apart_none, put_each_none}
+use Rattle.tca_log.specs.Rows.Ordered.{put_each}
 use Rattle.tca_log.proofs.rows.Rows.copy.Goals as goal
 
 pub put_all-requires-clause-apart : goal.put_all-requires-clause-apart

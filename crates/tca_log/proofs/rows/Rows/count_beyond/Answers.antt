@@ -1,6 +1,6 @@
 use Rattle.std.proofs.Common.{length, sym, ap, ◌∙◌, arith}
-use Rattle.tca_log.specs.Ordered.{without_each}
-use Rattle.tca_log.proofs.Each.{beyond_held, beyond_new, beyond_none, beyond_shorter}
+use Rattle.tca_log.specs.Rows.Ordered.{without_each}
+use Rattle.tca_log.proofs.OrderedRows.Each.{beyond_held, beyond_new, beyond_none, beyond_shorter}
 use Rattle.tca_log.proofs.rows.Rows.count_beyond.Goals as goal
 
 pub overflow_sub-count : goal.overflow_sub-count

@@ -1,5 +1,5 @@
 use Rattle.std.proofs.Common.{◌≡◌, ◌+◌, length}
-use Rattle.tca_log.specs.Ordered.{without_each}
+use Rattle.tca_log.specs.Rows.Ordered.{without_each}
 use Rattle.tca_log.proofs.rows.Rows.count_beyond.Given as goal
 
 abbrev pub invariant-loop-key : goal.invariant-loop-key

@@ -1,7 +1,7 @@
 use Rattle.std.proofs.Common.{◌≡◌, ◌≤◌, [], length, subst, sym, ap, ◌∙◌, arith}
 use Rattle.std.specs.List.Sorted.{IsStrictlySortedBy}
-use Rattle.tca_log.specs.Ordered.{without_each}
-use Rattle.tca_log.proofs.Each.{ArePutting, putting_none, putting_new, putting_more, putting_all, beyond_held, beyond_new, beyond_none, beyond_rises, beyond_shorter, apart_none, put_each_none}
+use Rattle.tca_log.specs.Rows.Ordered.{without_each}
+use Rattle.tca_log.proofs.OrderedRows.Each.{ArePutting, putting_none, putting_new, putting_more, putting_all, beyond_held, beyond_new, beyond_none, beyond_rises, beyond_shorter, apart_none, put_each_none}
 use Rattle.tca_log.proofs.rows.Rows.difference.Goals as goal
 
 pub loop-key-init : goal.loop-key-init

@@ -1,6 +1,6 @@
 use Rattle.std.proofs.Common.{[]}
-use Rattle.tca_log.specs.Ordered.{without_each}
-use Rattle.tca_log.proofs.Each.{ArePutting}
+use Rattle.tca_log.specs.Rows.Ordered.{without_each}
+use Rattle.tca_log.proofs.OrderedRows.Each.{ArePutting}
 use Rattle.tca_log.proofs.rows.Rows.difference.Given as goal
 
 abbrev pub invariant-loop-key : goal.invariant-loop-key

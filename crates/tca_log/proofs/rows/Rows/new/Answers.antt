@@ -1,5 +1,5 @@
 use Rattle.std.proofs.Common.{arith}
-use Rattle.tca_log.proofs.Whole.{no_chunks}
+use Rattle.tca_log.proofs.OrderedRows.Whole.{no_chunks}
 use Rattle.tca_log.proofs.rows.Rows.new.Goals as goal
 
 pub invariant_of-result : goal.invariant_of-result

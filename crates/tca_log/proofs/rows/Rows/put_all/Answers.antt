@@ -1,5 +1,5 @@
 use Rattle.std.proofs.Common.{◌≡◌, subst, arith}
-use Rattle.tca_log.proofs.Each.{ArePutting, putting_none, putting_more, putting_all, putting_nothing}
+use Rattle.tca_log.proofs.OrderedRows.Each.{ArePutting, putting_none, putting_more, putting_all, putting_nothing}
 use Rattle.tca_log.proofs.rows.Rows.put_all.Goals as goal
 
 pub returns-then-len-eq0-clause-ok : goal.returns-then-len-eq0-clause-ok

@@ -1,4 +1,4 @@
-use Rattle.tca_log.proofs.Each.{ArePutting}
+use Rattle.tca_log.proofs.OrderedRows.Each.{ArePutting}
 use Rattle.tca_log.proofs.rows.Rows.put_all.Given as goal
 
 abbrev pub invariant-loop-key : goal.invariant-loop-key

@@ -1,27 +1,27 @@
 use Rattle.std.proofs.Common.{◌+◌, ◌≤◌, List, length, take, sym, ap, ◌∙◌, arith}
-use Rattle.tca_log.specs.Chunks.{joined, IsPlace}
-use Rattle.tca_log.specs.Ordered.{rank}
-use Rattle.tca_log.proofs.Ranks.{rank_place, rank_none, front-le}
-use Rattle.tca_log.proofs.Whole.{rises_here, here}
+use Rattle.tca_log.specs.Rows.Chunks.{joined, IsPosition}
+use Rattle.tca_log.specs.Rows.Ordered.{rank}
+use Rattle.tca_log.proofs.OrderedRows.Ranks.{rank_place, rank_none, front-le}
+use Rattle.tca_log.proofs.OrderedRows.Whole.{rises_here, here}
 use Rattle.tca_log.proofs.rows.Rows.rank.Goals as goal
 
 pub returns-then-len-eq0 : goal.returns-then-len-eq0
 returns-then-len-eq0 g c = rw (← c.self.view_is) (rank_none g.K.Ord.cmp g.met.K.Ord.total c.self.inside.chunks.items c.args.key.now (omega (arith, c.len.ensures)))
 
 pub count_of-requires : goal.count_of-requires
-count_of-requires g c = rw c.deref-2.ensures.value (omega (arith, front-le g.K.Ord.cmp g.met.K.Ord.total c.self.inside.chunks.items c.place-at.result (rw c.deref.ensures.value at c.place-at.ensures).inside, c.self.invariant.limit))
+count_of-requires g c = rw c.deref-2.ensures.value (omega (arith, front-le g.K.Ord.cmp g.met.K.Ord.total c.self.inside.chunks.items c.position-at.result (rw c.deref.ensures.value at c.position-at.ensures).inside, c.self.invariant.limit))
 
 pub rank-requires : goal.rank-requires
 rank-requires g c =
-    rises_here g.K.Ord.cmp g.met.K.Ord.total c.args.key.now c.self.inside.chunks.items c.place-at.result c.index.result.now c.self.invariant.chunks (rw c.deref.ensures.value at c.place-at.ensures) c.index.ensures
+    rises_here g.K.Ord.cmp g.met.K.Ord.total c.args.key.now c.self.inside.chunks.items c.position-at.result c.index.result.now c.self.invariant.chunks (rw c.deref.ensures.value at c.position-at.ensures) c.index.ensures
 
 pub overflow_add-result : goal.overflow_add-result
 overflow_add-result g c =
-    let few : length (joined (take c.place-at.result c.deref-2.result.now)) ≤ 4194304 = rw c.deref-2.ensures.value (omega (arith, front-le g.K.Ord.cmp g.met.K.Ord.total c.self.inside.chunks.items c.place-at.result (rw c.deref.ensures.value at c.place-at.ensures).inside, c.self.invariant.limit)) in
+    let few : length (joined (take c.position-at.result c.deref-2.result.now)) ≤ 4194304 = rw c.deref-2.ensures.value (omega (arith, front-le g.K.Ord.cmp g.met.K.Ord.total c.self.inside.chunks.items c.position-at.result (rw c.deref.ensures.value at c.position-at.ensures).inside, c.self.invariant.limit)) in
     omega (arith, c.count_of.ensures, c.rank.ensures.limit, few)
 
 pub returns : goal.returns
 returns g c =
-    let place : IsPlace g.K.Ord.cmp c.self.inside.chunks.items c.args.key.now c.place-at.result = rw c.deref.ensures.value at c.place-at.ensures in
-    let same = here g.K.Ord.cmp g.met.K.Ord.total c.self.inside.chunks.items c.place-at.result c.index.result.now place.inside c.index.ensures in
-    rw (← c.self.view_is, c.rank.ensures.rank, c.count_of.ensures, c.deref-2.ensures.value) (ap (λ (x : List _). length (joined (take c.place-at.result c.self.inside.chunks.items)) + rank g.K.Ord.cmp c.args.key.now x) (sym same) ∙ sym (rank_place g.K.Ord.cmp g.met.K.Ord.total c.args.key.now c.self.inside.chunks.items c.place-at.result c.self.invariant.chunks place))
+    let position : IsPosition g.K.Ord.cmp c.self.inside.chunks.items c.args.key.now c.position-at.result = rw c.deref.ensures.value at c.position-at.ensures in
+    let same = here g.K.Ord.cmp g.met.K.Ord.total c.self.inside.chunks.items c.position-at.result c.index.result.now position.inside c.index.ensures in
+    rw (← c.self.view_is, c.rank.ensures.rank, c.count_of.ensures, c.deref-2.ensures.value) (ap (λ (x : List _). length (joined (take c.position-at.result c.self.inside.chunks.items)) + rank g.K.Ord.cmp c.args.key.now x) (sym same) ∙ sym (rank_place g.K.Ord.cmp g.met.K.Ord.total c.args.key.now c.self.inside.chunks.items c.position-at.result c.self.invariant.chunks position))

@@ -1,7 +1,7 @@
 use Rattle.std.proofs.Common.{sym, ap, ◌∙◌, arith}
 use Rattle.std.proofs.lemmas.List.{nil_from_length}
-use Rattle.tca_log.specs.Ordered.{put_each}
-use Rattle.tca_log.proofs.Each.{put_each_none}
+use Rattle.tca_log.specs.Rows.Ordered.{put_each}
+use Rattle.tca_log.proofs.OrderedRows.Each.{put_each_none}
 use Rattle.tca_log.proofs.rows.Rows.take_all.Goals as goal
 
 pub returns-then-len-gt0-clause-ok : goal.returns-then-len-gt0-clause-ok

@@ -1,6 +1,6 @@
 use Rattle.std.proofs.Common.{sym, ap, ◌∙◌}
-use Rattle.tca_log.specs.Ordered.{without_each}
-use Rattle.tca_log.proofs.Each.{without_each_after, without_each_past, without_none}
+use Rattle.tca_log.specs.Rows.Ordered.{without_each}
+use Rattle.tca_log.proofs.OrderedRows.Each.{without_each_after, without_each_past, without_none}
 use Rattle.tca_log.proofs.rows.Rows.withdraw_all.Goals as goal
 
 pub loop-key-preserved-then-contains : goal.loop-key-preserved-then-contains

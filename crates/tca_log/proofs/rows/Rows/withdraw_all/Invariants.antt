@@ -1,5 +1,5 @@
 use Rattle.std.proofs.Common.{◌≡◌}
-use Rattle.tca_log.specs.Ordered.{without_each}
+use Rattle.tca_log.specs.Rows.Ordered.{without_each}
 use Rattle.tca_log.proofs.rows.Rows.withdraw_all.Given as goal
 
 -- what is left to take away takes the rest

@@ -1,6 +1,0 @@
-use Rattle.std.proofs.Common.{◌≡◌, ◌+◌, length, drop}
-use Rattle.tca_log.specs.Chunks.{joined}
-use Rattle.tca_log.proofs.locate.count_of.Given as goal
-
-abbrev pub invariant-loop-chunk : goal.invariant-loop-chunk
-invariant-loop-chunk g l = l.count + length (joined (drop l.chunk-index l.chunks)) ≡ length (joined l.chunks)

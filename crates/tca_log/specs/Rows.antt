@@ -1,0 +1,3 @@
+-- A container of rows in order. It knows nothing of reports.
+pub mod Chunks
+pub mod Ordered

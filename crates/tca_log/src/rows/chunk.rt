@@ -1,0 +1,194 @@
+//! A run of a container's rows that lie side by side in memory.
+ghost use Rattle.std.specs.Prelude.{◌≡◌, ℕ, true, false, ◌+◌, ◌-◌, ◌<◌, ◌≤◌, [], ◌∷◌, ◌++◌, length, IfOk, IfErr, OnOk, OnErr, IsTrue, take, drop, Some, None, MatchResult, get_or, option_copied};
+ghost use Rattle.std.specs.List.{insert, remove};
+ghost use Rattle.std.specs.List.Sorted.{IsStrictlySortedBy, IsSearchInRange};
+ghost use Rattle.tca_join.specs.Sets.{put};
+ghost use Rattle.tca_log.specs.Rows.Chunks.{starts_after};
+ghost use Rattle.tca_log.specs.Rows.Ordered.{without, rank, tied};
+
+use std::alloc::{AllocError, Allocator};
+use std::marker::Model;
+
+/// How many rows a chunk has room for.
+pub const CHUNK: usize = 256;
+
+/// Some rows in order, with room for 256.
+#[derive(Drop)]
+pub struct Chunk<K: Ord + Copy, A: Allocator> {
+    rows: Vec<K, A>,
+}
+
+impl<K: Ord + Copy, A: Allocator> Model for Chunk<K, A> {
+    ghost use Rattle.std.specs.Prelude.{List, ◌≤◌, vec_len, vec_capacity};
+
+    ghost Value = { List K };
+
+    ghost view = { λ c. c.rows.items };
+
+    ghost invariant = { λ c. (vec_len c.rows ≤ 256) × (256 ≤ vec_capacity c.rows) };
+}
+
+impl<K: Ord + Copy, A: Allocator> Chunk<K, A> {
+    /// A chunk without rows, with room for all that it may have.
+    pub(crate) fn new(alloc: A) -> Result<Chunk<K, A>, AllocError>
+        ensures { IfOk result (λ c. c ≡ []) }
+    {
+        Ok(Chunk {
+            rows: Vec::with_capacity(alloc, CHUNK)?,
+        })
+    }
+
+    /// A chunk of these rows.
+    pub(crate) fn of(alloc: A, rows: &[K]) -> Result<Chunk<K, A>, AllocError>
+        requires { length rows.now ≤ 256 }
+        ensures { IfOk result (λ c. c ≡ rows.now) }
+    {
+        let mut chunk = Vec::with_capacity(alloc, CHUNK)?;
+        chunk.extend_from_slice(rows)?;
+        Ok(Chunk { rows: chunk })
+    }
+
+    /// How many rows there are.
+    pub(crate) fn len(&self) -> usize
+        ensures length { result ≡ length self.now }
+        ensures limit { length self.now ≤ 256 }
+    {
+        self.rows.len()
+    }
+
+    /// The rows in order.
+    pub(crate) fn rows(&self) -> &[K]
+        ensures { result.now ≡ self.now }
+    {
+        &self.rows
+    }
+
+    /// Whether its first row comes after this one.
+    pub(crate) fn starts_after(&self, key: &K) -> bool
+        ensures { result ≡ starts_after K.cmp key.now self.now }
+    {
+        match self.rows.first() {
+            Some(first) => key.cmp(first).is_lt(),
+            None => false,
+        }
+    }
+
+    // Where the row is, or where it would go.
+    fn search(&self, key: &K) -> Result<usize, usize>
+        requires { IsStrictlySortedBy K.cmp self.now }
+        ensures bound { IsSearchInRange result (length self.now) }
+        ensures tie { IfOk result (λ at. tied K.cmp key.now self.now ≡ Some (get_or self.now at key.now)) }
+        ensures there { OnOk result (put K.cmp key.now self.now ≡ self.now) }
+        ensures gone { IfOk result (λ at. without K.cmp key.now self.now ≡ remove self.now at) }
+        ensures none { OnErr result (tied K.cmp key.now self.now ≡ None) }
+        ensures gap { IfErr result (λ at. put K.cmp key.now self.now ≡ insert self.now at key.now) }
+        ensures same { OnErr result (without K.cmp key.now self.now ≡ self.now) }
+        ensures rank { MatchResult result (λ at. at ≡ rank K.cmp key.now self.now) (λ at. at ≡ rank K.cmp key.now self.now) }
+    {
+        self.rows.binary_search(key)
+    }
+
+    /// How many rows come before this one.
+    pub(crate) fn rank(&self, key: &K) -> usize
+        requires { IsStrictlySortedBy K.cmp self.now }
+        ensures rank { result ≡ rank K.cmp key.now self.now }
+        ensures limit { result ≤ 256 }
+    {
+        let _size = self.len();
+        match self.search(key) {
+            Ok(at) => at,
+            Err(at) => at,
+        }
+    }
+
+    /// The row that ties with this one in the order, if there is one.
+    pub(crate) fn get(&self, key: &K) -> Option<&K>
+        requires { IsStrictlySortedBy K.cmp self.now }
+        ensures { option_copied result ≡ tied K.cmp key.now self.now }
+    {
+        if self.ends_before(key) {
+            return None;
+        }
+        match self.search(key) {
+            Ok(at) => Some(&self.rows[at]),
+            Err(_) => None,
+        }
+    }
+
+    /// Puts a row in its place, unless one that ties with it is there.
+    pub(crate) fn put(&mut self, key: K)
+        requires rises { IsStrictlySortedBy K.cmp self.old }
+        requires room { length self.old < 256 }
+        ensures { self.new ≡ put K.cmp key self.old }
+    {
+        if self.ends_before(&key) {
+            self.push(key);
+        } else if let Err(at) = self.search(&key) {
+            let _ = self.rows.insert(at, key);
+        }
+    }
+
+    /// Takes away the row that ties with this one, if there is one.
+    pub(crate) fn withdraw(&mut self, key: &K)
+        requires rises { IsStrictlySortedBy K.cmp self.old }
+        ensures { self.new ≡ without K.cmp key.now self.old }
+    {
+        if let Ok(at) = self.search(key) {
+            let _ = self.rows.remove(at);
+        }
+    }
+
+    /// Adds a row at the end.
+    pub(crate) fn push(&mut self, key: K)
+        requires { length self.old < 256 }
+        ensures { self.new ≡ self.old ++ key ∷ [] }
+    {
+        let _ = self.rows.push(key);
+    }
+
+    // Whether all its rows come before this one.
+    fn ends_before(&self, key: &K) -> bool
+        requires { IsStrictlySortedBy K.cmp self.now }
+        ensures put { IsTrue result → put K.cmp key.now self.now ≡ self.now ++ key.now ∷ [] }
+        ensures none { IsTrue result → tied K.cmp key.now self.now ≡ None }
+    {
+        match self.rows.last() {
+            Some(last) => last.cmp(key).is_lt(),
+            None => true,
+        }
+    }
+
+    /// Puts a row in its place in a full chunk. Its upper half moves over, but at the end of the last chunk
+    /// the new row alone, so that a rising run fills its chunks.
+    pub(crate) fn put_splitting(&mut self, upper: &mut Chunk<K, A>, key: K, is_last: bool)
+        requires rises { IsStrictlySortedBy K.cmp self.old }
+        requires empty { upper.old ≡ [] }
+        requires full { length self.old ≡ 256 }
+        ensures all { put K.cmp key self.old ≡ self.new ++ upper.new }
+        ensures some { 0 < length self.new }
+        ensures more { 0 < length upper.new }
+    {
+        if is_last && self.ends_before(&key) {
+            upper.push(key);
+            return;
+        }
+        self.split(upper);
+        if upper.starts_after(&key) {
+            self.put(key);
+        } else {
+            upper.put(key);
+        }
+    }
+
+    /// Moves the upper half of the rows to a chunk that has none.
+    pub(crate) fn split(&mut self, upper: &mut Chunk<K, A>)
+        requires { upper.old ≡ [] }
+        ensures all { self.new ++ upper.new ≡ self.old }
+        ensures lower { length self.old ≡ 256 → length self.new ≡ 128 }
+        ensures upper { length self.old ≡ 256 → length upper.new ≡ 128 }
+    {
+        let half = self.rows.len() / 2;
+        let _ = upper.rows.extend_from_slice(&self.rows[half..]);
+        self.rows.truncate(half);
+    }
+}
