@@ -48,6 +48,7 @@ pub record IsBillCutOff (plan : List ℕ) (inputs : List (List ℕ)) (old_export
   pub named : IsPlanOf plan under
   pub reports : List PacketReport
   pub union : IsUnion inputs reports
+  pub taken : united inputs ≡ Ok reports
   pub part :
       (IsCutOffIfGiven (export reports) old_export new_export × (new ≡ old))
       ⊎ (ReceivesIfGiven (export reports) old_export new_export × IsCutOff (statement_under under reports) old new)

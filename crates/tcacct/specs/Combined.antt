@@ -1,11 +1,11 @@
 -- What the command `combine` writes and prints, and what it is refused for.
-use Rattle.std.specs.Prelude.{◌≡◌, ◌⊎◌, ℕ, true, false, List, length}
+use Rattle.std.specs.Prelude.{◌≡◌, ◌⊎◌, ℕ, true, false, List, length, Ok}
 use Rattle.tca_report.specs.Reports.{PacketReport}
 use Rattle.tca_report.specs.Export.{export}
 use Rattle.tcacct.specs.Devices.{Device, IsCutOff, Receives}
 use Rattle.tcacct.specs.Texts.{combine_text}
 use Rattle.tcacct.specs.declared.fault.RunFault.{RunFault}
-use Rattle.tcacct.specs.Runs.{IsUnion, IsUnitingRefused, is_write, write_refusal}
+use Rattle.tcacct.specs.Runs.{IsUnion, IsUnitingRefused, is_write, united, write_refusal}
 
 -- Each input is a log export or a capture; the export of the union of them all was written, and a line with the number of its
 -- reports.
@@ -21,6 +21,7 @@ pub record IsCombineCutOff (inputs : List (List ℕ)) (old_export new_export old
   pub fault : e ≡ write_refusal
   pub reports : List PacketReport
   pub union : IsUnion inputs reports
+  pub taken : united inputs ≡ Ok reports
   pub part :
       (IsCutOff (export reports) old_export new_export × (new ≡ old))
       ⊎ (Receives (export reports) old_export new_export × IsCutOff (combine_text (length reports)) old new)

@@ -1,4 +1,4 @@
--- What a run of the program tells on standard error, and its exit status.
+-- What a run of the program writes to standard error, and its exit status.
 use Rattle.std.specs.Prelude.{ℕ, List, [], ◌++◌, Option, Some, None, codes, slice_get, string_bytes, unwrap_or}
 use Rattle.clap.specs.Words.{Text}
 use Rattle.tcacct.specs.declared.ending.Ending.{Ending}
@@ -31,7 +31,7 @@ word_of order e = word_at order e.family e.input
 abbrev pub fault_line : Text → RunFault → List ℕ
 fault_line word e = codes "tcacct: " ++ (word ++ (codes ": " ++ (fault_text e ++ codes "\n")))
 
--- what a run tells on standard error
+-- what a run writes to standard error
 abbrev pub error_text : Ending → List ℕ
 error_text ending.Done = []
 error_text (ending.Refused word e) = fault_line word.now e

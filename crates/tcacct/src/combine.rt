@@ -1,11 +1,11 @@
 //! The command `combine`.
-ghost use Rattle.std.specs.Prelude.{◌≡◌, ◌<◌, ◌≤◌, ◌^◌, OnOk, IfOk, IfErr, length, string_bytes};
+ghost use Rattle.std.specs.Prelude.{◌≡◌, ◌<◌, ◌≤◌, ◌^◌, Ok, OnOk, IfOk, IfErr, length, string_bytes};
 ghost use Rattle.std.specs.List.Sorted.{IsStrictlySortedBy};
 ghost use Rattle.tca_report.specs.Reports.{report_cmp};
 ghost use Rattle.tcacct.specs.Combined.{IsCombineDone, IsCombineRefused};
 ghost use Rattle.tcacct.specs.Devices.{device};
 ghost use Rattle.tcacct.specs.Texts.{combine_text};
-ghost use Rattle.tcacct.specs.Runs.{IsUnion, IsUnitingRefused, octets_of};
+ghost use Rattle.tcacct.specs.Runs.{IsUnion, IsUnitingRefused, octets_of, united};
 
 use crate::fault::RunFault;
 use crate::inputs::unite;
@@ -31,6 +31,7 @@ pub(crate) fn listed(alloc: Global, log: &Log) -> Result<Vec<Report>, AllocError
 fn made(alloc: Global, inputs: &[Vec<u8>]) -> Result<(Vec<Report>, String), RunFault>
     requires { length inputs.now < 2 ^ 32 }
     ensures union { IfOk result (λ x. IsUnion (octets_of inputs.now) x.0.items) }
+    ensures taken { IfOk result (λ x. united (octets_of inputs.now) ≡ Ok x.0.items) }
     ensures line { IfOk result (λ x. string_bytes x.1 ≡ combine_text (length x.0.items)) }
     ensures rises { IfOk result (λ x. IsStrictlySortedBy report_cmp x.0.items) }
     ensures limit { IfOk result (λ x. length x.0.items ≤ 4194304) }

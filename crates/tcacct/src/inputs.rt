@@ -22,7 +22,7 @@ fn add_input(alloc: Global, n: u32, octets: &[u8], log: &mut Log) -> Result<Note
     ensures noted { IfOk result (λ notes. IsNoted octets.now notes) }
     ensures named { IfErr result (λ e. e.input ≡ Some n) }
     ensures no_write { IfErr result (λ e. is_write e ≡ false) }
-    // Want of memory is no answer to a fault of an export, and comes behind a full log.
+    // Want of memory comes behind a fault of an export, and behind a log that is full.
     ensures log_memory { IfErr result (λ e. is_log_memory e ≡ true → IsOk (with_input n log.old (input_of octets.now))) }
     ensures memory_last { IfErr result (λ e. is_memory e ≡ true → IsSoundExport octets.now) }
 {

@@ -225,7 +225,7 @@ const NOTED: &str =
     "0|tcacct statement 1\nperiod 3600000\nreports 7\ndisputed 0\nunassigned 7\naccount gamma\ntotal 0 0 0 0 0 0\nend\n|tcacct: skipped: notes 0 1 1\ntcacct: unknown: notes 0 1 0\ntcacct: skipped: notes 0 1 1\n";
 
 #[test]
-fn keeps_the_status_where_nothing_can_be_told(rt: HostRuntime) -> Result<(), Fail> {
+fn keeps_the_status_where_writes_fail(rt: HostRuntime) -> Result<(), Fail> {
     enter(&rt, "full")?;
     let lines: [(&[&str], u8); 4] = [
         (&["tcacct", "bill", "plan", "skipped"], 0),
@@ -261,6 +261,7 @@ fn ends_by_the_command_line(rt: HostRuntime) -> Result<(), Fail> {
 }
 
 // A command line of one octet, which is no text.
+#[derive(Clone, Copy)]
 struct NotText;
 
 impl Env for NotText {
