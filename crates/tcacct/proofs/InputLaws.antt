@@ -1,13 +1,16 @@
--- What an input says, as it is added to a set.
+-- What an input holds, as it is added to a set.
 use Rattle.std.proofs.Common.{◌≡◌, ◌≢◌, ◌∙◌, ℕ, true, false, List, Result, Ok, Err, refl, sym, ap}
 use Rattle.tca_report.specs.Reports.{PacketReport}
-use Rattle.tca_report.specs.Inputs.{Heard}
+use Rattle.std.specs.Prelude.{IsOk, IsOkAnd, Bool, if◌then◌else◌, ◌<◌, length}
+use Rattle.tca_report.specs.ExportReading.{reading}
+use Rattle.tca_report.specs.Inputs.{Heard, capture_of, exported, input_of, is_export}
+use Rattle.tca_report.specs.declared.export.ExportFault.{ExportFault}
 use Rattle.tca_report.specs.Gathering.{notes_of, said, told}
 use Rattle.tca_report.specs.declared.inputs.Notes.{Notes}
 use Rattle.tca_report.specs.declared.inputs.InputFault.{InputFault}
-use Rattle.tca_report.specs.declared.inputs.InputFault.TheVariants.{Memory}
+use Rattle.tca_report.specs.declared.inputs.InputFault.TheVariants.{Export, Wire, Decode, Memory}
 use Rattle.tcacct.specs.declared.fault.RunFault.{RunFault}
-use Rattle.tcacct.specs.Runs.{IsRefusedAs, input_refusal, wants_memory, with_input}
+use Rattle.tcacct.specs.Runs.{IsRefusedAs, IsSoundExport, input_refusal, is_memory, wants_memory, with_input}
 
 -- what was heard where reports and notes were given
 pub said_ok : (r : Result Heard InputFault) (x : List PacketReport × Notes) → said r ≡ Ok x → (h : Heard) × (r ≡ Ok h) × (x.0 ≡ h.reports) × (x.1 ≡ notes_of h)
@@ -28,3 +31,30 @@ refused_as n held r fault e is given = λ none.
     let short : true ≡ false = sym (ap (λ (x : RunFault). wants_memory x) (is ∙ ap (input_refusal n) m)) ∙ none in
     absurd cc in
     ap (with_input n held) (said_err r fault (given other)) ∙ ap (λ (x : RunFault). Err x) (sym is)
+
+-- only want of memory is refused as such
+memory_alone : (n : ℕ) (fault : InputFault) → is_memory (input_refusal n fault) ≡ true → fault ≡ Memory
+memory_alone n (Export fault) e = absurd cc
+memory_alone n (Wire at fault) e = absurd cc
+memory_alone n (Decode at fault) e = absurd cc
+memory_alone n Memory e = refl
+
+still_ok : {A E : Type 0} (P : A → Type 0) (r : Result A E) → IsOkAnd r P → IsOk r
+still_ok P (Ok a) h = refl
+still_ok P (Err e) h = absurd h
+
+-- want of memory of an input is that of gathering it, which comes last
+pub memory_of_gather : (n : ℕ) (input : List ℕ) (fault : InputFault) (e : RunFault) → e ≡ input_refusal n fault
+    → (fault ≡ Memory → is_export input ≡ true → IsOkAnd (reading input) (λ rs. 0 < length rs)) → is_memory e ≡ true → IsSoundExport input
+memory_of_gather n input fault e is last short whole =
+    still_ok _ (reading input) (last (memory_alone n fault (sym (ap is_memory is) ∙ short)) whole)
+
+no_fault : (r : Result (List PacketReport) ExportFault) (h : Heard) → exported r ≡ Ok h → IsOk r
+no_fault (Ok rs) h e = refl
+no_fault (Err fault) h e = absurd cc
+
+-- nothing is wrong with an input that was read
+pub sound_if_read : (input : List ℕ) (h : Heard) → input_of input ≡ Ok h → IsSoundExport input
+sound_if_read input h read whole =
+    let chosen : input_of input ≡ exported (reading input) = ap (λ (b : Bool). if b then exported (reading input) else capture_of input) whole in
+    no_fault (reading input) h (sym chosen ∙ read)

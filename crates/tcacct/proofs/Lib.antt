@@ -1,9 +1,8 @@
 pub mod LineLemmas
 pub mod LineExamples
 pub mod Metering
-pub mod Gathering
-pub mod GatheredLaws
-pub mod MeterLemmas
+pub mod Uniting
+pub mod UnionLaws
 pub mod InputLaws
 pub mod NotedLaws
 pub mod BillLemmas

@@ -1,10 +1,6 @@
 -- What the command `bill` writes, and what it is refused for.
-use Rattle.std.proofs.Common.{inl, inr}
-use Rattle.std.specs.Prelude.{◌≡◌, ◌≢◌, ◌⊎◌, ℕ, List, [], Option, Some, None, Ok, Err, IsUtf8, false, option_map}
-use Rattle.std.specs.Borrow.{MutBor}
-use Rattle.std.specs.Io.KnownBytes.{Appends}
+use Rattle.std.specs.Prelude.{◌≡◌, ◌≢◌, ◌⊎◌, ℕ, true, false, List, Option, None, Ok, Err, IsUtf8}
 use Rattle.toml.specs.Parse.{parse_document}
-use Rattle.tca_report.specs.Devices.{Rises}
 use Rattle.tca_report.specs.Reports.{PacketReport}
 use Rattle.tca_report.specs.Export.{export}
 use Rattle.tca_report.specs.declared.inputs.Notes.{Notes}
@@ -17,7 +13,8 @@ use Rattle.tca_accounts.specs.declared.fault.PlanFault.TheVariants.{Syntax, Memo
 use Rattle.tca_statements.specs.Statements.{statement_text}
 use Rattle.tcacct.specs.declared.fault.RunFault.{RunFault}
 use Rattle.tcacct.specs.declared.fault.Family.TheVariants as family
-use Rattle.tcacct.specs.Runs.{IsCutOff, IsUnion, gathered, refusal, wants_memory}
+use Rattle.tcacct.specs.Devices.{Device, IsCutOff, IsCutOffIfGiven, Receives, ReceivesIfGiven}
+use Rattle.tcacct.specs.Runs.{IsInTurn, IsUnion, is_family, is_write, refusal, united, wants_memory, write_refusal}
 use Rattle.tcacct.specs.Noted.{AreNotes}
 
 -- a text is this plan
@@ -32,61 +29,47 @@ RefusesPlan text f = f ≢ Memory → (IsUtf8 text → plan_in (parse_document t
 abbrev pub statement_under : AccountPlan → List PacketReport → List ℕ
 statement_under p rs = statement_text p (bill_of p rs)
 
--- what is known of a device that may be given, as it comes in
-abbrev pub before : {V X : Type 0} → (V → X) → Option (MutBor V) → Option X
-before known device = option_map (λ d. known d.now) device
-
--- and as it is left
-abbrev pub after : {V X : Type 0} → (V → X) → Unit {0} ⊎ ((MutBor V × Unit {0}) ⊎ ⊥) → Option X
-after known (inl none) = None
-after known (inr (inl device)) = Some (known device.0.now)
-after known (inr (inr never)) = None
-
--- where a device was given, these octets went out to it
-abbrev pub AppendsIfGiven : Option (Option (List ℕ)) → Option (Option (List ℕ)) → List ℕ → Type 0
-AppendsIfGiven None None octets = Unit {0}
-AppendsIfGiven (Some old) (Some new) octets = Appends old new octets
-AppendsIfGiven None (Some new) octets = ⊥
-AppendsIfGiven (Some old) None octets = ⊥
-
--- a device was given, and its count of failures rises
-abbrev pub RisesGiven : Option ℕ → Option ℕ → Type 0
-RisesGiven (Some old) (Some new) = Rises old new
-RisesGiven None new = ⊥
-RisesGiven (Some old) None = ⊥
-
--- the text is a plan, and each input a log export or a capture; where it was asked the export of the union of them all went out, and the statement
--- of that union under the plan; and these are the inputs' notes
-pub record IsBilled (plan : List ℕ) (inputs : List (List ℕ)) (old_export new_export : Option (Option (List ℕ))) (old new : Option (List ℕ)) (notes : List Notes) : Type 0 where
+-- The text is a plan, and each input a log export or a capture; where it was asked the export of the union of them all was written,
+-- and the statement of that union under the plan; and these are the inputs' notes.
+pub record IsBillDone (plan : List ℕ) (inputs : List (List ℕ)) (old_export new_export : Option Device) (old new : Device) (notes : List Notes) : Type 0 where
   pub under : AccountPlan
   pub named : IsPlanOf plan under
   pub reports : List PacketReport
   pub union : IsUnion inputs reports
-  pub exported : AppendsIfGiven old_export new_export (export reports)
-  pub written : Appends old new (statement_under under reports)
+  pub exported : ReceivesIfGiven (export reports) old_export new_export
+  pub written : Receives (statement_under under reports) old new
   pub noted : AreNotes inputs notes
 
--- a refusal is that of the plan, or else of the inputs, unless memory ran out
-abbrev pub IsBillRefused : List ℕ → List (List ℕ) → RunFault → Type 0
-IsBillRefused plan inputs e = wants_memory e ≡ false
-    → ((f : PlanFault) × RefusesPlan plan f × (e ≡ refusal None family.Plan (plan_number f)))
-    ⊎ ((p : AccountPlan) × IsPlanOf plan p × (gathered 0 [] inputs ≡ Err e))
-
--- a device was given, and of these octets only a part went out to it
-abbrev pub IsCutOffGiven : List ℕ → Option (Option (List ℕ)) → Option (Option (List ℕ)) → Option ℕ → Option ℕ → Type 0
-IsCutOffGiven octets (Some old) (Some new) (Some old_failures) (Some new_failures) = IsCutOff octets old new old_failures new_failures
-IsCutOffGiven _ _ _ _ _ = ⊥
-
--- a write failed: of the export, where it was asked, only a part went out, and nothing of the statement; or all of the export where
--- it was asked, and of the statement only a part
-pub record IsBillCutOff (plan : List ℕ) (inputs : List (List ℕ)) (old_export new_export : Option (Option (List ℕ))) (old_failures_export new_failures_export : Option ℕ)
-    (old new : Option (List ℕ)) (old_failures new_failures : ℕ) (e : RunFault) : Type 0 where
-  pub fault : e ≡ refusal None family.Write 1
+-- A write failed: of the export, where it was asked, only a part went out, and nothing of the statement; or all of the export where
+-- it was asked, and of the statement only a part.
+pub record IsBillCutOff (plan : List ℕ) (inputs : List (List ℕ)) (old_export new_export : Option Device) (old new : Device) (e : RunFault) : Type 0 where
+  pub fault : e ≡ write_refusal
   pub under : AccountPlan
   pub named : IsPlanOf plan under
   pub reports : List PacketReport
   pub union : IsUnion inputs reports
+  pub taken : united inputs ≡ Ok reports
   pub part :
-      (IsCutOffGiven (export reports) old_export new_export old_failures_export new_failures_export × (new ≡ old) × (new_failures ≡ old_failures))
-      ⊎ (AppendsIfGiven old_export new_export (export reports) × (new_failures_export ≡ old_failures_export)
-      × IsCutOff (statement_under under reports) old new old_failures new_failures)
+      (IsCutOffIfGiven (export reports) old_export new_export × (new ≡ old))
+      ⊎ (ReceivesIfGiven (export reports) old_export new_export × IsCutOff (statement_under under reports) old new)
+
+-- the refusal that is due: that of the plan, or else the first of the inputs
+abbrev pub IsBillRefusalDue : List ℕ → List (List ℕ) → RunFault → Type 0
+IsBillRefusalDue plan inputs e =
+    ((f : PlanFault) × RefusesPlan plan f × (e ≡ refusal None family.Plan (plan_number f)))
+    ⊎ ((p : AccountPlan) × IsPlanOf plan p × (united inputs ≡ Err e))
+
+-- Why there is no statement: the first refusal that is due, the plan's before those of the inputs in order, also where memory ran
+-- out.
+pub record IsBillUnmade (plan : List ℕ) (inputs : List (List ℕ)) (e : RunFault) : Type 0 where
+  pub due : wants_memory e ≡ false → IsBillRefusalDue plan inputs e
+  pub plan_first : is_family e.family family.Plan ≡ false → (p : AccountPlan) × IsPlanOf plan p
+  pub turn : is_family e.family family.Plan ≡ false → IsInTurn inputs e
+  pub no_write : is_write e ≡ false
+
+-- What a refusal is, and what it leaves of the devices: as they were, unless a write failed.
+pub record IsBillRefused (plan : List ℕ) (inputs : List (List ℕ)) (old_export new_export : Option Device) (old new : Device) (e : RunFault) : Type 0 where
+  pub unmade : is_write e ≡ false → IsBillUnmade plan inputs e
+  pub untouched_export : is_write e ≡ false → new_export ≡ old_export
+  pub untouched : is_write e ≡ false → new ≡ old
+  pub cut_off : is_write e ≡ true → IsBillCutOff plan inputs old_export new_export old new e

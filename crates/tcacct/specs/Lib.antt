@@ -1,8 +1,11 @@
 pub mod Commands
 pub mod Lines
 pub mod Texts
+pub mod Devices
+pub mod Faults
 pub mod Runs
 pub mod Noted
 pub mod Metered
 pub mod Combined
 pub mod Billed
+pub mod Endings

@@ -23,6 +23,18 @@ order_of (line.Meter spec inputs) = meter spec.now (texts inputs.items)
 order_of (line.Combine out inputs) = combine out.now (texts inputs.items)
 order_of (line.Bill export plan inputs) = bill (option_map (λ s. s.now) export) plan.now (texts inputs.items)
 
+-- the name of a command
+abbrev pub command_of : Order → Text
+command_of (meter spec inputs) = codes "meter"
+command_of (combine out inputs) = codes "combine"
+command_of (bill export plan inputs) = codes "bill"
+
+-- the words of a command's inputs
+abbrev pub inputs_of : Order → List Text
+inputs_of (meter spec inputs) = inputs
+inputs_of (combine out inputs) = inputs
+inputs_of (bill export plan inputs) = inputs
+
 abbrev pub meter_of : List Row → Option Order
 meter_of rows = option_and_then (λ spec. option_map (λ inputs. meter spec inputs)
     (all_of (codes "INPUT") rows)) (first_of (codes "SPEC") rows)

@@ -1,6 +1,5 @@
--- What the command `meter` prints.
-use Rattle.std.specs.Prelude.{◌≡◌, ℕ, List, [], Option, None, Result, Ok, Err}
-use Rattle.std.specs.Io.KnownBytes.{Appends}
+-- What the command `meter` prints, and what it is refused for.
+use Rattle.std.specs.Prelude.{◌≡◌, ℕ, true, false, List, Result, Ok, Err, IsOk, None}
 use Rattle.tca_report.specs.Reports.{PacketReport}
 use Rattle.tca_meters.specs.declared.colour.Colour.TheVariants.{Green}
 use Rattle.tca_meters.specs.declared.spec.SpecFault.{SpecFault}
@@ -13,34 +12,55 @@ use Rattle.tca_log.specs.Disputes.{undisputed}
 use Rattle.tca_accounts.specs.Sums.{packet_of, sums_of}
 use Rattle.tcacct.specs.declared.fault.RunFault.{RunFault}
 use Rattle.tcacct.specs.declared.fault.Family.TheVariants as family
+use Rattle.tcacct.specs.Devices.{Device, IsCutOff, Receives}
 use Rattle.tcacct.specs.Texts.{meter_text}
-use Rattle.tcacct.specs.Runs.{IsCutOff, IsUnion, refusal, and_then, gathered}
+use Rattle.tcacct.specs.Runs.{IsInTurn, IsRefusedAs, IsUnion, and_then, is_family, is_write, refusal, united, write_refusal}
 
 -- the lines of a set: the sums of its undisputed reports in order, with the colours that the meter gives them from time 0 on,
 -- where the precolour of a code point that has none is green
 abbrev pub metered_lines : AnyMeter → List PacketReport → List ℕ
 metered_lines meter rs = meter_text (sums_of (colours (any_rule meter) (packet_of Green) (undisputed rs)))
 
--- a spec's fault as a refusal
-abbrev pub spec_said : {M : Type 0} → Result M SpecFault → Result M RunFault
-spec_said (Ok meter) = Ok meter
-spec_said (Err fault) = Err (refusal None family.Spec (spec_number fault))
+-- a spec's meter, or its fault as a refusal
+abbrev pub meter_or_refusal : {M : Type 0} → Result M SpecFault → Result M RunFault
+meter_or_refusal (Ok meter) = Ok meter
+meter_or_refusal (Err fault) = Err (refusal None family.Spec (spec_number fault))
 
 -- the lines for a spec and inputs, or the first refusal: of the spec, then of the inputs in order
 abbrev pub metering : List ℕ → List (List ℕ) → Result (List ℕ) RunFault
-metering spec inputs = and_then (spec_said (spec_in spec)) (λ meter. and_then (gathered 0 [] inputs) (λ rs. Ok (metered_lines meter rs)))
+metering spec inputs = and_then (meter_or_refusal (spec_in spec)) (λ meter. and_then (united inputs) (λ rs. Ok (metered_lines meter rs)))
 
--- the spec names a meter, each input is a log export or a capture, and what went out is the lines of the union of them all
-pub record IsMetered (spec : List ℕ) (inputs : List (List ℕ)) (old new : Option (List ℕ)) : Type 0 where
+-- These are the lines for a spec and inputs: the spec names a meter, each input is a log export or a capture, and the lines are
+-- those of the union of them all.
+pub record AreMeterLines (spec : List ℕ) (inputs : List (List ℕ)) (lines : List ℕ) : Type 0 where
   pub meter : AnyMeter
   pub named : spec_in spec ≡ Ok meter
   pub reports : List PacketReport
   pub union : IsUnion inputs reports
-  pub written : Appends old new (metered_lines meter reports)
+  pub lines_are : lines ≡ metered_lines meter reports
 
--- a write failed, and of the lines for the spec and the inputs only a part went out
-pub record IsMeteringCutOff (spec : List ℕ) (inputs : List (List ℕ)) (old new : Option (List ℕ)) (failures_old failures_new : ℕ) (e : RunFault) : Type 0 where
-  pub fault : e ≡ refusal None family.Write 1
-  pub text : List ℕ
-  pub said : metering spec inputs ≡ Ok text
-  pub part : IsCutOff text old new failures_old failures_new
+-- The lines were written.
+pub record IsMeterDone (spec : List ℕ) (inputs : List (List ℕ)) (old new : Device) : Type 0 where
+  pub lines : List ℕ
+  pub made : AreMeterLines spec inputs lines
+  pub written : Receives lines old new
+
+-- A write failed, and of the lines only a part went out.
+pub record IsMeterCutOff (spec : List ℕ) (inputs : List (List ℕ)) (old new : Device) (e : RunFault) : Type 0 where
+  pub fault : e ≡ write_refusal
+  pub lines : List ℕ
+  pub due : metering spec inputs ≡ Ok lines
+  pub part : IsCutOff lines old new
+
+-- Why there are no lines: the first refusal that is due, the spec's before those of the inputs in order, also where memory ran out.
+pub record IsMeterUnmade (spec : List ℕ) (inputs : List (List ℕ)) (e : RunFault) : Type 0 where
+  pub due : IsRefusedAs e (metering spec inputs)
+  pub spec_first : is_family e.family family.Spec ≡ false → IsOk (spec_in spec)
+  pub turn : is_family e.family family.Spec ≡ false → IsInTurn inputs e
+  pub no_write : is_write e ≡ false
+
+-- What a refusal is, and what it leaves of the device: as it was, unless a write failed.
+pub record IsMeterRefused (spec : List ℕ) (inputs : List (List ℕ)) (old new : Device) (e : RunFault) : Type 0 where
+  pub unmade : is_write e ≡ false → IsMeterUnmade spec inputs e
+  pub untouched : is_write e ≡ false → new ≡ old
+  pub cut_off : is_write e ≡ true → IsMeterCutOff spec inputs old new e

@@ -1,46 +1,57 @@
 -- What the inputs of a command hold together, and what they are refused for.
-use Rattle.std.specs.Prelude.{◌≡◌, ◌==◌, ℕ, ◌+◌, ◌<◌, Bool, true, false, ◌||◌, ◌&&◌, List, [], ◌∷◌, ◌++◌, length, take, Option, Some, None, is_some, Result, Ok, Err, IsOk, nat_lt, if◌then◌else◌}
-use Rattle.std.specs.Io.KnownBytes.{Appends}
+use Rattle.std.specs.Prelude.{◌≡◌, ◌==◌, ℕ, ◌+◌, ◌<◌, Bool, true, false, ◌||◌, ◌&&◌, List, [], ◌∷◌, ◌++◌, length, map, take, Option, Some, None, IfSome, is_some, Result, Ok, Err, IsOk, nat_lt, slice_get, if◌then◌else◌}
 use Rattle.std.specs.List.{flat_map}
+use Rattle.std.specs.declared.vec.Vec.{Vec}
 use Rattle.tca_join.specs.Sets.{in_order}
-use Rattle.tca_report.specs.Devices.{Rises}
 use Rattle.tca_report.specs.Reports.{PacketReport, report_cmp}
 use Rattle.tca_wire.specs.Faults.{wire_number}
 use Rattle.tca_templates.specs.Faults.{decode_number}
 use Rattle.tca_report.specs.Export.{most_reports}
+use Rattle.tca_report.specs.ExportReading.{reading}
 use Rattle.tca_report.specs.FaultNumbers.{export_number}
-use Rattle.tca_report.specs.Inputs.{Heard, input_of}
+use Rattle.tca_report.specs.Inputs.{Heard, input_of, is_export}
 use Rattle.tca_report.specs.declared.inputs.InputFault.{InputFault}
 use Rattle.tca_report.specs.declared.inputs.InputFault.TheVariants.{Export, Wire, Decode, Memory}
 use Rattle.tcacct.specs.declared.fault.RunFault.{RunFault}
 use Rattle.tcacct.specs.declared.fault.Family.{Family}
 use Rattle.tcacct.specs.declared.fault.Family.TheVariants as family
 
--- These are the reports that an input says, a log export or a capture, in its order.
-pub record Says (input : List ℕ) (rs : List PacketReport) : Type 0 where
+-- the octets of each input
+abbrev pub octets_of : {A : Type 0} → List (Vec ℕ A) → List (List ℕ)
+octets_of = map (λ v. v.items)
+
+-- An input, a log export or a capture, holds these reports in its order.
+pub record HoldsReports (input : List ℕ) (rs : List PacketReport) : Type 0 where
   pub heard : Heard
   pub read : input_of input ≡ Ok heard
   pub reports : rs ≡ heard.reports
 
--- Each input says the list beside it.
-unfoldable pub AllSay : List (List ℕ) → List (List PacketReport) → Type 0
-AllSay [] [] = Unit {0}
-AllSay (input ∷ inputs) (rs ∷ lists) = Says input rs × AllSay inputs lists
-AllSay [] (rs ∷ lists) = ⊥
-AllSay (input ∷ inputs) [] = ⊥
+-- Each input holds the list beside it.
+unfoldable pub HoldReports : List (List ℕ) → List (List PacketReport) → Type 0
+HoldReports [] [] = Unit {0}
+HoldReports (input ∷ inputs) (rs ∷ lists) = HoldsReports input rs × HoldReports inputs lists
+HoldReports [] (rs ∷ lists) = ⊥
+HoldReports (input ∷ inputs) [] = ⊥
 
 -- the reports of all lists, each once and in order
 abbrev pub union_of : List (List PacketReport) → List PacketReport
 union_of lists = in_order report_cmp (flat_map (λ rs. rs) lists)
 
--- the reports that the inputs say together, each once and in order
+-- the reports that the inputs hold together, each once and in order
 pub record IsUnion (inputs : List (List ℕ)) (rs : List PacketReport) : Type 0 where
   pub lists : List (List PacketReport)
-  pub say : AllSay inputs lists
+  pub hold : HoldReports inputs lists
   pub whole : rs ≡ union_of lists
 
 abbrev pub refusal : Option ℕ → Family → ℕ → RunFault
 refusal input family number = record { input = input; family = family; number = number }
+
+-- a write that failed, and want of memory that belongs to no other family and no input
+abbrev pub write_refusal : RunFault
+write_refusal = refusal None family.Write 1
+
+abbrev pub memory_refusal : RunFault
+memory_refusal = refusal None family.Memory 1
 
 -- the refusal of input n by its fault: that of the export, or of the message
 abbrev pub input_refusal : ℕ → InputFault → RunFault
@@ -65,9 +76,13 @@ and_then (Ok a) f = f a
 and_then (Err e) f = Err e
 
 -- a set with the reports of all inputs, of which the first has number n, or the first refusal of one
-unfoldable pub gathered : ℕ → List PacketReport → List (List ℕ) → Result (List PacketReport) RunFault
-gathered n held [] = Ok held
-gathered n held (input ∷ inputs) = and_then (with_input n held (input_of input)) (λ more. gathered (n + 1) more inputs)
+unfoldable pub united_from : ℕ → List PacketReport → List (List ℕ) → Result (List PacketReport) RunFault
+united_from n held [] = Ok held
+united_from n held (input ∷ inputs) = and_then (with_input n held (input_of input)) (λ more. united_from (n + 1) more inputs)
+
+-- the union of all inputs, or the first refusal of one
+abbrev pub united : List (List ℕ) → Result (List PacketReport) RunFault
+united inputs = united_from 0 [] inputs
 
 abbrev pub is_family : Family → Family → Bool
 is_family family.Export family.Export = true
@@ -81,35 +96,49 @@ is_family family.Spec family.Spec = true
 is_family family.Read family.Read = true
 is_family _ _ = false
 
+-- a write that failed
+abbrev pub is_write : RunFault → Bool
+is_write e = is_family e.family family.Write
+
 -- want of memory: number 1 of a family of its own, and number 2 of the log as it takes an input
 abbrev pub wants_memory : RunFault → Bool
 wants_memory e = (is_family e.family family.Memory && (e.number == 1)) || (is_family e.family family.Log && ((e.number == 2) && is_some e.input))
 
 -- a refusal is the one that was to come, unless memory ran out
 abbrev pub IsRefusedAs : {A : Type 0} → RunFault → Result A RunFault → Type 0
-IsRefusedAs e said = wants_memory e ≡ false → said ≡ Err e
+IsRefusedAs e due = wants_memory e ≡ false → due ≡ Err e
+
+-- an input's own want of memory
+abbrev pub is_memory : RunFault → Bool
+is_memory e = is_family e.family family.Memory
 
 -- the log had no memory for the reports of an input
 abbrev pub is_log_memory : RunFault → Bool
 is_log_memory e = is_family e.family family.Log && (e.number == 2)
 
--- a refusal that names no input comes where all of them were taken; one that names an input where all before it were, and where the
--- log had no memory for its reports nothing is wrong with that input itself
-abbrev pub IsNamed : List (List ℕ) → Bool → Option ℕ → Type 0
-IsNamed inputs wanted None = IsOk (gathered 0 [] inputs)
-IsNamed inputs wanted (Some n) = (n < length inputs) × IsOk (gathered 0 [] (take n inputs)) × (wanted ≡ true → IsOk (gathered 0 [] (take (n + 1) inputs)))
+-- nothing is wrong with an input if it is a log export
+abbrev pub IsSoundExport : List ℕ → Type 0
+IsSoundExport input = is_export input ≡ true → IsOk (reading input)
+
+-- A refusal of input n comes where all inputs before it were taken. Where the log had no memory for its reports nothing is wrong
+-- with it either, and where memory ran out for the input itself nothing is wrong with it if it is a log export.
+pub record IsInTurnAt (inputs : List (List ℕ)) (n : ℕ) (e : RunFault) : Type 0 where
+  pub inside : n < length inputs
+  pub before : IsOk (united (take n inputs))
+  pub log_memory : is_log_memory e ≡ true → IsOk (united (take (n + 1) inputs))
+  pub memory_last : is_memory e ≡ true → IfSome (slice_get inputs n) IsSoundExport
+
+-- a refusal that names no input comes where all of them were taken
+abbrev pub IsInTurnOf : List (List ℕ) → RunFault → Option ℕ → Type 0
+IsInTurnOf inputs e None = IsOk (united inputs)
+IsInTurnOf inputs e (Some n) = IsInTurnAt inputs n e
 
 -- a refusal comes in the inputs' order
 abbrev pub IsInTurn : List (List ℕ) → RunFault → Type 0
-IsInTurn inputs e = IsNamed inputs (is_log_memory e) e.input
+IsInTurn inputs e = IsInTurnOf inputs e e.input
 
--- a write that failed
-abbrev pub is_write : RunFault → Bool
-is_write e = is_family e.family family.Write
-
--- a write of these octets failed: fewer than all of them went out, and the count of failures rises
-pub record IsCutOff (octets : List ℕ) (old new : Option (List ℕ)) (failures_old failures_new : ℕ) : Type 0 where
-  pub count : ℕ
-  pub short : count < length octets
-  pub went : Appends old new (take count octets)
-  pub counted : Rises failures_old failures_new
+-- the refusal of inputs that were to be united: the first that is due, in the inputs' order, and no failed write
+pub record IsUnitingRefused (inputs : List (List ℕ)) (e : RunFault) : Type 0 where
+  pub due : IsRefusedAs e (united inputs)
+  pub turn : IsInTurn inputs e
+  pub no_write : is_write e ≡ false

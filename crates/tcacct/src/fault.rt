@@ -1,17 +1,18 @@
 //! Why a command was refused.
 ghost use Rattle.std.specs.Prelude.{◌≡◌, Some, None};
 ghost use Rattle.tca_log.specs.Faults.{fault_number};
-ghost use Rattle.tca_meters.specs.Faults.{spec_number};
-ghost use Rattle.tca_accounts.specs.Faults.{plan_number};
-ghost use Rattle.tcacct.specs.Runs.{refusal, input_refusal};
+ghost use Rattle.tca_report.specs.FaultNumbers.{read_number};
+ghost use Rattle.tcacct.specs.Faults.{family_name, fault_text};
+ghost use Rattle.tcacct.specs.Runs.{input_refusal, refusal, write_refusal};
 ghost use Rattle.tcacct.specs.declared.fault.Family.TheVariants as family;
 
+use std::alloc::AllocError;
+use std::error::Error;
 use std::fmt;
 use tca_accounts::PlanFault;
 use tca_log::LogFault;
 use tca_meters::SpecFault;
-use tca_report::InputFault;
-use thiserror::Error;
+use tca_report::{InputFault, ReadFault, WriteFault};
 
 /// Which kind of refusal a fault line names.
 #[derive(Clone, Copy, Debug, PartialEq, Eq)]
@@ -36,9 +37,12 @@ pub enum Family {
     Memory,
 }
 
-impl fmt::Display for Family {
-    fn fmt<W: fmt::Write>(&self, f: &mut fmt::Formatter<W>) -> fmt::Result {
-        f.write_str(match self {
+impl Family {
+    /// The family's name in a fault line.
+    pub fn name(self) -> &'static str
+        ensures { result.now ≡ family_name self }
+    {
+        match self {
             Family::Read => "read",
             Family::Export => "export",
             Family::Wire => "wire",
@@ -48,62 +52,60 @@ impl fmt::Display for Family {
             Family::Log => "log",
             Family::Write => "write",
             Family::Memory => "memory",
-        })
+        }
+    }
+}
+
+impl fmt::Display for Family {
+    ghost output = { λ f. Some (family_name f) };
+
+    fn fmt<W: fmt::Write>(&self, f: &mut fmt::Formatter<W>) -> fmt::Result {
+        let name = self.name();
+        write!(f, "{name}")
     }
 }
 
 /// Why a command was refused: the input at fault, counted from 0, if one was; the family, and the
-/// number of the fault in it.
-#[derive(Clone, Copy, Debug, PartialEq, Eq, Error)]
-#[error("{family} {number}")]
+/// number of the fault in it. It prints as the family's name and the number.
+#[derive(Clone, Copy, Debug, PartialEq, Eq)]
 pub struct RunFault {
     pub input: Option<u32>,
     pub family: Family,
     pub number: u8,
 }
 
+impl fmt::Display for RunFault {
+    ghost output = { λ e. Some (fault_text e) };
+
+    fn fmt<W: fmt::Write>(&self, f: &mut fmt::Formatter<W>) -> fmt::Result {
+        let name = self.family.name();
+        let number = self.number;
+        write!(f, "{name} {number}")
+    }
+}
+
+impl Error for RunFault {}
+
 impl RunFault {
-    /// Want of memory that belongs to no other family and no input.
-    pub(crate) fn memory() -> RunFault
-        ensures { result ≡ refusal None family.Memory 1 }
+    /// A file that can't be opened or read, an input or the plan.
+    pub(crate) fn read(input: Option<u32>, fault: ReadFault) -> RunFault
+        ensures { result ≡ refusal input family.Read (read_number fault) }
     {
         RunFault {
-            input: None,
-            family: Family::Memory,
-            number: 1,
+            input,
+            family: Family::Read,
+            number: fault.number(),
         }
     }
 
     /// A write that failed.
     pub(crate) fn write() -> RunFault
-        ensures { result ≡ refusal None family.Write 1 }
+        ensures { result ≡ write_refusal }
     {
         RunFault {
             input: None,
             family: Family::Write,
             number: 1,
-        }
-    }
-
-    /// A text that is no plan, or that found no memory.
-    pub(crate) fn plan(fault: PlanFault) -> RunFault
-        ensures { result ≡ refusal None family.Plan (plan_number fault) }
-    {
-        RunFault {
-            input: None,
-            family: Family::Plan,
-            number: fault.number(),
-        }
-    }
-
-    /// A spec that names no meter.
-    pub(crate) fn spec(fault: SpecFault) -> RunFault
-        ensures { result ≡ refusal None family.Spec (spec_number fault) }
-    {
-        RunFault {
-            input: None,
-            family: Family::Spec,
-            number: fault.number(),
         }
     }
 
@@ -132,6 +134,69 @@ impl RunFault {
         RunFault {
             input: Some(input),
             family: Family::Log,
+            number: fault.number(),
+        }
+    }
+}
+
+/// Want of memory that belongs to no other family and no input.
+impl From<AllocError> for RunFault {
+    ghost use Rattle.std.specs.Prelude.{◌≡◌};
+    ghost use Rattle.tcacct.specs.Runs.{memory_refusal};
+
+    ghost from_gives = { λ _ e. e ≡ memory_refusal };
+
+    fn from(_fault: AllocError) -> RunFault {
+        RunFault {
+            input: None,
+            family: Family::Memory,
+            number: 1,
+        }
+    }
+}
+
+impl From<WriteFault> for RunFault {
+    ghost use Rattle.std.specs.Prelude.{◌≡◌};
+    ghost use Rattle.tcacct.specs.Runs.{write_refusal};
+
+    ghost from_gives = { λ _ e. e ≡ write_refusal };
+
+    fn from(_fault: WriteFault) -> RunFault {
+        RunFault::write()
+    }
+}
+
+/// A text that is no plan, or that found no memory.
+impl From<PlanFault> for RunFault {
+    ghost use Rattle.std.specs.Prelude.{◌≡◌, None};
+    ghost use Rattle.tca_accounts.specs.Faults.{plan_number};
+    ghost use Rattle.tcacct.specs.Runs.{refusal};
+    ghost use Rattle.tcacct.specs.declared.fault.Family.TheVariants as family;
+
+    ghost from_gives = { λ fault e. e ≡ refusal None family.Plan (plan_number fault) };
+
+    fn from(fault: PlanFault) -> RunFault {
+        RunFault {
+            input: None,
+            family: Family::Plan,
+            number: fault.number(),
+        }
+    }
+}
+
+/// A spec that names no meter.
+impl From<SpecFault> for RunFault {
+    ghost use Rattle.std.specs.Prelude.{◌≡◌, None};
+    ghost use Rattle.tca_meters.specs.Faults.{spec_number};
+    ghost use Rattle.tcacct.specs.Runs.{refusal};
+    ghost use Rattle.tcacct.specs.declared.fault.Family.TheVariants as family;
+
+    ghost from_gives = { λ fault e. e ≡ refusal None family.Spec (spec_number fault) };
+
+    fn from(fault: SpecFault) -> RunFault {
+        RunFault {
+            input: None,
+            family: Family::Spec,
             number: fault.number(),
         }
     }

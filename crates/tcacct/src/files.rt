@@ -1,20 +1,17 @@
 //! The files that a command line names.
 ghost use Rattle.std.specs.Prelude.{◌≡◌, ◌<◌, ◌^◌, IfOk, length};
 
-use crate::fault::{Family, RunFault};
+use crate::fault::RunFault;
+use std::alloc::AllocError;
 use std::fs;
 use std::rt::Files;
-use tca_report::{Host, read_octets};
+use tca_report::{Host, ReadFault, read_octets};
 
-// A file's octets, or the number of the fault. One that can't be opened has the number of one that
-// can't be read.
-fn read_file<R: Files + AllocGlobal>(rt: &R, path: &str) -> Result<Vec<u8>, u8> {
-    let Ok(file) = fs::open(rt, path) else {
-        return Err(1);
-    };
-    match read_octets(rt.alloc(), &mut Host::new(file)) {
-        Ok(octets) => Ok(octets),
-        Err(fault) => Err(fault.number()),
+// A file's octets. One that can't be opened has the fault of one that can't be read.
+fn read_file<R: Files + AllocGlobal>(rt: &R, path: &str) -> Result<Vec<u8>, ReadFault> {
+    match fs::open(rt, path) {
+        Ok(file) => read_octets(rt.alloc(), &mut Host::new(file)),
+        Err(_) => Err(ReadFault::Read),
     }
 }
 
@@ -22,11 +19,7 @@ fn read_file<R: Files + AllocGlobal>(rt: &R, path: &str) -> Result<Vec<u8>, u8> 
 pub(crate) fn read_plan<R: Files + AllocGlobal>(rt: &R, path: &str) -> Result<Vec<u8>, RunFault> {
     match read_file(rt, path) {
         Ok(octets) => Ok(octets),
-        Err(number) => Err(RunFault {
-            input: None,
-            family: Family::Read,
-            number,
-        }),
+        Err(fault) => Err(RunFault::read(None, fault)),
     }
 }
 
@@ -40,24 +33,26 @@ pub(crate) fn read_files<R: Files + AllocGlobal>(
 {
     // The command line takes no more words than that.
     if paths.len() > u32::MAX as usize {
-        return Err(RunFault::memory());
+        return Err(RunFault::from(AllocError));
     }
     let mut inputs = Vec::new(rt.alloc());
     for (n, path) in paths.iter().enumerate() {
         match read_file(rt, path) {
             Ok(octets) => {
                 if inputs.push(octets).is_err() {
-                    return Err(RunFault::memory());
+                    return Err(RunFault::from(AllocError));
                 }
             }
-            Err(number) => {
-                return Err(RunFault {
-                    input: Some(n as u32),
-                    family: Family::Read,
-                    number,
-                });
-            }
+            Err(fault) => return Err(RunFault::read(Some(n as u32), fault)),
         }
     }
     Ok(inputs)
+}
+
+/// A new or emptied file to write to.
+pub(crate) fn create<R: Files>(rt: &R, path: &str) -> Result<Host<R::File>, RunFault> {
+    match fs::create(rt, path) {
+        Ok(file) => Ok(Host::new(file)),
+        Err(_) => Err(RunFault::write()),
+    }
 }

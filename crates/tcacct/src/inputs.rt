@@ -1,28 +1,30 @@
-//! The inputs of a command, gathered one by one.
-ghost use Rattle.std.specs.Prelude.{◌≡◌, ◌<◌, ◌^◌, ◌++◌, List, Ok, Some, [], IfErr, IfOk, IsOk, OnOk, false, true, length, map, MatchResult};
+//! The inputs of a command, united one by one.
+ghost use Rattle.std.specs.Prelude.{◌≡◌, ◌<◌, ◌^◌, ◌++◌, List, Ok, Some, IfErr, IfOk, IsOk, OnOk, false, true, length, MatchResult};
 ghost use Rattle.std.specs.List.Sorted.{IsStrictlySortedBy};
 ghost use Rattle.tca_join.specs.Sets.{in_order};
 ghost use Rattle.tca_report.specs.Reports.{PacketReport, report_cmp};
 ghost use Rattle.tca_report.specs.Inputs.{input_of};
-ghost use Rattle.tcacct.specs.Noted.{AreNotes, IsNoted};
-ghost use Rattle.tcacct.specs.Runs.{IsInTurn, IsRefusedAs, IsUnion, Says, gathered, is_log_memory, is_write, with_input};
+ghost use Rattle.tcacct.specs.Noted.{IsNoted, IsUniting};
+ghost use Rattle.tcacct.specs.Runs.{HoldsReports, IsRefusedAs, IsSoundExport, IsUnitingRefused, is_log_memory, is_memory, is_write, octets_of, with_input};
 
 use crate::fault::RunFault;
 use std::alloc::Global;
 use tca_log::Log;
 use tca_report::{InputFault, Notes, gather};
 
-// Adds the reports of input `n`, and answers its notes.
+// Adds the reports of input `n`, and gives its notes.
 fn add_input(alloc: Global, n: u32, octets: &[u8], log: &mut Log) -> Result<Notes, RunFault>
     ensures exact { MatchResult result (λ _. with_input n log.old (input_of octets.now) ≡ Ok log.new)
         (λ e. IsRefusedAs e (with_input n log.old (input_of octets.now))) }
-    ensures found { OnOk result ((rs : List PacketReport) × Says octets.now rs
+    ensures found { OnOk result ((rs : List PacketReport) × HoldsReports octets.now rs
         × (log.new ≡ in_order report_cmp (log.old ++ rs))) }
-    ensures no_write { IfErr result (λ e. is_write e ≡ false) }
-    ensures named { IfErr result (λ e. e.input ≡ Some n) }
-    ensures wanted { IfErr result (λ e. is_log_memory e ≡ true → IsOk (with_input n log.old (input_of octets.now))) }
     ensures rises { OnOk result (IsStrictlySortedBy report_cmp log.new) }
     ensures noted { IfOk result (λ notes. IsNoted octets.now notes) }
+    ensures named { IfErr result (λ e. e.input ≡ Some n) }
+    ensures no_write { IfErr result (λ e. is_write e ≡ false) }
+    // Want of memory comes behind a fault of an export, and behind a log that is full.
+    ensures log_memory { IfErr result (λ e. is_log_memory e ≡ true → IsOk (with_input n log.old (input_of octets.now))) }
+    ensures memory_last { IfErr result (λ e. is_memory e ≡ true → IsSoundExport octets.now) }
 {
     let gathered = match gather(alloc, octets) {
         Ok(gathered) => gathered,
@@ -40,14 +42,10 @@ fn add_input(alloc: Global, n: u32, octets: &[u8], log: &mut Log) -> Result<Note
 /// The union of the inputs' reports, and the notes of each input, in order. Each input is gathered and
 /// added before the next is looked at. The first input that has a fault, or whose reports the log
 /// doesn't take, refuses all.
-pub fn gather_noted(alloc: Global, inputs: &[Vec<u8>]) -> Result<(Log, Vec<Notes>), RunFault>
+pub fn unite(alloc: Global, inputs: &[Vec<u8>]) -> Result<(Log, Vec<Notes>), RunFault>
     requires { length inputs.now < 2 ^ 32 }
-    ensures found { IfOk result (λ x. IsUnion (map (λ v. v.items) inputs.now) x.0) }
-    ensures noted { IfOk result (λ x. AreNotes (map (λ v. v.items) inputs.now) x.1.items) }
-    ensures no_write { IfErr result (λ e. is_write e ≡ false) }
-    ensures turn { IfErr result (λ e. IsInTurn (map (λ v. v.items) inputs.now) e) }
-    ensures exact { MatchResult result (λ x. gathered 0 [] (map (λ v. v.items) inputs.now) ≡ Ok x.0)
-        (λ e. IsRefusedAs e (gathered 0 [] (map (λ v. v.items) inputs.now))) }
+    ensures united { IfOk result (λ x. IsUniting (octets_of inputs.now) x.0 x.1.items) }
+    ensures refused { IfErr result (IsUnitingRefused (octets_of inputs.now)) }
 {
     let mut log = Log::new(alloc);
     let mut all = Vec::new(alloc);
@@ -62,19 +60,4 @@ pub fn gather_noted(alloc: Global, inputs: &[Vec<u8>]) -> Result<(Log, Vec<Notes
         }
     }
     Ok((log, all))
-}
-
-/// The union of the inputs' reports, as `gather_noted` gives it.
-pub fn gather_all(alloc: Global, inputs: &[Vec<u8>]) -> Result<Log, RunFault>
-    requires { length inputs.now < 2 ^ 32 }
-    ensures found { IfOk result (λ log. IsUnion (map (λ v. v.items) inputs.now) log) }
-    ensures no_write { IfErr result (λ e. is_write e ≡ false) }
-    ensures turn { IfErr result (λ e. IsInTurn (map (λ v. v.items) inputs.now) e) }
-    ensures exact { MatchResult result (λ log. gathered 0 [] (map (λ v. v.items) inputs.now) ≡ Ok log)
-        (λ e. IsRefusedAs e (gathered 0 [] (map (λ v. v.items) inputs.now))) }
-{
-    match gather_noted(alloc, inputs) {
-        Ok((log, _)) => Ok(log),
-        Err(fault) => Err(fault),
-    }
 }

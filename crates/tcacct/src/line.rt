@@ -1,12 +1,12 @@
 //! The words of a command line.
 ghost use Rattle.std.specs.Prelude.{◌≡◌, ◌≢◌, ◌∷◌, [], IfOk, IfErr, Some, None, codes, map, option_map};
 ghost use Rattle.clap.specs.Words.{all_of, first_of, found_of, kind_of, rows_of};
-ghost use Rattle.tcacct.specs.Lines.{bill, bill_of, combine, combine_of, line_number, meter, meter_of, order_from, order_in, order_of, texts};
+ghost use Rattle.tcacct.specs.Lines.{bill, bill_of, combine, combine_of, command_of, inputs_of, line_number, meter, meter_of, order_from, order_in, order_of, texts};
 
 use crate::commands;
 use clap::ArgMatches;
 use clap::error::ErrorKind;
-use std::alloc::{AllocError, Global};
+use std::alloc::{AllocError, AllocFailed, Global};
 use thiserror::Error;
 
 /// What the words of a command line ask for. Inputs, OUT, PLAN and the file of an export are paths.
@@ -40,6 +40,30 @@ pub enum LineFault {
     Memory,
 }
 
+impl<'a> Line<'a> {
+    /// The command's name.
+    pub fn command(&self) -> &'static str
+        ensures { result.now ≡ command_of (order_of self.now) }
+    {
+        match self {
+            Line::Meter { .. } => "meter",
+            Line::Combine { .. } => "combine",
+            Line::Bill { .. } => "bill",
+        }
+    }
+
+    /// The words of the inputs.
+    pub fn inputs(&self) -> &[&'a str]
+        ensures { texts result.now ≡ inputs_of (order_of self.now) }
+    {
+        match self {
+            Line::Meter { inputs, .. } => inputs.as_slice(),
+            Line::Combine { inputs, .. } => inputs.as_slice(),
+            Line::Bill { inputs, .. } => inputs.as_slice(),
+        }
+    }
+}
+
 impl LineFault {
     /// The number of the fault, from 1.
     pub fn number(&self) -> u8
@@ -50,6 +74,28 @@ impl LineFault {
             LineFault::Help { .. } => 2,
             LineFault::Memory => 3,
         }
+    }
+}
+
+impl<T: Drop> From<AllocFailed<T>> for LineFault {
+    ghost use Rattle.std.specs.Prelude.{◌≡◌};
+    ghost use Rattle.tcacct.specs.declared.line.LineFault.TheVariants.{Memory};
+
+    ghost from_gives = { λ _ e. e ≡ Memory };
+
+    fn from(_fault: AllocFailed<T>) -> LineFault {
+        LineFault::Memory
+    }
+}
+
+impl From<AllocError> for LineFault {
+    ghost use Rattle.std.specs.Prelude.{◌≡◌};
+    ghost use Rattle.tcacct.specs.declared.line.LineFault.TheVariants.{Memory};
+
+    ghost from_gives = { λ _ e. e ≡ Memory };
+
+    fn from(_fault: AllocError) -> LineFault {
+        LineFault::Memory
     }
 }
 

@@ -1,7 +1,8 @@
 //! What inputs held beside reports.
-ghost use Rattle.std.specs.Prelude.{◌≡◌};
-ghost use Rattle.tcacct.specs.Noted.{left_out, told_beside};
+ghost use Rattle.std.specs.Prelude.{◌≡◌, Some};
+ghost use Rattle.tcacct.specs.Noted.{left_out, notes_line};
 
+use std::fmt;
 use tca_report::Notes;
 
 // How many records are no reports. Seven counts of 64 bits may need more than 64.
@@ -15,14 +16,26 @@ fn left_out(counts: &[u64; 7]) -> u128
     records
 }
 
-/// How many records of an input are no reports, how many of its messages had a set of an unknown template, and how
-/// many of its sets were skipped; none where there was nothing of these. It takes no memory.
-pub(crate) fn told_beside(notes: &Notes) -> Option<(u128, u64, u64)>
-    ensures { result ≡ told_beside notes.now }
-{
-    let records = left_out(&notes.not_reports);
-    if records == 0 && notes.unplaced == 0 && notes.skipped == 0 {
-        return None;
+/// The line of an input that held something beside reports: its word, then how many records are no
+/// reports, how many messages had a set of an unknown template, and how many sets were skipped. It
+/// is empty where there was nothing of these. Printing it takes no memory.
+#[derive(Clone, Copy)]
+pub struct NotesLine<'a> {
+    pub word: &'a str,
+    pub notes: Notes,
+}
+
+impl fmt::Display for NotesLine<'_> {
+    ghost output = { λ l. Some (notes_line l.word.now l.notes) };
+
+    fn fmt<W: fmt::Write>(&self, f: &mut fmt::Formatter<W>) -> fmt::Result {
+        let word = self.word;
+        let records = left_out(&self.notes.not_reports);
+        let unplaced = self.notes.unplaced;
+        let skipped = self.notes.skipped;
+        if records == 0 && unplaced == 0 && skipped == 0 {
+            return Ok(());
+        }
+        write!(f, "tcacct: {word}: notes {records} {unplaced} {skipped}\n")
     }
-    Some((records, notes.unplaced, notes.skipped))
 }

@@ -1,9 +1,9 @@
-use Rattle.std.proofs.Common.{◌≡◌, ◌∙◌, ◌++◌, ◌≤◌, Ok, length, sym, ap, le-ltb}
+use Rattle.std.proofs.Common.{◌≡◌, ◌∙◌, ◌++◌, ◌≤◌, Ok, Err, length, sym, ap, le-ltb}
 use Rattle.tca_join.specs.Sets.{in_order}
 use Rattle.tca_report.specs.Reports.{report_cmp}
 use Rattle.tca_report.specs.Inputs.{input_of}
 use Rattle.tcacct.specs.Runs.{with_input, with_reports}
-use Rattle.tcacct.proofs.InputLaws.{refused_as, said_ok}
+use Rattle.tcacct.proofs.InputLaws.{memory_of_gather, refused_as, said_ok}
 use Rattle.tcacct.proofs.inputs.add_input.Goals as goal
 
 pub returns-in-Ok-add_all-clause-exact : goal.returns-in-Ok-add_all-clause-exact
@@ -31,3 +31,7 @@ returns-in-Ok-add_all-clause-noted c =
 pub returns-in-Err-clause-exact : goal.returns-in-Err-clause-exact
 returns-in-Err-clause-exact c =
     refused_as c.args.n c.args.log.now (input_of c.args.octets.now) c.in-Err.fault c.input.result c.input.ensures.fault c.in-Err.ensures.exact
+
+pub returns-in-Err-clause-memory_last : goal.returns-in-Err-clause-memory_last
+returns-in-Err-clause-memory_last c =
+    memory_of_gather c.args.n c.args.octets.now c.in-Err.fault c.input.result c.input.ensures.fault (λ m. c.in-Err.ensures.memory_last (ap Err m))

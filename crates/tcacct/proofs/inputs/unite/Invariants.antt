@@ -1,16 +1,16 @@
 use Rattle.std.proofs.Common.{◌≡◌, List, [], map, take, drop, Ok}
 use Rattle.std.specs.List.Sorted.{IsStrictlySortedBy}
 use Rattle.tca_report.specs.Reports.{PacketReport, report_cmp}
-use Rattle.tcacct.specs.Runs.{gathered}
-use Rattle.tcacct.proofs.GatheredLaws.{IsUnionWith}
+use Rattle.tcacct.specs.Runs.{united_from}
+use Rattle.tcacct.proofs.UnionLaws.{IsUnionWith}
 use Rattle.tcacct.proofs.NotedLaws.{Completed}
-use Rattle.tcacct.proofs.inputs.gather_noted.Given as goal
+use Rattle.tcacct.proofs.inputs.unite.Given as goal
 
--- what is left, added to what was gathered, is the whole
+-- what is left, added to what was united, is the whole
 abbrev pub invariant-loop-n : goal.invariant-loop-n
 invariant-loop-n l = record {
-  exact : gathered l.n l.log (map (λ v. v.items) (drop l.n l.inputs)) ≡ gathered 0 [] (map (λ v. v.items) l.inputs);
-  taken : gathered 0 [] (map (λ v. v.items) (take l.n l.inputs)) ≡ Ok l.log;
+  exact : united_from l.n l.log (map (λ v. v.items) (drop l.n l.inputs)) ≡ united_from 0 [] (map (λ v. v.items) l.inputs);
+  taken : united_from 0 [] (map (λ v. v.items) (take l.n l.inputs)) ≡ Ok l.log;
   union : (rs : List PacketReport) → IsUnionWith l.log (map (λ v. v.items) (drop l.n l.inputs)) rs → IsUnionWith [] (map (λ v. v.items) l.inputs) rs;
   noted : Completed (map (λ v. v.items) l.inputs) (map (λ v. v.items) (drop l.n l.inputs)) l.all.items;
   rises : IsStrictlySortedBy report_cmp l.log;

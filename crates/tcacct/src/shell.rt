@@ -1,0 +1,136 @@
+//! The program over a file system, standard output and standard error that are given: what `main` does,
+//! so that tests can do it too.
+ghost use Rattle.std.specs.Prelude.{◌≡◌};
+ghost use Rattle.tcacct.specs.Endings.{status_of};
+
+use crate::bill::run_bill_plain;
+use crate::combine::run_combine;
+use crate::ending::{Ending, word_of};
+use crate::fault::RunFault;
+use crate::files::{create, read_files, read_plan};
+use crate::line::{Line, LineFault, read_line};
+use crate::meter::run_meter;
+use crate::notes::NotesLine;
+use std::env::Env;
+use std::rt::Files;
+use std::{env, io};
+use tca_report::{Notes, Write, put_all};
+
+const NOT_TEXT: &str = "error: a word of the command line is not UTF-8\n";
+
+/// The words of the command line, of which the first is the program's own name. They are refused where
+/// one isn't UTF-8, or where there is no memory for them.
+pub fn words_of<R: Env + AllocGlobal>(rt: &R) -> Result<Vec<String>, LineFault> {
+    match env::args(rt) {
+        Ok(args) => Ok(args.collect(rt.alloc())?),
+        Err(error) if error.kind() == io::ErrorKind::InvalidData => {
+            let text = String::from_str(rt.alloc(), NOT_TEXT)?;
+            Err(LineFault::Usage { text })
+        }
+        Err(_) => Err(LineFault::Memory),
+    }
+}
+
+/// Runs the words of a command line, as `run` does.
+pub fn run_words<R: Files + AllocGlobal, W: Write, V: io::Write>(
+    rt: &R,
+    words: &[String],
+    out: &mut W,
+    errors: &mut V,
+) -> u8 {
+    let mut texts = Vec::new(rt.alloc());
+    for word in words {
+        if texts.push(word.as_str()).is_err() {
+            return end(&Ending::NoCommand(LineFault::Memory), errors);
+        }
+    }
+    run(rt, &texts, out, errors)
+}
+
+/// Runs the words of a command line, of which the first is the program's own name, and gives the exit
+/// status. All files are read first, in order of the words; then OUT is made, where there is one; then
+/// the command is run. What can't be written to `errors` is left out.
+pub fn run<R: Files + AllocGlobal, W: Write, V: io::Write>(
+    rt: &R,
+    words: &[&str],
+    out: &mut W,
+    errors: &mut V,
+) -> u8 {
+    let line = match read_line(rt.alloc(), words) {
+        Ok(line) => line,
+        Err(fault) => {
+            print_help(&fault, out);
+            return end(&Ending::NoCommand(fault), errors);
+        }
+    };
+    match run_line(rt, &line, out) {
+        Ok(notes) => {
+            print_notes(line.inputs(), &notes, errors);
+            end(&Ending::Done, errors)
+        }
+        Err(fault) => {
+            let word = word_of(&line, fault);
+            end(&Ending::Refused { word, fault }, errors)
+        }
+    }
+}
+
+/// Prints an ending to `errors`, as far as that goes, and gives its exit status.
+pub fn end<V: io::Write>(ending: &Ending<'_>, errors: &mut V) -> u8
+    ensures { result ≡ status_of ending.now }
+{
+    let _unwritten = write!(errors, "{ending}");
+    ending.status()
+}
+
+// Prints the text of help that was asked for, as far as that goes.
+fn print_help<W: Write>(fault: &LineFault, out: &mut W) {
+    if let LineFault::Help { text } = fault {
+        let _unwritten = put_all(text.as_bytes(), out);
+    }
+}
+
+// Prints the lines of the inputs' notes, in the inputs' order, as far as that goes.
+fn print_notes<V: io::Write>(words: &[&str], all: &[Notes], errors: &mut V) {
+    for (word, notes) in words.iter().zip(all) {
+        let line = NotesLine {
+            word: *word,
+            notes: *notes,
+        };
+        let _unwritten = write!(errors, "{line}");
+    }
+}
+
+// Reads the files of a command and runs it. What is noted of the inputs is printed for `bill` alone.
+fn run_line<R: Files + AllocGlobal, W: Write>(
+    rt: &R,
+    line: &Line<'_>,
+    out: &mut W,
+) -> Result<Vec<Notes>, RunFault> {
+    match line {
+        Line::Meter { spec, inputs } => {
+            let inputs = read_files(rt, inputs)?;
+            run_meter(rt.alloc(), *spec, &inputs, out)?;
+            Ok(Vec::new(rt.alloc()))
+        }
+        Line::Combine { out: path, inputs } => {
+            let inputs = read_files(rt, inputs)?;
+            let mut export = create(rt, *path)?;
+            run_combine(rt.alloc(), &inputs, &mut export, out)?;
+            Ok(Vec::new(rt.alloc()))
+        }
+        Line::Bill {
+            export,
+            plan,
+            inputs,
+        } => {
+            let plan = read_plan(rt, *plan)?;
+            let inputs = read_files(rt, inputs)?;
+            let mut export = match export {
+                Some(path) => Some(create(rt, *path)?),
+                None => None,
+            };
+            run_bill_plain(rt.alloc(), &plan, &inputs, export.as_mut(), out)
+        }
+    }
+}

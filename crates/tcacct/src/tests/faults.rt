@@ -1,0 +1,115 @@
+use crate::ending::Ending;
+use crate::fault::{Family, RunFault};
+use crate::line::LineFault;
+use crate::notes::NotesLine;
+use std::alloc::{AllocError, Global};
+use std::test::*;
+use tca_report::Notes;
+
+// Each family with its name, in the order of the enum.
+const FAMILIES: [(Family, &str); 9] = [
+    (Family::Read, "read"),
+    (Family::Export, "export"),
+    (Family::Wire, "wire"),
+    (Family::Decode, "decode"),
+    (Family::Plan, "plan"),
+    (Family::Spec, "spec"),
+    (Family::Log, "log"),
+    (Family::Write, "write"),
+    (Family::Memory, "memory"),
+];
+
+#[test]
+fn prints_faults(rt: HostRuntime) -> Result<(), Fail> {
+    let alloc = rt.alloc();
+    for (family, name) in FAMILIES {
+        assert_eq!(rt; format!(in alloc; "{family}")?.as_str(), name);
+        for number in [1u8, 7, 10] {
+            let fault = RunFault {
+                input: Some(3),
+                family,
+                number,
+            };
+            let text = format!(in alloc; "{name} {number}")?;
+            assert_eq!(rt; format!(in alloc; "{fault}")?.as_str(), text.as_str());
+            let line = format!(in alloc; "tcacct: a file: {name} {number}\n")?;
+            let refused = Ending::Refused {
+                word: "a file",
+                fault,
+            };
+            assert_eq!(rt; format!(in alloc; "{refused}")?.as_str(), line.as_str());
+            assert_eq!(rt; refused.status(), 1);
+        }
+    }
+    Ok(())
+}
+
+fn usage(alloc: Global) -> Result<LineFault, AllocError> {
+    Ok(LineFault::Usage {
+        text: String::from_str(alloc, "error: no\n")?,
+    })
+}
+
+fn help(alloc: Global) -> Result<LineFault, AllocError> {
+    Ok(LineFault::Help {
+        text: String::from_str(alloc, "Usage: so\n")?,
+    })
+}
+
+#[test]
+fn prints_and_numbers_line_faults(rt: HostRuntime) -> Result<(), Fail> {
+    let alloc = rt.alloc();
+    for (fault, number, text, line, status) in [
+        (usage(alloc)?, 1, "error: no\n", "error: no\n", 2),
+        (help(alloc)?, 2, "Usage: so\n", "", 0),
+        (
+            LineFault::Memory,
+            3,
+            "no memory is left",
+            "tcacct: tcacct: memory 1\n",
+            1,
+        ),
+    ] {
+        assert_eq!(rt; fault.number(), number);
+        assert_eq!(rt; format!(in alloc; "{fault}")?.as_str(), text);
+        let ending = Ending::NoCommand(fault);
+        assert_eq!(rt; format!(in alloc; "{ending}")?.as_str(), line);
+        assert_eq!(rt; ending.status(), status);
+    }
+    Ok(())
+}
+
+#[test]
+fn prints_notes(rt: HostRuntime) -> Result<(), Fail> {
+    let alloc = rt.alloc();
+    for (not_reports, unplaced, skipped, line) in [
+        ([0; 7], 0, 0, ""),
+        (
+            [1, 20, 0, 0, 0, 0, 300],
+            5,
+            7,
+            "tcacct: a b: notes 321 5 7\n",
+        ),
+        ([0; 7], 0, 7, "tcacct: a b: notes 0 0 7\n"),
+        ([0; 7], 5, 0, "tcacct: a b: notes 0 5 0\n"),
+        ([0, 0, 0, 0, 0, 0, 1], 0, 0, "tcacct: a b: notes 1 0 0\n"),
+        (
+            [u64::MAX; 7],
+            0,
+            0,
+            "tcacct: a b: notes 129127208515966861305 0 0\n",
+        ),
+    ] {
+        let notes = NotesLine {
+            word: "a b",
+            notes: Notes {
+                messages: 1,
+                not_reports,
+                unplaced,
+                skipped,
+            },
+        };
+        assert_eq!(rt; format!(in alloc; "{notes}")?.as_str(), line);
+    }
+    Ok(())
+}

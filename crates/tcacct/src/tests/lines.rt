@@ -1,0 +1,102 @@
+use crate::line::{Line, LineFault, read_line};
+use std::test::*;
+
+#[test]
+fn reads_lines(rt: HostRuntime) -> Result<(), Fail> {
+    let words = ["tcacct", "meter", "s", "a"];
+    match read_line(rt.alloc(), words.as_slice()) {
+        Ok(Line::Meter { spec, inputs }) => {
+            assert_eq!(rt; spec, "s");
+            assert_eq!(rt; inputs.as_slice(), ["a"].as_slice());
+        }
+        _ => return Err("no meter line".into()),
+    }
+    let words = ["tcacct", "combine", "o", "a", "b"];
+    match read_line(rt.alloc(), words.as_slice()) {
+        Ok(Line::Combine { out, inputs }) => {
+            assert_eq!(rt; out, "o");
+            assert_eq!(rt; inputs.as_slice(), ["a", "b"].as_slice());
+        }
+        _ => return Err("no combine line".into()),
+    }
+    let words = ["tcacct", "bill", "--export", "o", "p", "a", "b"];
+    match read_line(rt.alloc(), words.as_slice()) {
+        Ok(
+            Line::Bill {
+                export,
+                plan,
+                inputs,
+            },
+        ) => {
+            assert_eq!(rt; export, Some("o"));
+            assert_eq!(rt; plan, "p");
+            assert_eq!(rt; inputs.as_slice(), ["a", "b"].as_slice());
+        }
+        _ => return Err("no bill line".into()),
+    }
+    Ok(())
+}
+
+#[test]
+fn refuses_wrong_lines(rt: HostRuntime) -> Result<(), Fail> {
+    let lines: [(&[&str], &str); 10] = [
+        (&[], "Usage: tcacct"),
+        (&["tcacct"], "Usage: tcacct"),
+        (&["tcacct", "audit", "p", "e", "s"], "'audit'"),
+        (&["tcacct", "meter", "s"], "<INPUT>"),
+        (&["tcacct", "meter", "s", "a", "b", "c"], "'c'"),
+        (&["tcacct", "combine", "o"], "<INPUT>"),
+        (&["tcacct", "bill", "p"], "<INPUT>"),
+        (
+            &["tcacct", "bill", "--workers", "2", "p", "a"],
+            "'--workers'",
+        ),
+        (
+            &["tcacct", "bill", "--export", "o", "--export", "o", "p", "a"],
+            "'--export <OUT>'",
+        ),
+        (
+            &["tcacct", "bill", "p", "a", "--export"],
+            "'--export <OUT>'",
+        ),
+    ];
+    for (words, part) in lines {
+        match read_line(rt.alloc(), words) {
+            Err(LineFault::Usage { text }) => {
+                assert!(rt; text.as_str().contains(part), "{words:?}: {text}");
+            }
+            _ => return Err("no usage".into()),
+        }
+    }
+    Ok(())
+}
+
+#[test]
+fn gives_help(rt: HostRuntime) -> Result<(), Fail> {
+    let lines: [(&[&str], &str); 6] = [
+        (&["tcacct", "--help"], "Usage: tcacct <COMMAND>"),
+        (&["tcacct", "-h"], "Usage: tcacct <COMMAND>"),
+        (&["tcacct", "help"], "Usage: tcacct <COMMAND>"),
+        (
+            &["tcacct", "help", "meter"],
+            "Usage: tcacct meter <SPEC> <INPUT>",
+        ),
+        (
+            &["tcacct", "meter", "--help"],
+            "Usage: tcacct meter <SPEC> <INPUT>",
+        ),
+        (
+            &["tcacct", "bill", "--help"],
+            "Usage: tcacct bill [OPTIONS] <PLAN> <INPUT>",
+        ),
+    ];
+    for (words, part) in lines {
+        match read_line(rt.alloc(), words) {
+            Err(LineFault::Help { text }) => {
+                assert!(rt; text.as_str().contains(part), "{words:?}: {text}");
+            }
+            _ => return Err("no help".into()),
+        }
+    }
+    Ok(())
+}
