@@ -7,21 +7,21 @@ use Rattle.std.proofs.lemmas.List.Concat.{flat_map-cons}
 use Rattle.tca_join.specs.Sets.{has, in_order}
 use Rattle.tca_join.proofs.Sets.{has-append, has-in_order}
 use Rattle.tca_join.proofs.Merge.{in_order_of_rising, in_order_alike}
-use Rattle.tca_report.specs.Reports.{PacketReport, report_cmp}
-use Rattle.tca_report.proofs.Order.{report_total, report_exact}
-use Rattle.tcacct.specs.Runs.{Says, AllSay, IsUnion}
+use Rattle.tca_report.specs.report.Reports.{PacketReport, report_cmp}
+use Rattle.tca_report.proofs.lemmas.report.Order.{report_total, report_exact}
+use Rattle.tcacct.specs.Runs.{HoldsReports, HoldReports, IsUnion}
 
 -- the reports that the inputs say, together with a set
 pub record IsUnionWith (held : List PacketReport) (inputs : List (List ℕ)) (rs : List PacketReport) : Type 0 where
   pub lists : List (List PacketReport)
-  pub say : AllSay inputs lists
+  pub hold : HoldReports inputs lists
   pub whole : rs ≡ in_order report_cmp (held ++ flat_map (λ rs. rs) lists)
 
 pub no_input : (held : List PacketReport) → IsStrictlySortedBy report_cmp held → IsUnionWith held [] held
-unfolding AllSay
+unfolding HoldReports
 no_input held rises = record {
   lists = [];
-  say = tt;
+  hold = tt;
   whole = sym (ap (in_order report_cmp) (append-nil held) ∙ in_order_of_rising report_cmp report_total report_exact held rises);
 }
 
@@ -33,14 +33,14 @@ inside a b = in_order_alike report_cmp report_total report_exact (in_order repor
     ∙ sym (has-append report_cmp report_total a b q))
 
 -- one input more in front
-pub in_front : (held first more rs : List PacketReport) (input : List ℕ) (inputs : List (List ℕ)) → Says input first → more ≡ in_order report_cmp (held ++ first)
+pub in_front : (held first more rs : List PacketReport) (input : List ℕ) (inputs : List (List ℕ)) → HoldsReports input first → more ≡ in_order report_cmp (held ++ first)
     → IsUnionWith more inputs rs → IsUnionWith held (input ∷ inputs) rs
-unfolding AllSay
+unfolding HoldReports
 in_front held first more rs input inputs said is all =
     let rest = flat_map (λ rs. rs) all.lists in
     record {
       lists = first ∷ all.lists;
-      say = (said, all.say);
+      hold = (said, all.hold);
       whole =
           all.whole
           ∙ ap (λ (l : List PacketReport). in_order report_cmp (l ++ rest)) is
@@ -49,4 +49,4 @@ in_front held first more rs input inputs said is all =
     }
 
 pub as_union : (inputs : List (List ℕ)) (rs : List PacketReport) → IsUnionWith [] inputs rs → IsUnion inputs rs
-as_union inputs rs all = record { lists = all.lists; say = all.say; whole = all.whole }
+as_union inputs rs all = record { lists = all.lists; hold = all.hold; whole = all.whole }

@@ -4,34 +4,34 @@ use Rattle.std.specs.Prelude.{IsOk}
 use Rattle.std.proofs.lemmas.List.{length-map, length-take-le, map-append, take-map, take_more}
 use Rattle.std.proofs.Math.Seq.{drop-cons}
 use Rattle.std.proofs.Math.ListN.{drop_of_length-le}
-use Rattle.tca_report.specs.Reports.{PacketReport}
-use Rattle.tca_report.specs.Inputs.{input_of}
+use Rattle.tca_report.specs.report.Reports.{PacketReport}
+use Rattle.tca_report.specs.input.Inputs.{input_of}
 use Rattle.tcacct.specs.declared.fault.RunFault.{RunFault}
-use Rattle.tcacct.specs.Runs.{IsInTurn, IsRefusedAs, and_then, gathered, is_log_memory, with_input}
+use Rattle.tcacct.specs.Runs.{IsInTurn, IsRefusedAs, and_then, united, is_log_memory, with_input}
 
 cut : {X : Type 0} (f : X → List ℕ) (xs : List X) (i : ℕ) (x : X) → i < length xs → x ≡ get_or xs i x → map f (drop i xs) ≡ f x ∷ map f (drop (i + 1) xs)
 cut f xs i x h is = rw add-one (ap (map f) (drop-cons xs i x h) ∙ ap (λ y. f y ∷ map f (drop (suc i) xs)) (sym is))
 
 module _ {X : Type 0} (f : X → List ℕ) (inputs : List X) (n : ℕ) (held : List PacketReport) (total : Result (List PacketReport) RunFault)
-    (so_far : gathered n held (map f (drop n inputs)) ≡ total) where
+    (so_far : united n held (map f (drop n inputs)) ≡ total) where
   -- what an input makes of the rest
-  one_more : (input : X) → n < length inputs → input ≡ get_or inputs n input → and_then (with_input n held (input_of (f input))) (λ more. gathered (n + 1) more (map f (drop (n + 1) inputs))) ≡ total
-  unfolding gathered
-  one_more input h is = sym (ap (gathered n held) (cut f inputs n input h is)) ∙ so_far
+  one_more : (input : X) → n < length inputs → input ≡ get_or inputs n input → and_then (with_input n held (input_of (f input))) (λ more. united (n + 1) more (map f (drop (n + 1) inputs))) ≡ total
+  unfolding united
+  one_more input h is = sym (ap (united n held) (cut f inputs n input h is)) ∙ so_far
 
   pub goes_on : (input : X) (more : List PacketReport) → n < length inputs → input ≡ get_or inputs n input → with_input n held (input_of (f input)) ≡ Ok more
-      → gathered (n + 1) more (map f (drop (n + 1) inputs)) ≡ total
-  goes_on input more h is taken = sym (ap (λ r. and_then r (λ more. gathered (n + 1) more (map f (drop (n + 1) inputs)))) taken) ∙ one_more input h is
+      → united (n + 1) more (map f (drop (n + 1) inputs)) ≡ total
+  goes_on input more h is taken = sym (ap (λ r. and_then r (λ more. united (n + 1) more (map f (drop (n + 1) inputs)))) taken) ∙ one_more input h is
 
   pub refused : (input : X) (fault : RunFault) → n < length inputs → input ≡ get_or inputs n input → IsRefusedAs fault (with_input n held (input_of (f input))) → IsRefusedAs fault total
-  refused input fault h is as_said = λ other. sym (one_more input h is) ∙ ap (λ r. and_then r (λ more. gathered (n + 1) more (map f (drop (n + 1) inputs)))) (as_said other)
+  refused input fault h is as_said = λ other. sym (one_more input h is) ∙ ap (λ r. and_then r (λ more. united (n + 1) more (map f (drop (n + 1) inputs)))) (as_said other)
 
   pub cut_here : (input : X) → n < length inputs → input ≡ get_or inputs n input → map f (drop n inputs) ≡ f input ∷ map f (drop (n + 1) inputs)
   cut_here input h is = cut f inputs n input h is
 
   pub all_in : length inputs ≤ n → total ≡ Ok held
-  unfolding gathered
-  all_in h = sym so_far ∙ ap (λ (rest : List X). gathered n held (map f rest)) (drop_of_length-le inputs h)
+  unfolding united
+  all_in h = sym so_far ∙ ap (λ (rest : List X). united n held (map f rest)) (drop_of_length-le inputs h)
 
 same_held : (a b : List PacketReport) (r : Result (List PacketReport) RunFault) → r ≡ Ok a → r ≡ Ok b → a ≡ b
 same_held a b r one other = let both : Ok a ≡ Ok b = sym one ∙ other in cc
@@ -44,39 +44,39 @@ through (Err e) f g b c done more = absurd cc
 
 -- one input more at the end
 one_behind : (first n : ℕ) (held : List PacketReport) (inputs : List (List ℕ)) (input : List ℕ) (so_far more : List PacketReport) → first + length inputs ≡ n
-    → gathered first held inputs ≡ Ok so_far → with_input n so_far (input_of input) ≡ Ok more → gathered first held (inputs ++ input ∷ []) ≡ Ok more
-unfolding gathered
+    → united first held inputs ≡ Ok so_far → with_input n so_far (input_of input) ≡ Ok more → united first held (inputs ++ input ∷ []) ≡ Ok more
+unfolding united
 one_behind first n held [] input so_far more count taken next =
     let place : first ≡ n = omega (arith, count) in
-    let same : held ≡ so_far = same_held held so_far (gathered first held []) refl taken in
-    ap (λ r. and_then r (λ rs. gathered (first + 1) rs [])) (ap₂ (λ k rs. with_input k rs (input_of input)) place same ∙ next)
+    let same : held ≡ so_far = same_held held so_far (united first held []) refl taken in
+    ap (λ r. and_then r (λ rs. united (first + 1) rs [])) (ap₂ (λ k rs. with_input k rs (input_of input)) place same ∙ next)
 one_behind first n held (x ∷ xs) input so_far more count taken next =
-    through (with_input first held (input_of x)) (λ rs. gathered (first + 1) rs xs) (λ rs. gathered (first + 1) rs (xs ++ input ∷ [])) so_far more taken
+    through (with_input first held (input_of x)) (λ rs. united (first + 1) rs xs) (λ rs. united (first + 1) rs (xs ++ input ∷ [])) so_far more taken
     (λ rs on. one_behind (first + 1) n rs xs input so_far more (omega (arith, count)) on next)
 
 -- before the first input
-pub none_taken : gathered 0 [] [] ≡ Ok []
-unfolding gathered
+pub none_taken : united 0 [] [] ≡ Ok []
+unfolding united
 none_taken = refl
 
-module _ {X : Type 0} (f : X → List ℕ) (inputs : List X) (n : ℕ) (so_far : List PacketReport) (inside : n < length inputs) (taken : gathered 0 [] (map f (take n inputs)) ≡ Ok so_far) where
+module _ {X : Type 0} (f : X → List ℕ) (inputs : List X) (n : ℕ) (so_far : List PacketReport) (inside : n < length inputs) (taken : united 0 [] (map f (take n inputs)) ≡ Ok so_far) where
   -- once an input was taken all up to it were
-  pub one_taken : (input : X) (more : List PacketReport) → input ≡ get_or inputs n input → with_input n so_far (input_of (f input)) ≡ Ok more → gathered 0 [] (map f (take (n + 1) inputs)) ≡ Ok more
+  pub one_taken : (input : X) (more : List PacketReport) → input ≡ get_or inputs n input → with_input n so_far (input_of (f input)) ≡ Ok more → united 0 [] (map f (take (n + 1) inputs)) ≡ Ok more
   one_taken input more is next =
       let cut : map f (take (n + 1) inputs) ≡ map f (take n inputs) ++ f input ∷ [] =
       ap (map f) (take_more inputs n input inside) ∙ map-append f (take n inputs) (get_or inputs n input ∷ []) ∙ ap (λ x. map f (take n inputs) ++ f x ∷ []) (sym is) in
       let count : 0 + length (map f (take n inputs)) ≡ n = omega (arith, length-map (take n inputs) f, length-take-le n inputs (omega (arith, inside))) in
-      ap (gathered 0 []) cut ∙ one_behind 0 n [] (map f (take n inputs)) (f input) so_far more count taken next
+      ap (united 0 []) cut ∙ one_behind 0 n [] (map f (take n inputs)) (f input) so_far more count taken next
 
   -- a refusal that names the next input
   pub in_turn : (input : X) (e : RunFault) → input ≡ get_or inputs n input → e.input ≡ Some n → (is_log_memory e ≡ true → IsOk (with_input n so_far (input_of (f input))))
       → IsInTurn (map f inputs) e
   in_turn input e here is wanted = rw is (
     omega (arith, inside, length-map inputs f),
-    ap is_ok (ap (gathered 0 []) (take-map f n inputs) ∙ taken),
+    ap is_ok (ap (united 0 []) (take-map f n inputs) ∙ taken),
     λ short. all_taken (with_input n so_far (input_of (f input))) refl (wanted short),
   )
     where
-      all_taken : (r : Result (List PacketReport) RunFault) → with_input n so_far (input_of (f input)) ≡ r → IsOk r → IsOk (gathered 0 [] (take (n + 1) (map f inputs)))
-      all_taken (Ok more) k ok = ap is_ok (ap (gathered 0 []) (take-map f (n + 1) inputs) ∙ one_taken input more here k)
+      all_taken : (r : Result (List PacketReport) RunFault) → with_input n so_far (input_of (f input)) ≡ r → IsOk r → IsOk (united 0 [] (take (n + 1) (map f inputs)))
+      all_taken (Ok more) k ok = ap is_ok (ap (united 0 []) (take-map f (n + 1) inputs) ∙ one_taken input more here k)
       all_taken (Err x) k ok = absurd cc

@@ -4,10 +4,10 @@ use Rattle.std.specs.Prelude.{◌≡◌, ◌≢◌, ◌⊎◌, ℕ, List, [], Op
 use Rattle.std.specs.Borrow.{MutBor}
 use Rattle.std.specs.Io.KnownBytes.{Appends}
 use Rattle.toml.specs.Parse.{parse_document}
-use Rattle.tca_report.specs.Devices.{Rises}
-use Rattle.tca_report.specs.Reports.{PacketReport}
-use Rattle.tca_report.specs.Export.{export}
-use Rattle.tca_report.specs.declared.inputs.Notes.{Notes}
+use Rattle.tca_report.specs.device.Devices.{Rises}
+use Rattle.tca_report.specs.report.Reports.{PacketReport}
+use Rattle.tca_report.specs.export.Spelling.{export}
+use Rattle.tca_report.specs.declared.input.Notes.{Notes}
 use Rattle.tca_accounts.specs.Plans.{AccountPlan}
 use Rattle.tca_accounts.specs.Documents.{plan_in}
 use Rattle.tca_accounts.specs.Bills.{bill_of}
@@ -17,7 +17,7 @@ use Rattle.tca_accounts.specs.declared.fault.PlanFault.TheVariants.{Syntax, Memo
 use Rattle.tca_statements.specs.Statements.{statement_text}
 use Rattle.tcacct.specs.declared.fault.RunFault.{RunFault}
 use Rattle.tcacct.specs.declared.fault.Family.TheVariants as family
-use Rattle.tcacct.specs.Runs.{IsCutOff, IsUnion, gathered, refusal, wants_memory}
+use Rattle.tcacct.specs.Runs.{IsCutOff, IsUnion, united, refusal, wants_memory}
 use Rattle.tcacct.specs.Noted.{AreNotes}
 
 -- a text is this plan
@@ -70,7 +70,7 @@ pub record IsBilled (plan : List ℕ) (inputs : List (List ℕ)) (old_export new
 abbrev pub IsBillRefused : List ℕ → List (List ℕ) → RunFault → Type 0
 IsBillRefused plan inputs e = wants_memory e ≡ false
     → ((f : PlanFault) × RefusesPlan plan f × (e ≡ refusal None family.Plan (plan_number f)))
-    ⊎ ((p : AccountPlan) × IsPlanOf plan p × (gathered 0 [] inputs ≡ Err e))
+    ⊎ ((p : AccountPlan) × IsPlanOf plan p × (united 0 [] inputs ≡ Err e))
 
 -- a device was given, and of these octets only a part went out to it
 abbrev pub IsCutOffGiven : List ℕ → Option (Option (List ℕ)) → Option (Option (List ℕ)) → Option ℕ → Option ℕ → Type 0

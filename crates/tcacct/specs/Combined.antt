@@ -1,8 +1,8 @@
 -- What the command `combine` writes and prints.
 use Rattle.std.specs.Prelude.{◌≡◌, ◌⊎◌, ℕ, List, length, Option, None}
 use Rattle.std.specs.Io.KnownBytes.{Appends}
-use Rattle.tca_report.specs.Reports.{PacketReport}
-use Rattle.tca_report.specs.Export.{export}
+use Rattle.tca_report.specs.report.Reports.{PacketReport}
+use Rattle.tca_report.specs.export.Spelling.{export}
 use Rattle.tcacct.specs.Texts.{combine_text}
 use Rattle.tcacct.specs.declared.fault.RunFault.{RunFault}
 use Rattle.tcacct.specs.declared.fault.Family.TheVariants as family

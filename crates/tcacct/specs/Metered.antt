@@ -1,7 +1,7 @@
 -- What the command `meter` prints.
 use Rattle.std.specs.Prelude.{◌≡◌, ℕ, List, [], Option, None, Result, Ok, Err}
 use Rattle.std.specs.Io.KnownBytes.{Appends}
-use Rattle.tca_report.specs.Reports.{PacketReport}
+use Rattle.tca_report.specs.report.Reports.{PacketReport}
 use Rattle.tca_meters.specs.declared.colour.Colour.TheVariants.{Green}
 use Rattle.tca_meters.specs.declared.spec.SpecFault.{SpecFault}
 use Rattle.tca_meters.specs.Packets.{colours}
@@ -13,7 +13,7 @@ use Rattle.tca_accounts.specs.Sums.{packet_of, sums_of}
 use Rattle.tcacct.specs.declared.fault.RunFault.{RunFault}
 use Rattle.tcacct.specs.declared.fault.Family.TheVariants as family
 use Rattle.tcacct.specs.Texts.{meter_text}
-use Rattle.tcacct.specs.Runs.{IsCutOff, IsUnion, refusal, and_then, gathered}
+use Rattle.tcacct.specs.Runs.{IsCutOff, IsUnion, refusal, and_then, united}
 
 -- the lines of a set: the sums of its undisputed reports in order, with the colours that the meter gives them from time 0 on,
 -- where the precolour of a code point that has none is green
@@ -27,7 +27,7 @@ spec_said (Err fault) = Err (refusal None family.Spec (spec_number fault))
 
 -- the lines for a spec and inputs, or the first refusal: of the spec, then of the inputs in order
 abbrev pub metering : List ℕ → List (List ℕ) → Result (List ℕ) RunFault
-metering spec inputs = and_then (spec_said (spec_in spec)) (λ meter. and_then (gathered 0 [] inputs) (λ rs. Ok (metered_lines meter rs)))
+metering spec inputs = and_then (spec_said (spec_in spec)) (λ meter. and_then (united 0 [] inputs) (λ rs. Ok (metered_lines meter rs)))
 
 -- the spec names a meter, each input is a log export or a capture, and what went out is the lines of the union of them all
 pub record IsMetered (spec : List ℕ) (inputs : List (List ℕ)) (old new : Option (List ℕ)) : Type 0 where

@@ -1,14 +1,14 @@
 -- What the inputs of a command held beside reports.
 use Rattle.std.specs.Prelude.{◌≡◌, ◌==◌, ◌&&◌, ℕ, List, [], ◌∷◌, Option, Some, None, Ok, sum_by, if◌then◌else◌}
-use Rattle.tca_report.specs.Inputs.{Heard, input_of}
-use Rattle.tca_report.specs.Gathering.{notes_of}
-use Rattle.tca_report.specs.declared.inputs.Notes.{Notes}
+use Rattle.tca_report.specs.input.Inputs.{CaptureSoFar, input_of}
+use Rattle.tca_report.specs.input.Gathered.{notes_of}
+use Rattle.tca_report.specs.declared.input.Notes.{Notes}
 
 -- These are the notes of what an input says, a log export or a capture.
 pub record IsNoted (input : List ℕ) (notes : Notes) : Type 0 where
-  pub heard : Heard
-  pub read : input_of input ≡ Ok heard
-  pub notes_are : notes ≡ notes_of heard
+  pub so_far : CaptureSoFar
+  pub read : input_of input ≡ Ok so_far
+  pub notes_are : notes ≡ notes_of so_far
 
 -- Each input has the notes beside it.
 unfoldable pub AreNotes : List (List ℕ) → List Notes → Type 0

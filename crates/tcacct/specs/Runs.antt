@@ -3,31 +3,31 @@ use Rattle.std.specs.Prelude.{◌≡◌, ◌==◌, ℕ, ◌+◌, ◌<◌, Bool, 
 use Rattle.std.specs.Io.KnownBytes.{Appends}
 use Rattle.std.specs.List.{flat_map}
 use Rattle.tca_join.specs.Sets.{in_order}
-use Rattle.tca_report.specs.Devices.{Rises}
-use Rattle.tca_report.specs.Reports.{PacketReport, report_cmp}
+use Rattle.tca_report.specs.device.Devices.{Rises}
+use Rattle.tca_report.specs.report.Reports.{PacketReport, report_cmp}
 use Rattle.tca_wire.specs.Faults.{wire_number}
 use Rattle.tca_templates.specs.Faults.{decode_number}
-use Rattle.tca_report.specs.Export.{most_reports}
-use Rattle.tca_report.specs.FaultNumbers.{export_number}
-use Rattle.tca_report.specs.Inputs.{Heard, input_of}
-use Rattle.tca_report.specs.declared.inputs.InputFault.{InputFault}
-use Rattle.tca_report.specs.declared.inputs.InputFault.TheVariants.{Export, Wire, Decode, Memory}
+use Rattle.tca_report.specs.export.Spelling.{most_reports}
+use Rattle.tca_report.specs.Faults.{export_number}
+use Rattle.tca_report.specs.input.Inputs.{CaptureSoFar, input_of}
+use Rattle.tca_report.specs.declared.input.InputFault.{InputFault}
+use Rattle.tca_report.specs.declared.input.InputFault.TheVariants.{Export, Wire, Decode, Memory}
 use Rattle.tcacct.specs.declared.fault.RunFault.{RunFault}
 use Rattle.tcacct.specs.declared.fault.Family.{Family}
 use Rattle.tcacct.specs.declared.fault.Family.TheVariants as family
 
 -- These are the reports that an input says, a log export or a capture, in its order.
-pub record Says (input : List ℕ) (rs : List PacketReport) : Type 0 where
-  pub heard : Heard
-  pub read : input_of input ≡ Ok heard
-  pub reports : rs ≡ heard.reports
+pub record HoldsReports (input : List ℕ) (rs : List PacketReport) : Type 0 where
+  pub so_far : CaptureSoFar
+  pub read : input_of input ≡ Ok so_far
+  pub reports : rs ≡ so_far.reports
 
 -- Each input says the list beside it.
-unfoldable pub AllSay : List (List ℕ) → List (List PacketReport) → Type 0
-AllSay [] [] = Unit {0}
-AllSay (input ∷ inputs) (rs ∷ lists) = Says input rs × AllSay inputs lists
-AllSay [] (rs ∷ lists) = ⊥
-AllSay (input ∷ inputs) [] = ⊥
+unfoldable pub HoldReports : List (List ℕ) → List (List PacketReport) → Type 0
+HoldReports [] [] = Unit {0}
+HoldReports (input ∷ inputs) (rs ∷ lists) = HoldsReports input rs × HoldReports inputs lists
+HoldReports [] (rs ∷ lists) = ⊥
+HoldReports (input ∷ inputs) [] = ⊥
 
 -- the reports of all lists, each once and in order
 abbrev pub union_of : List (List PacketReport) → List PacketReport
@@ -36,7 +36,7 @@ union_of lists = in_order report_cmp (flat_map (λ rs. rs) lists)
 -- the reports that the inputs say together, each once and in order
 pub record IsUnion (inputs : List (List ℕ)) (rs : List PacketReport) : Type 0 where
   pub lists : List (List PacketReport)
-  pub say : AllSay inputs lists
+  pub hold : HoldReports inputs lists
   pub whole : rs ≡ union_of lists
 
 abbrev pub refusal : Option ℕ → Family → ℕ → RunFault
@@ -56,7 +56,7 @@ with_reports n held rs =
     else Ok (in_order report_cmp (held ++ rs))
 
 -- a set with the reports of input n, or the refusal of that input: it has a fault, or the union would have too many reports
-abbrev pub with_input : ℕ → List PacketReport → Result Heard InputFault → Result (List PacketReport) RunFault
+abbrev pub with_input : ℕ → List PacketReport → Result CaptureSoFar InputFault → Result (List PacketReport) RunFault
 with_input n held (Ok h) = with_reports n held h.reports
 with_input n held (Err fault) = Err (input_refusal n fault)
 
@@ -65,9 +65,9 @@ and_then (Ok a) f = f a
 and_then (Err e) f = Err e
 
 -- a set with the reports of all inputs, of which the first has number n, or the first refusal of one
-unfoldable pub gathered : ℕ → List PacketReport → List (List ℕ) → Result (List PacketReport) RunFault
-gathered n held [] = Ok held
-gathered n held (input ∷ inputs) = and_then (with_input n held (input_of input)) (λ more. gathered (n + 1) more inputs)
+unfoldable pub united : ℕ → List PacketReport → List (List ℕ) → Result (List PacketReport) RunFault
+united n held [] = Ok held
+united n held (input ∷ inputs) = and_then (with_input n held (input_of input)) (λ more. united (n + 1) more inputs)
 
 abbrev pub is_family : Family → Family → Bool
 is_family family.Export family.Export = true
@@ -96,8 +96,8 @@ is_log_memory e = is_family e.family family.Log && (e.number == 2)
 -- a refusal that names no input comes where all of them were taken; one that names an input where all before it were, and where the
 -- log had no memory for its reports nothing is wrong with that input itself
 abbrev pub IsNamed : List (List ℕ) → Bool → Option ℕ → Type 0
-IsNamed inputs wanted None = IsOk (gathered 0 [] inputs)
-IsNamed inputs wanted (Some n) = (n < length inputs) × IsOk (gathered 0 [] (take n inputs)) × (wanted ≡ true → IsOk (gathered 0 [] (take (n + 1) inputs)))
+IsNamed inputs wanted None = IsOk (united 0 [] inputs)
+IsNamed inputs wanted (Some n) = (n < length inputs) × IsOk (united 0 [] (take n inputs)) × (wanted ≡ true → IsOk (united 0 [] (take (n + 1) inputs)))
 
 -- a refusal comes in the inputs' order
 abbrev pub IsInTurn : List (List ℕ) → RunFault → Type 0

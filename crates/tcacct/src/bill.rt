@@ -1,10 +1,10 @@
 //! The command `bill`.
 ghost use Rattle.std.specs.Prelude.{◌≡◌, ◌<◌, ◌^◌, ◌⊎◌, [], OnOk, IfOk, IfErr, IsOk, true, false, length, map};
-ghost use Rattle.tca_report.specs.Devices.{Rises};
+ghost use Rattle.tca_report.specs.device.Devices.{Rises};
 ghost use Rattle.tca_accounts.specs.Plans.{AccountPlan};
 ghost use Rattle.tcacct.specs.Billed.{AppendsIfGiven, IsBillCutOff, IsBilled, IsBillRefused, IsPlanOf, RisesGiven, after, before, statement_under};
 ghost use Rattle.tcacct.specs.Noted.{AreNotes};
-ghost use Rattle.tcacct.specs.Runs.{IsInTurn, IsUnion, gathered, is_family, is_write};
+ghost use Rattle.tcacct.specs.Runs.{IsInTurn, IsUnion, united, is_family, is_write};
 ghost use Rattle.tcacct.specs.declared.fault.Family.TheVariants as family;
 
 use crate::combine::listed;
@@ -33,7 +33,7 @@ fn billed(
     requires { length inputs.now < 2 ^ 32 }
     ensures found { IfOk result (λ x. (p : AccountPlan) × IsPlanOf plan.now p × (x.0 ≡ statement_under p x.1)) }
     ensures union { IfOk result (λ x. IsUnion (map (λ v. v.items) inputs.now) x.1) }
-    ensures taken { OnOk result (IsOk (gathered 0 [] (map (λ v. v.items) inputs.now))) }
+    ensures taken { OnOk result (IsOk (united 0 [] (map (λ v. v.items) inputs.now))) }
     ensures noted { IfOk result (λ x. AreNotes (map (λ v. v.items) inputs.now) x.2.items) }
     ensures no_write { IfErr result (λ e. is_write e ≡ false) }
     ensures refused { IfErr result (IsBillRefused plan.now (map (λ v. v.items) inputs.now)) }

@@ -1,11 +1,11 @@
 //! The command `combine`.
 ghost use Rattle.std.specs.Prelude.{◌≡◌, ◌<◌, ◌≤◌, ◌^◌, ◌⊎◌, Ok, [], OnOk, IfOk, IfErr, MatchResult, true, false, length, map, string_bytes};
 ghost use Rattle.std.specs.List.Sorted.{IsStrictlySortedBy};
-ghost use Rattle.tca_report.specs.Devices.{Rises};
-ghost use Rattle.tca_report.specs.Reports.{report_cmp};
+ghost use Rattle.tca_report.specs.device.Devices.{Rises};
+ghost use Rattle.tca_report.specs.report.Reports.{report_cmp};
 ghost use Rattle.tcacct.specs.Combined.{IsCombined, IsCombiningCutOff};
 ghost use Rattle.tcacct.specs.Texts.{combine_text};
-ghost use Rattle.tcacct.specs.Runs.{IsInTurn, IsRefusedAs, IsUnion, gathered, is_write};
+ghost use Rattle.tcacct.specs.Runs.{IsInTurn, IsRefusedAs, IsUnion, united, is_write};
 
 use crate::fault::RunFault;
 use crate::inputs::gather_all;
@@ -36,8 +36,8 @@ fn union_of(alloc: Global, inputs: &[Vec<u8>]) -> Result<(Vec<Report>, String), 
     ensures line { IfOk result (λ x. string_bytes x.1 ≡ combine_text (length x.0.items)) }
     ensures no_write { IfErr result (λ e. is_write e ≡ false) }
     ensures turn { IfErr result (λ e. IsInTurn (map (λ v. v.items) inputs.now) e) }
-    ensures exact { MatchResult result (λ x. gathered 0 [] (map (λ v. v.items) inputs.now) ≡ Ok x.0.items)
-        (λ e. IsRefusedAs e (gathered 0 [] (map (λ v. v.items) inputs.now))) }
+    ensures exact { MatchResult result (λ x. united 0 [] (map (λ v. v.items) inputs.now) ≡ Ok x.0.items)
+        (λ e. IsRefusedAs e (united 0 [] (map (λ v. v.items) inputs.now))) }
 {
     let log = match gather_all(alloc, inputs) {
         Ok(log) => log,
@@ -70,7 +70,7 @@ pub fn run_combine<W: Write, V: Write>(
         (V.written export.old) (V.written export.new) (W.written out.old) (W.written out.new)) }
     ensures calm { OnOk result ((V.failures export.new ≡ V.failures export.old) × (W.failures out.new ≡ W.failures out.old)) }
     ensures refused { IfErr result (λ e. is_write e ≡ false
-        → IsRefusedAs e (gathered 0 [] (map (λ v. v.items) inputs.now))) }
+        → IsRefusedAs e (united 0 [] (map (λ v. v.items) inputs.now))) }
     // No refusal comes before that of an earlier input, also for want of memory.
     ensures turn { IfErr result (λ e. IsInTurn (map (λ v. v.items) inputs.now) e) }
     ensures untouched { IfErr result (λ e. is_write e ≡ false

@@ -2,10 +2,10 @@
 ghost use Rattle.std.specs.Prelude.{◌≡◌, ◌<◌, ◌^◌, ◌++◌, List, Ok, Some, [], IfErr, IfOk, IsOk, OnOk, false, true, length, map, MatchResult};
 ghost use Rattle.std.specs.List.Sorted.{IsStrictlySortedBy};
 ghost use Rattle.tca_join.specs.Sets.{in_order};
-ghost use Rattle.tca_report.specs.Reports.{PacketReport, report_cmp};
-ghost use Rattle.tca_report.specs.Inputs.{input_of};
+ghost use Rattle.tca_report.specs.report.Reports.{PacketReport, report_cmp};
+ghost use Rattle.tca_report.specs.input.Inputs.{input_of};
 ghost use Rattle.tcacct.specs.Noted.{AreNotes, IsNoted};
-ghost use Rattle.tcacct.specs.Runs.{IsInTurn, IsRefusedAs, IsUnion, Says, gathered, is_log_memory, is_write, with_input};
+ghost use Rattle.tcacct.specs.Runs.{IsInTurn, IsRefusedAs, IsUnion, HoldsReports, united, is_log_memory, is_write, with_input};
 
 use crate::fault::RunFault;
 use std::alloc::Global;
@@ -16,7 +16,7 @@ use tca_report::{InputFault, Notes, gather};
 fn add_input(alloc: Global, n: u32, octets: &[u8], log: &mut Log) -> Result<Notes, RunFault>
     ensures exact { MatchResult result (λ _. with_input n log.old (input_of octets.now) ≡ Ok log.new)
         (λ e. IsRefusedAs e (with_input n log.old (input_of octets.now))) }
-    ensures found { OnOk result ((rs : List PacketReport) × Says octets.now rs
+    ensures found { OnOk result ((rs : List PacketReport) × HoldsReports octets.now rs
         × (log.new ≡ in_order report_cmp (log.old ++ rs))) }
     ensures no_write { IfErr result (λ e. is_write e ≡ false) }
     ensures named { IfErr result (λ e. e.input ≡ Some n) }
@@ -46,8 +46,8 @@ pub fn gather_noted(alloc: Global, inputs: &[Vec<u8>]) -> Result<(Log, Vec<Notes
     ensures noted { IfOk result (λ x. AreNotes (map (λ v. v.items) inputs.now) x.1.items) }
     ensures no_write { IfErr result (λ e. is_write e ≡ false) }
     ensures turn { IfErr result (λ e. IsInTurn (map (λ v. v.items) inputs.now) e) }
-    ensures exact { MatchResult result (λ x. gathered 0 [] (map (λ v. v.items) inputs.now) ≡ Ok x.0)
-        (λ e. IsRefusedAs e (gathered 0 [] (map (λ v. v.items) inputs.now))) }
+    ensures exact { MatchResult result (λ x. united 0 [] (map (λ v. v.items) inputs.now) ≡ Ok x.0)
+        (λ e. IsRefusedAs e (united 0 [] (map (λ v. v.items) inputs.now))) }
 {
     let mut log = Log::new(alloc);
     let mut all = Vec::new(alloc);
@@ -70,8 +70,8 @@ pub fn gather_all(alloc: Global, inputs: &[Vec<u8>]) -> Result<Log, RunFault>
     ensures found { IfOk result (λ log. IsUnion (map (λ v. v.items) inputs.now) log) }
     ensures no_write { IfErr result (λ e. is_write e ≡ false) }
     ensures turn { IfErr result (λ e. IsInTurn (map (λ v. v.items) inputs.now) e) }
-    ensures exact { MatchResult result (λ log. gathered 0 [] (map (λ v. v.items) inputs.now) ≡ Ok log)
-        (λ e. IsRefusedAs e (gathered 0 [] (map (λ v. v.items) inputs.now))) }
+    ensures exact { MatchResult result (λ log. united 0 [] (map (λ v. v.items) inputs.now) ≡ Ok log)
+        (λ e. IsRefusedAs e (united 0 [] (map (λ v. v.items) inputs.now))) }
 {
     match gather_noted(alloc, inputs) {
         Ok((log, _)) => Ok(log),

@@ -1,15 +1,15 @@
 //! The command `meter`.
 ghost use Rattle.std.specs.Prelude.{◌≡◌, ◌<◌, ◌≤◌, ◌^◌, List, [], Ok, OnOk, IfOk, IfErr, IsOk, MatchResult, true, false, length, map, string_bytes};
-ghost use Rattle.tca_report.specs.Devices.{Rises};
+ghost use Rattle.tca_report.specs.device.Devices.{Rises};
 ghost use Rattle.std.specs.List.Sorted.{IsStrictlySortedBy};
-ghost use Rattle.tca_report.specs.Reports.{PacketReport, report_cmp};
+ghost use Rattle.tca_report.specs.report.Reports.{PacketReport, report_cmp};
 ghost use Rattle.tca_meters.specs.declared.any_meter.AnyMeter.{AnyMeter};
 ghost use Rattle.tca_meters.specs.declared.colour.Colour.TheVariants.{Green};
 ghost use Rattle.tca_meters.specs.MeterSpecs.{spec_in};
 ghost use Rattle.tca_meters.specs.Packets.{colours};
 ghost use Rattle.tca_accounts.specs.Sums.{packet_of, sums_of};
 ghost use Rattle.tcacct.specs.Metered.{IsMetered, IsMeteringCutOff, metered_lines, metering};
-ghost use Rattle.tcacct.specs.Runs.{IsInTurn, IsRefusedAs, IsUnion, gathered, is_family, is_write};
+ghost use Rattle.tcacct.specs.Runs.{IsInTurn, IsRefusedAs, IsUnion, united, is_family, is_write};
 ghost use Rattle.tcacct.specs.declared.fault.Family.TheVariants as family;
 
 use crate::fault::RunFault;
@@ -57,7 +57,7 @@ fn report(alloc: Global, spec: &str, inputs: &[Vec<u8>]) -> Result<String, RunFa
     ensures found { IfOk result (λ text. (meter : AnyMeter) × (spec_in spec.now ≡ Ok meter)
         × (rs : List PacketReport) × IsUnion (map (λ v. v.items) inputs.now) rs
         × (string_bytes text ≡ metered_lines meter rs)) }
-    ensures taken { OnOk result (IsOk (gathered 0 [] (map (λ v. v.items) inputs.now))) }
+    ensures taken { OnOk result (IsOk (united 0 [] (map (λ v. v.items) inputs.now))) }
     ensures no_write { IfErr result (λ e. is_write e ≡ false) }
     ensures spec_first { IfErr result (λ e. is_family e.family family.Spec ≡ false → IsOk (spec_in spec.now)) }
     ensures turn { IfErr result (λ e. is_family e.family family.Spec ≡ false → IsInTurn (map (λ v. v.items) inputs.now) e) }

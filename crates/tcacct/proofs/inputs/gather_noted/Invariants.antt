@@ -1,7 +1,7 @@
 use Rattle.std.proofs.Common.{◌≡◌, List, [], map, take, drop, Ok}
 use Rattle.std.specs.List.Sorted.{IsStrictlySortedBy}
-use Rattle.tca_report.specs.Reports.{PacketReport, report_cmp}
-use Rattle.tcacct.specs.Runs.{gathered}
+use Rattle.tca_report.specs.report.Reports.{PacketReport, report_cmp}
+use Rattle.tcacct.specs.Runs.{united}
 use Rattle.tcacct.proofs.GatheredLaws.{IsUnionWith}
 use Rattle.tcacct.proofs.NotedLaws.{Completed}
 use Rattle.tcacct.proofs.inputs.gather_noted.Given as goal
@@ -9,8 +9,8 @@ use Rattle.tcacct.proofs.inputs.gather_noted.Given as goal
 -- what is left, added to what was gathered, is the whole
 abbrev pub invariant-loop-n : goal.invariant-loop-n
 invariant-loop-n l = record {
-  exact : gathered l.n l.log (map (λ v. v.items) (drop l.n l.inputs)) ≡ gathered 0 [] (map (λ v. v.items) l.inputs);
-  taken : gathered 0 [] (map (λ v. v.items) (take l.n l.inputs)) ≡ Ok l.log;
+  exact : united l.n l.log (map (λ v. v.items) (drop l.n l.inputs)) ≡ united 0 [] (map (λ v. v.items) l.inputs);
+  taken : united 0 [] (map (λ v. v.items) (take l.n l.inputs)) ≡ Ok l.log;
   union : (rs : List PacketReport) → IsUnionWith l.log (map (λ v. v.items) (drop l.n l.inputs)) rs → IsUnionWith [] (map (λ v. v.items) l.inputs) rs;
   noted : Completed (map (λ v. v.items) l.inputs) (map (λ v. v.items) (drop l.n l.inputs)) l.all.items;
   rises : IsStrictlySortedBy report_cmp l.log;

@@ -1,0 +1,4 @@
+pub mod Spelling
+pub mod Records
+pub mod ReadingLoop
+pub mod PartsWritten
