@@ -1,12 +1,15 @@
 //! Inputs: log exports and captures.
-ghost use Rattle.std.specs.Prelude.{◌≡◌, ◌≢◌, ◌<◌, ◌≤◌, List, ℕ, Ok, Err, IfErr, IsErrOf, IsOkAnd, IsTrue, length, true};
+ghost use Rattle.std.specs.Prelude.{◌≡◌, ◌≢◌, ◌<◌, ◌≤◌, List, ℕ, Ok, Err, IfErr, IsErrOf, IsTrue, length, true};
 ghost use Rattle.std.specs.List.{AllByRecursion};
 ghost use Rattle.tca_wire.specs.Results.{Gives};
 ghost use Rattle.tca_report.specs.Faults.{input_number};
-ghost use Rattle.tca_report.specs.export.Reading.{reading};
+ghost use Rattle.tca_report.specs.report.Reports.{PacketReport};
+ghost use Rattle.tca_report.specs.export.Spelling.{IsExportable, export};
+ghost use Rattle.tca_report.specs.export.FirstFaults.{IsFaultyExport};
 ghost use Rattle.tca_report.specs.input.Inputs.{CaptureSoFar, input_of, is_export, nothing};
 ghost use Rattle.tca_report.specs.input.Captures.{IsInput};
 ghost use Rattle.tca_report.specs.input.FirstFaults.{IsFirstFault};
+ghost use Rattle.tca_report.specs.declared.input.InputFault.TheVariants as faults;
 ghost use Rattle.tca_report.specs.input.Gathered.{gathered_of, gathered_view, notes_of};
 
 mod capture;
@@ -122,13 +125,14 @@ fn has_magic(octets: &[u8]) -> bool
 pub fn gather(alloc: Global, octets: &[u8]) -> Result<Gathered, InputFault>
     ensures exact { Gives InputFault.Memory gathered_view result (gathered_of (input_of octets.now)) }
 
-    // A fault is the first from the left.
+    // A fault is the first from the left, and a log export with a fault is refused for it.
     ensures first { IfErr result (λ f. f ≢ InputFault.Memory → IsFirstFault octets.now f) }
+    ensures refused { (f : ExportFault) → is_export octets.now ≡ true → IsFaultyExport octets.now f → result ≡ Err (faults.Export f) }
 
     // An input without octets takes no memory, and a log export only where nothing is wrong with it and it has a report.
     ensures memory { IsErrOf result InputFault.Memory → 0 < length octets.now }
     ensures memory_last { IsErrOf result InputFault.Memory → is_export octets.now ≡ true
-        → IsOkAnd (reading octets.now) (λ rs. 0 < length rs) }
+        → (rs : List PacketReport) × IsExportable rs × (octets.now ≡ export rs) × (0 < length rs) }
 {
     if !has_magic(octets) {
         return read_capture(alloc, octets);
@@ -149,7 +153,7 @@ pub fn gather(alloc: Global, octets: &[u8]) -> Result<Gathered, InputFault>
 pub fn input_words()
     ensures found { (octets : List ℕ) (after : CaptureSoFar) → AllByRecursion (λ (b : ℕ). b < 256) octets → input_of octets ≡ Ok after → IsInput octets after }
     ensures only { (octets : List ℕ) (after : CaptureSoFar) → IsInput octets after → input_of octets ≡ Ok after }
-    ensures fault { (octets : List ℕ) (f : InputFault) → input_of octets ≡ Err f → IsFirstFault octets f }
+    ensures fault { (octets : List ℕ) (f : InputFault) → AllByRecursion (λ (b : ℕ). b < 256) octets → input_of octets ≡ Err f → IsFirstFault octets f }
     ensures no_other { (octets : List ℕ) (f : InputFault) → IsFirstFault octets f → input_of octets ≡ Err f }
 {}
 

@@ -1,5 +1,5 @@
 -- Inputs with a fault, and the fault that is the first from the left.
-use Rattle.std.specs.Prelude.{◌≡◌, ℕ, ◌<◌, true, false, List, ◌++◌, length, take, Err}
+use Rattle.std.specs.Prelude.{◌≡◌, ℕ, ◌<◌, true, false, List, ◌++◌, length, take}
 use Rattle.std.specs.List.{concat}
 use Rattle.tca_wire.specs.Messages.{IsMessage}
 use Rattle.tca_wire.specs.FirstFaults as wire
@@ -8,7 +8,7 @@ use Rattle.tca_wire.specs.declared.message.SetSpan.{SetSpan}
 use Rattle.tca_wire.specs.declared.fault.WireFault.{WireFault}
 use Rattle.tca_templates.specs.FirstFaults as templates
 use Rattle.tca_templates.specs.declared.fault.DecodeFault.{DecodeFault}
-use Rattle.tca_report.specs.export.Reading.{reading}
+use Rattle.tca_report.specs.export.FirstFaults.{IsFaultyExport}
 use Rattle.tca_report.specs.input.Inputs.{CaptureSoFar, nothing, is_export}
 use Rattle.tca_report.specs.input.Captures.{AreRead}
 use Rattle.tca_report.specs.declared.export.ExportFault.{ExportFault}
@@ -33,5 +33,5 @@ pub record IsFaultyCapture (octets : List ℕ) (fault : InputFault) : Type 0 whe
 
 -- The first fault of an input.
 pub data IsFirstFault (octets : List ℕ) (fault : InputFault) : Type 0 where
-  AnExport : is_export octets ≡ true → (f : ExportFault) → reading octets ≡ Err f → fault ≡ Export f → IsFirstFault octets fault
+  AnExport : is_export octets ≡ true → (f : ExportFault) → IsFaultyExport octets f → fault ≡ Export f → IsFirstFault octets fault
   ACapture : is_export octets ≡ false → IsFaultyCapture octets fault → IsFirstFault octets fault

@@ -4,6 +4,7 @@ ghost use Rattle.std.specs.Int.{w32, w64, from_be_bytes};
 ghost use Rattle.tca_wire.specs.Results.{Gives};
 ghost use Rattle.tca_report.specs.report.Reports.{PacketReport, reported, ranged};
 ghost use Rattle.tca_report.specs.export.Spelling.{IsExportable, export};
+ghost use Rattle.tca_report.specs.export.FirstFaults.{IsFaultyExport};
 ghost use Rattle.tca_report.specs.export.Reading.{above, count_of, reading, record_at, records_at};
 ghost use Rattle.tca_report.specs.declared.export.ExportFault.{ExportFault};
 ghost use Rattle.tca_report.specs.declared.export.ExportFault.TheVariants.{Memory};
@@ -189,8 +190,12 @@ pub fn read_export(alloc: Global, octets: &[u8]) -> Result<Vec<Report>, ExportFa
         → MatchResult result (λ v. v.items ≡ rs) (λ e. e ≡ Memory) }
     ensures exact { Gives Memory (λ v. v.items) result (reading octets.now) }
 
-    // Memory is wanted for the whole list alone, where it isn't empty and has no fault.
-    ensures memory { IsErrOf result Memory → IsOkAnd (reading octets.now) (λ rs. 0 < length rs) }
+    // A fault is the first from the left, and octets with a fault are refused for it.
+    ensures first { IfErr result (λ f. f ≢ Memory → IsFaultyExport octets.now f) }
+    ensures refused { (f : ExportFault) → IsFaultyExport octets.now f → result ≡ Err f }
+
+    // Memory is wanted for the whole list alone, where the octets spell one that isn't empty.
+    ensures memory { IsErrOf result Memory → (rs : List PacketReport) × IsExportable rs × (octets.now ≡ export rs) × (0 < length rs) }
 {
     read_whole(alloc, octets)
 }

@@ -18,6 +18,7 @@ use Rattle.std.proofs.lemmas.Nat.{be_bytes_4, be_bytes_8, from_be_bytes-to_be_by
 use Rattle.tca_report.specs.report.Reports.{PacketReport, InRange, in_range, report_cmp}
 use Rattle.tca_report.specs.declared.export.ExportFault.TheVariants.{Range, Order}
 use Rattle.tca_report.specs.export.Spelling.{record_octets}
+use Rattle.tca_report.specs.export.FirstFaults.{HasWidths}
 use Rattle.tca_report.specs.export.Reading.{record_at, above, with_first, records_at}
 
 abbrev pub IsBytes : List ℕ → Type 0
@@ -34,12 +35,12 @@ octets_take n octets h i =
     ]
 
 -- a record that was written is read again
-pub record_again : (r : PacketReport) (rest : List ℕ) → InRange r → record_at (record_octets r ++ rest) ≡ (r, rest)
+pub record_again : (r : PacketReport) (rest : List ℕ) → HasWidths r → record_at (record_octets r ++ rest) ≡ (r, rest)
 record_again r rest ranges =
-    let t = from_be_bytes-to_be_bytes_8 r.time (omega (arith, ranges.time)) in
+    let t = from_be_bytes-to_be_bytes_8 r.time ranges.time in
     let d = from_be_bytes-to_be_bytes_4 r.domain ranges.domain in
     let p = from_be_bytes-to_be_bytes_4 r.place ranges.place in
-    let o = from_be_bytes-to_be_bytes_4 r.octets (omega (arith, ranges.octets)) in
+    let o = from_be_bytes-to_be_bytes_4 r.octets ranges.octets in
     let f = from_be_bytes-to_be_bytes_4 r.iface ranges.iface in
     λ i. (record { time = t i; domain = d i; place = p i; octets = o i; dscp = r.dscp; iface = f i }, rest)
 
@@ -83,7 +84,7 @@ record_takes octets fits long =
     ∙ ap (λ (z : List ℕ). t ++ z) (front4 a fa (omega arith))
     ∙ front8 octets fits (omega arith)
 
-in_range_true : (r : PacketReport) → InRange r → in_range r ≡ true
+pub in_range_true : (r : PacketReport) → InRange r → in_range r ≡ true
 in_range_true r h = grind (arith, nat_tests, h.time, h.some, h.octets, h.dscp)
 
 all_more : {K : Type 0} (P Q : K → Type 0) → ((x : K) → P x → Q x) → (xs : List K) → AllByRecursion P xs → AllByRecursion Q xs
@@ -91,11 +92,11 @@ all_more P Q f [] h = tt
 all_more P Q f (x ∷ xs) h = (f x h.0, all_more P Q f xs h.1)
 
 -- a list that rises from after the last one
-abbrev Follows : Option PacketReport → List PacketReport → Type 0
+abbrev pub Follows : Option PacketReport → List PacketReport → Type 0
 Follows None rs = IsStrictlySortedBy report_cmp rs
 Follows (Some last) rs = IsStrictlySortedBy report_cmp (last ∷ rs)
 
-follows_head : (last : Option PacketReport) (r : PacketReport) (rs : List PacketReport) → Follows last (r ∷ rs) → (above last r ≡ true) × Follows (Some r) rs
+pub follows_head : (last : Option PacketReport) (r : PacketReport) (rs : List PacketReport) → Follows last (r ∷ rs) → (above last r ≡ true) × Follows (Some r) rs
 unfolding IsStrictlySortedBy
 follows_head None r rs h = (refl, h)
 follows_head (Some last) r rs h = (ap is_lt (h.0.0), h.1)
@@ -104,28 +105,38 @@ none_read : (n : ℕ) (last : Option PacketReport) → records_at zero n last []
 unfolding records_at
 none_read n last = refl
 
-records_step : (count n : ℕ) (last : Option PacketReport) (octets : List ℕ) (r : PacketReport) (rest : List ℕ) → record_at octets ≡ (r, rest) → in_range r ≡ true → above last r ≡ true
+pub records_step : (count n : ℕ) (last : Option PacketReport) (octets : List ℕ) (r : PacketReport) (rest : List ℕ) → record_at octets ≡ (r, rest) → in_range r ≡ true → above last r ≡ true
     → records_at (suc count) n last octets ≡ with_first r (records_at count (n + 1) (Some r) rest)
 unfolding records_at
 records_step count n last octets r rest e range order =
     ap (λ (x : PacketReport × List ℕ). cond (in_range x.0) (cond (above last x.0) (with_first x.0 (records_at count (n + 1) (Some x.0) x.1)) (Err (Order n))) (Err (Range n))) e
     ∙ rw (range, order) refl
 
+pub in_range_widths : (r : PacketReport) → InRange r → HasWidths r
+in_range_widths r h = record {
+  time = omega (arith, h.time);
+  domain = h.domain;
+  place = h.place;
+  octets = omega (arith, h.octets);
+  dscp = omega (arith, h.dscp);
+  iface = h.iface;
+}
+
 pub list_again : (rs : List PacketReport) (n : ℕ) (last : Option PacketReport) → AllByRecursion InRange rs → Follows last rs → records_at (length rs) n last (flat_map record_octets rs) ≡ Ok rs
 list_again [] n last ranges follows = none_read n last
 list_again (r ∷ rs) n last ranges follows =
-    let one : record_at (flat_map record_octets (r ∷ rs)) ≡ (r, flat_map record_octets rs) = ap record_at (flat_map-cons record_octets r rs) ∙ record_again r (flat_map record_octets rs) (ranges.0) in
+    let one : record_at (flat_map record_octets (r ∷ rs)) ≡ (r, flat_map record_octets rs) = ap record_at (flat_map-cons record_octets r rs) ∙ record_again r (flat_map record_octets rs) (in_range_widths r ranges.0) in
     let head = follows_head last r rs follows in
     records_step (length rs) n last (flat_map record_octets (r ∷ rs)) r (flat_map record_octets rs) one (in_range_true r ranges.0) head.0
     ∙ ap (with_first r) (list_again rs (n + 1) (Some r) (ranges.1) (head.1))
 
-below_4 : (octets : List ℕ) → IsBytes octets → from_be_bytes w32 (take 4 octets) < 2 ^ 32
+pub below_4 : (octets : List ℕ) → IsBytes octets → from_be_bytes w32 (take 4 octets) < 2 ^ 32
 below_4 octets fits = let h = octets_take 4 octets fits in omega (arith, h 0, h 1, h 2, h 3)
 
-in_range_holds : (r : PacketReport) → r.domain < 2 ^ 32 → r.place < 2 ^ 32 → r.iface < 2 ^ 32 → in_range r ≡ true → InRange r
+pub in_range_holds : (r : PacketReport) → r.domain < 2 ^ 32 → r.place < 2 ^ 32 → r.iface < 2 ^ 32 → in_range r ≡ true → InRange r
 in_range_holds r d p f h = record { time = grind (arith, nat_tests, h); some = grind (arith, nat_tests, h); octets = grind (arith, nat_tests, h); dscp = grind (arith, nat_tests, h); domain = d; place = p; iface = f }
 
-ranges_at : (octets : List ℕ) → IsBytes octets → in_range (record_at octets).0 ≡ true → InRange (record_at octets).0
+pub ranges_at : (octets : List ℕ) → IsBytes octets → in_range (record_at octets).0 ≡ true → InRange (record_at octets).0
 ranges_at octets fits h =
     let a = octets_drop 8 octets fits in
     let b = octets_drop 4 (drop 8 octets) a in
@@ -134,7 +145,7 @@ ranges_at octets fits h =
     let e = octets_drop 1 (drop 4 (drop 4 (drop 4 (drop 8 octets)))) d in
     in_range_holds (record_at octets).0 (below_4 (drop 8 octets) a) (below_4 (drop 4 (drop 8 octets)) b) (below_4 _ e) h
 
-rest_fits : (octets : List ℕ) → IsBytes octets → IsBytes (record_at octets).1
+pub rest_fits : (octets : List ℕ) → IsBytes octets → IsBytes (record_at octets).1
 rest_fits octets fits = octets_drop 4 _ (octets_drop 1 _ (octets_drop 4 _ (octets_drop 4 _ (octets_drop 4 _ (octets_drop 8 octets fits)))))
 
 -- A list of records that was read: their spelling, range and order.
@@ -149,7 +160,7 @@ less_holds Less h = refl
 less_holds Equal h = absurd cc
 less_holds Greater h = absurd cc
 
-follows_more : (last : Option PacketReport) (r : PacketReport) (rs : List PacketReport) → above last r ≡ true → Follows (Some r) rs → Follows last (r ∷ rs)
+pub follows_more : (last : Option PacketReport) (r : PacketReport) (rs : List PacketReport) → above last r ≡ true → Follows (Some r) rs → Follows last (r ∷ rs)
 unfolding IsStrictlySortedBy
 follows_more None r rs h f = f
 follows_more (Some last) r rs h f = let l = less_holds (report_cmp last r) h in ((l, all_more (λ y. report_cmp r y ≡ Less) (λ y. report_cmp last y ≡ Less) (λ y m. report_total.trans last r y l m) rs f.0), f)
@@ -158,7 +169,7 @@ some_first : (r : PacketReport) (read : Result (List PacketReport) ExportFault) 
 some_first r (Ok more) rs e = (more, refl, cc)
 some_first r (Err f) rs e = absurd cc
 
-follows_none : (last : Option PacketReport) → Follows last []
+pub follows_none : (last : Option PacketReport) → Follows last []
 unfolding IsStrictlySortedBy
 follows_none None = tt
 follows_none (Some last) = (tt, tt)

@@ -23,7 +23,7 @@ length-records (r ∷ rs) =
 pub length-export : (rs : List PacketReport) → length (export rs) ≡ 10 + 25 * length rs
 length-export rs = omega (arith, length-records rs, length-append (header_octets (length rs)) (flat_map record_octets rs))
 
-count_of_all : (octets : List ℕ) (count : ℕ) → has_magic octets ≡ true → from_be_bytes w16 (take 2 (drop 4 octets)) ≡ 1 → from_be_bytes w32 (take 4 (drop 6 octets)) ≡ count → count ≤ most_reports → length octets ≡ 10 + 25 * count
+pub count_of_all : (octets : List ℕ) (count : ℕ) → has_magic octets ≡ true → from_be_bytes w16 (take 2 (drop 4 octets)) ≡ 1 → from_be_bytes w32 (take 4 (drop 6 octets)) ≡ count → count ≤ most_reports → length octets ≡ 10 + 25 * count
     → count_of octets ≡ Ok count
 unfolding count_of
 count_of_all octets count m v n few long =
@@ -54,14 +54,14 @@ is_equal : (a b : ℕ) → (a == b) ≡ true → a ≡ b
 is_equal a b e = grind (arith, nat_tests)
 
 -- the tests that a header passed
-record IsCounted (octets : List ℕ) (count : ℕ) : Type 0 where
-  letters : has_magic octets ≡ true
-  version : from_be_bytes w16 (take 2 (drop 4 octets)) ≡ 1
-  stated : from_be_bytes w32 (take 4 (drop 6 octets)) ≡ count
-  few : count ≤ most_reports
-  long : length octets ≡ 10 + 25 * count
+pub record IsCounted (octets : List ℕ) (count : ℕ) : Type 0 where
+  pub letters : has_magic octets ≡ true
+  pub version : from_be_bytes w16 (take 2 (drop 4 octets)) ≡ 1
+  pub stated : from_be_bytes w32 (take 4 (drop 6 octets)) ≡ count
+  pub few : count ≤ most_reports
+  pub long : length octets ≡ 10 + 25 * count
 
-tests_passed : (octets : List ℕ) (n : ℕ) → count_of octets ≡ Ok n → IsCounted octets n
+pub tests_passed : (octets : List ℕ) (n : ℕ) → count_of octets ≡ Ok n → IsCounted octets n
 unfolding count_of
 tests_passed octets n e =
     let version = from_be_bytes w16 (take 2 (drop 4 octets)) in
@@ -86,7 +86,7 @@ both_true : (a b : Bool) → (a && b) ≡ true → (a ≡ true) × (b ≡ true)
 both_true true b e = (refl, e)
 both_true false b e = absurd cc
 
-four_letters : (octets : List ℕ) → 4 ≤ length octets → has_magic octets ≡ true → magic ++ drop 4 octets ≡ octets
+pub four_letters : (octets : List ℕ) → 4 ≤ length octets → has_magic octets ≡ true → magic ++ drop 4 octets ≡ octets
 four_letters [] long e = absurd (omega arith)
 four_letters (a ∷ []) long e = absurd (omega arith)
 four_letters (a ∷ b ∷ []) long e = absurd (omega arith)

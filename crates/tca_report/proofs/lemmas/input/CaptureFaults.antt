@@ -37,7 +37,9 @@ use Rattle.tca_report.specs.declared.input.InputFault.TheVariants.{Export, Wire,
 use Rattle.tca_report.specs.declared.input.InputFault.TheVariants as faults
 use Rattle.tca_report.proofs.lemmas.input.CaptureParts.{still_faulty, all_on, all_refused, capture_ends, capture_stops}
 use Rattle.tca_report.proofs.lemmas.input.ReaderAgrees.{with_is}
-use Rattle.tca_report.proofs.lemmas.input.CaptureLaws.{with_found, all_found, frames_all, all_only}
+use Rattle.tca_report.proofs.lemmas.input.CaptureLaws.{with_found, all_found, frames_all, all_only, bytes}
+use Rattle.tca_report.specs.export.FirstFaults.{IsFaultyExport}
+use Rattle.tca_report.proofs.lemmas.export.FirstFaults.{export_fault, export_no_other}
 
 same_fault : (a b : InputFault) → let x : Result CaptureSoFar InputFault = Err a in x ≡ Err b → a ≡ b
 same_fault a b e = cc
@@ -255,12 +257,12 @@ capture_fault octets fault e = go (capture_after 0 nothing (frames_of octets).0)
           wrong = ended_wrong (length (concat (frames_of octets).0)) s.rest (frames_of octets).1 now fault s.ends e;
         }
 
-pub input_fault : (octets : List ℕ) (fault : InputFault) → input_of octets ≡ Err fault → IsFirstFault octets fault
-input_fault octets fault e = go (is_export octets) refl e
+pub input_fault : (octets : List ℕ) (fault : InputFault) → AllByRecursion (λ (b : ℕ). b < 256) octets → input_of octets ≡ Err fault → IsFirstFault octets fault
+input_fault octets fault all e = go (is_export octets) refl e
   where
     read : is_export octets ≡ true → (r : Result (List PacketReport) ExportFault) → reading octets ≡ r → exported r ≡ Err fault → IsFirstFault octets fault
     read k (Ok rs) j e = absurd cc
-    read k (Err f) j e = AnExport k f j (sym (same_fault (Export f) fault e))
+    read k (Err f) j e = AnExport k f (export_fault octets f (bytes octets all) j) (sym (same_fault (Export f) fault e))
 
     go : (b : Bool) → is_export octets ≡ b → cond b (exported (reading octets)) (capture_of octets) ≡ Err fault → IsFirstFault octets fault
     go true k e = read k (reading octets) refl e
@@ -349,8 +351,8 @@ capture_no_other octets fault p = go p.wrong
         wrong_message octets p.messages p.rest p.so_far p.whole p.before header sets f message w ∙ ap (λ (x : InputFault). Err x) (sym is)
 
 pub input_no_other : (octets : List ℕ) (fault : InputFault) → IsFirstFault octets fault → input_of octets ≡ Err fault
-input_no_other octets fault (AnExport k f reads is) =
-    ap (λ z. cond z (exported (reading octets)) (capture_of octets)) k ∙ ap (λ (r : Result (List PacketReport) ExportFault). exported r) reads
+input_no_other octets fault (AnExport k f wrong is) =
+    ap (λ z. cond z (exported (reading octets)) (capture_of octets)) k ∙ ap (λ (r : Result (List PacketReport) ExportFault). exported r) (export_no_other octets f wrong)
     ∙ ap (λ (x : InputFault). Err x) (sym is)
 input_no_other octets fault (ACapture k p) = ap (λ z. cond z (exported (reading octets)) (capture_of octets)) k ∙ capture_no_other octets fault p
 
@@ -365,5 +367,5 @@ capture_first octets r other g =
     gives_err faults.Memory gathered_view (λ (f : InputFault). IsFirstFault octets f) r (gathered_of (capture_of octets))
     (λ f e. ACapture other (capture_fault octets f (gathered_holds (capture_of octets) f e))) g
 
-pub export_first : (octets : List ℕ) (f : ExportFault) → is_export octets ≡ true → reading octets ≡ Err f → IsFirstFault octets (Export f)
-export_first octets f is e = AnExport is f e refl
+pub export_first : (octets : List ℕ) (f : ExportFault) → is_export octets ≡ true → IsFaultyExport octets f → IsFirstFault octets (Export f)
+export_first octets f is wrong = AnExport is f wrong refl

@@ -140,7 +140,7 @@ capture_only octets after p =
     } in
     capture_ends octets p.messages (Holds []) after stream (all_only 0 nothing p.messages after p.read)
 
-bytes : (octets : List ℕ) → AllByRecursion (λ (b : ℕ). b < 256) octets → IsBytes octets
+pub bytes : (octets : List ℕ) → AllByRecursion (λ (b : ℕ). b < 256) octets → IsBytes octets
 bytes [] all i = omega arith
 bytes (b ∷ bs) all zero = all.0
 bytes (b ∷ bs) all (suc i) = bytes bs all.1 i
