@@ -14,7 +14,7 @@ use Rattle.std.proofs.lemmas.List.FromFn.{get_or-enumerate_from, length-enumerat
 use Rattle.std.proofs.lemmas.List.Sums.{length-filter, count_by-le-length}
 use Rattle.tca_join.specs.Sets.{in_order}
 use Rattle.tca_join.proofs.Sets.{all_more}
-use Rattle.tca_report.specs.Reports.{PacketReport, report_cmp}
+use Rattle.tca_report.specs.report.Reports.{PacketReport, report_cmp}
 use Rattle.tca_meters.specs.declared.any_meter.AnyMeter.{AnyMeter}
 use Rattle.tca_meters.specs.declared.colour.Colour.{Colour}
 use Rattle.tca_meters.specs.Packets.{Rule, Packet, colours, coloured}

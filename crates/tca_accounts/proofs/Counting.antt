@@ -2,7 +2,7 @@
 use Rattle.std.proofs.Common.{◌≡◌, ℕ, ◌+◌, ◌≤◌, cond, eqb, List, [], ◌∷◌, ◌++◌, length, arith}
 use Rattle.std.specs.Prelude.{slice_index}
 use Rattle.std.proofs.lemmas.List.Sums.{sum_by_push, count_by-le-length}
-use Rattle.tca_report.specs.Reports.{PacketReport}
+use Rattle.tca_report.specs.report.Reports.{PacketReport}
 use Rattle.tca_meters.specs.declared.colour.Colour.{Colour}
 use Rattle.tca_meters.specs.declared.colour.Colour.TheVariants.{Green, Yellow, Red}
 use Rattle.tca_meters.specs.Colours.{colour_number}

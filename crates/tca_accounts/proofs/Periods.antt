@@ -12,7 +12,7 @@ use Rattle.std.proofs.lemmas.List.Elements.{filter-append}
 use Rattle.tca_join.specs.Sets.{has, in_order}
 use Rattle.tca_join.proofs.Sets.{all_more, has-append, has-in_order, rises_in_order, ordered_is}
 use Rattle.tca_join.proofs.Positions.{less_is, equal_is, greater_is}
-use Rattle.tca_report.specs.Reports.{PacketReport}
+use Rattle.tca_report.specs.report.Reports.{PacketReport}
 use Rattle.tca_meters.specs.declared.colour.Colour.{Colour}
 use Rattle.tca_accounts.specs.Sums.{ColourSums, sums_of, with_packet}
 use Rattle.tca_accounts.specs.Spans.{Ascend, period_of, within, spans_of}

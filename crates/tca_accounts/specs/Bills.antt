@@ -1,7 +1,7 @@
 -- What a bill says of a set of reports under a plan.
 use Rattle.std.specs.Prelude.{ℕ, ◌==◌, Bool, false, List, length, filter, map, Option, Some, None, is_none}
 use Rattle.std.specs.List.{enumerate_from}
-use Rattle.tca_report.specs.Reports.{PacketReport}
+use Rattle.tca_report.specs.report.Reports.{PacketReport}
 use Rattle.tca_log.specs.Disputes.{undisputed, disputed}
 use Rattle.tca_meters.specs.declared.colour.Colour.{Colour}
 use Rattle.tca_meters.specs.Packets.{Rule, colours}

@@ -1,7 +1,7 @@
 -- What is kept of the accounts while their reports are metered one after another.
 use Rattle.std.specs.Prelude.{◌≡◌, ℕ, ◌/◌, ◌==◌, if◌then◌else◌, ◌<◌, ◌≤◌, List, [], ◌∷◌, ◌++◌, length, filter, get_or, slice_index, Option, Some, None, IfSome, MatchOption}
 use Rattle.std.specs.List.{AllByRecursion}
-use Rattle.tca_report.specs.Reports.{PacketReport}
+use Rattle.tca_report.specs.report.Reports.{PacketReport}
 use Rattle.tca_meters.specs.declared.colour.Colour.{Colour}
 use Rattle.tca_meters.specs.Colours.{colour_number}
 use Rattle.tca_meters.specs.Packets.{Rule, answer, coloured}

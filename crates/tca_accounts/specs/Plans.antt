@@ -4,7 +4,7 @@ use Rattle.std.specs.List.{AllByRecursion, list_all, list_any, flat_map, positio
 use Rattle.std.specs.Str.{bytes_eq}
 use Rattle.tca_meters.specs.declared.any_meter.AnyMeter.{AnyMeter}
 use Rattle.tca_meters.specs.declared.colour.Colour.{Colour}
-use Rattle.tca_report.specs.Reports.{PacketReport}
+use Rattle.tca_report.specs.report.Reports.{PacketReport}
 
 -- an account: its name, its meter, the colour that a code point without a colour of its own has, and the pairs of an
 -- observation domain and an interface whose reports it owns

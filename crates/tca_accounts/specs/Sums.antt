@@ -1,6 +1,6 @@
 -- The octets and the packets of each colour.
 use Rattle.std.specs.Prelude.{ℕ, ◌+◌, ◌≤◌, ◌*◌, ◌==◌, ◌≡◌, List, [], ◌∷◌, length, sum_by, count_by, slice_index, set, if◌then◌else◌}
-use Rattle.tca_report.specs.Reports.{PacketReport}
+use Rattle.tca_report.specs.report.Reports.{PacketReport}
 use Rattle.tca_meters.specs.declared.colour.Colour.{Colour}
 use Rattle.tca_meters.specs.declared.colour.Colour.TheVariants.{Green, Yellow, Red}
 use Rattle.tca_meters.specs.Colours.{colour_number}

@@ -1,7 +1,7 @@
 //! The bill of a log under a plan.
 ghost use Rattle.std.specs.Prelude.{◌≡◌, IfOk, OnOk, List, [], length, map};
 ghost use Rattle.std.specs.List.{AllByRecursion};
-ghost use Rattle.tca_report.specs.Reports.{PacketReport};
+ghost use Rattle.tca_report.specs.report.Reports.{PacketReport};
 ghost use Rattle.tca_log.specs.Disputes.{undisputed};
 ghost use Rattle.tca_accounts.specs.Spans.{Ascend};
 ghost use Rattle.tca_accounts.specs.Bills.{bill_of, unassigned};

@@ -1,6 +1,6 @@
 //! Metering one account.
 ghost use Rattle.std.specs.Prelude.{◌≡◌, ℕ, ◌<◌, ◌≤◌, List, ◌∷◌, IfOk, OnOk, IfSome, Some};
-ghost use Rattle.tca_report.specs.Reports.{PacketReport};
+ghost use Rattle.tca_report.specs.report.Reports.{PacketReport};
 ghost use Rattle.tca_meters.specs.declared.colour.Colour.{Colour};
 ghost use Rattle.tca_meters.specs.AnyMeters.{any_rule};
 ghost use Rattle.tca_accounts.specs.Bills.{coloured_by};

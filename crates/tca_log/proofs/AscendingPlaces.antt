@@ -9,10 +9,10 @@ use Rattle.std.specs.Cmp.{Equal-is, nat_cmp_total, tied_itself}
 use Rattle.std.specs.List.Sorted.{IsStrictlySortedBy}
 use Rattle.std.specs.Ordering.{eq_by_cmp, is_eq, nat_cmp}
 use Rattle.tca_join.specs.Sets.{has}
-use Rattle.tca_report.specs.Reports.{PacketReport}
-use Rattle.tca_report.specs.Identities.{identity_of, identity_cmp}
+use Rattle.tca_report.specs.report.Reports.{PacketReport}
+use Rattle.tca_report.specs.report.Identities.{identity_of, identity_cmp}
 use Rattle.tca_report.specs.declared.report.Identity.{Identity}
-use Rattle.tca_report.proofs.Identities.{identity_exact}
+use Rattle.tca_report.proofs.lemmas.report.Identities.{identity_exact}
 use Rattle.tca_log.specs.Disputes.{contents, disputed}
 use Rattle.tca_log.specs.Logs.{count_at}
 use Rattle.tca_log.proofs.Contents.{disputed_is}

@@ -12,9 +12,9 @@ use Rattle.std.proofs.lemmas.Map.Lookups.{CmpEqualImpliesEq}
 use Rattle.std.proofs.lemmas.List.Kept.{IsStrictlySortedBy-filter}
 use Rattle.tca_join.specs.Sets.{by_order, has, put, in_order}
 use Rattle.tca_join.proofs.Sets.{has-in_order, rises_in_order, only_one}
-use Rattle.tca_report.specs.Reports.{PacketReport, report_cmp}
-use Rattle.tca_report.specs.Identities.{identity_of, identity_cmp}
-use Rattle.tca_report.proofs.Identities.{identity_total, identity_exact}
+use Rattle.tca_report.specs.report.Reports.{PacketReport, report_cmp}
+use Rattle.tca_report.specs.report.Identities.{identity_of, identity_cmp}
+use Rattle.tca_report.proofs.lemmas.report.Identities.{identity_total, identity_exact}
 use Rattle.tca_report.specs.declared.report.Identity.{Identity}
 use Rattle.tca_log.specs.Disputes.{has_identity, contents, disputed}
 use Rattle.tca_log.specs.Logs.{count_at}

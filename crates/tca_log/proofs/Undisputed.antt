@@ -8,10 +8,10 @@ use Rattle.std.specs.Cmp.{tied_itself}
 use borrow.Author.Tests.{ltb-true, ltb-false, eqb-true, eq-eqb}
 use Rattle.std.proofs.lemmas.List.Kept.{IsStrictlySortedBy-filter}
 use Rattle.tca_join.specs.Sets.{has}
-use Rattle.tca_report.specs.Reports.{PacketReport, report_cmp}
-use Rattle.tca_report.specs.Identities.{identity_of, identity_cmp}
-use Rattle.tca_report.proofs.Order.{report_total, report_exact}
-use Rattle.tca_report.proofs.Identities.{identity_total}
+use Rattle.tca_report.specs.report.Reports.{PacketReport, report_cmp}
+use Rattle.tca_report.specs.report.Identities.{identity_of, identity_cmp}
+use Rattle.tca_report.proofs.lemmas.report.Order.{report_total, report_exact}
+use Rattle.tca_report.proofs.lemmas.report.Identities.{identity_total}
 use Rattle.tca_report.specs.declared.report.Identity.{Identity}
 use Rattle.tca_log.specs.Disputes.{has_identity, contents, disputed, undisputed, settled_of}
 use Rattle.tca_log.specs.Logs.{count_at}

@@ -2,8 +2,8 @@
 use Rattle.std.specs.Prelude.{◌≡◌, ◌+◌, ◌≤◌, ◌||◌, if◌then◌else◌, true, List, [], ◌∷◌, length, map, nat_lt}
 use Rattle.std.specs.List.{AllByRecursion}
 use Rattle.tca_join.specs.Sets.{has, put}
-use Rattle.tca_report.specs.Reports.{PacketReport, report_cmp}
-use Rattle.tca_report.specs.Identities.{identity_of, identity_cmp}
+use Rattle.tca_report.specs.report.Reports.{PacketReport, report_cmp}
+use Rattle.tca_report.specs.report.Identities.{identity_of, identity_cmp}
 use Rattle.tca_report.specs.declared.report.Identity.{Identity}
 use Rattle.tca_log.specs.declared.by_identity.ByIdentity.{ByIdentity}
 use Rattle.tca_log.specs.Rows.Ordered.{AreApart}

@@ -2,7 +2,7 @@
 use Rattle.std.specs.Prelude.{List, [], ◌∷◌, ◌++◌}
 use Rattle.std.specs.List.{flat_map}
 use Rattle.tca_join.specs.Sets.{put, in_order}
-use Rattle.tca_report.specs.Reports.{PacketReport, report_cmp}
+use Rattle.tca_report.specs.report.Reports.{PacketReport, report_cmp}
 
 -- the reports that one call gives to a log: one by `add`, those of another log by `union`, or those of a list by `add_all`
 pub data Arrival : Type 0 where

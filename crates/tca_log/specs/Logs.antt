@@ -4,8 +4,8 @@ use Rattle.std.specs.List.{AllByRecursion}
 use Rattle.std.specs.List.Sorted.{IsStrictlySortedBy}
 use Rattle.std.specs.declared.cmp.Ordering.{Ordering}
 use Rattle.tca_join.specs.Sets.{has, put}
-use Rattle.tca_report.specs.Reports.{PacketReport, report_cmp}
-use Rattle.tca_report.specs.Identities.{identity_of, identity_cmp}
+use Rattle.tca_report.specs.report.Reports.{PacketReport, report_cmp}
+use Rattle.tca_report.specs.report.Identities.{identity_of, identity_cmp}
 use Rattle.tca_report.specs.declared.report.Identity.{Identity}
 use Rattle.tca_log.specs.declared.answer.Added.{Added}
 use Rattle.tca_log.specs.declared.answer.Added.TheVariants.{Fresh, NewDispute, MoreDispute}

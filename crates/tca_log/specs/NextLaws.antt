@@ -2,7 +2,7 @@
 use Rattle.std.specs.Prelude.{◌≡◌, Bool, true, false, List, length, filter}
 use Rattle.std.specs.List.Sorted.{IsStrictlySortedBy}
 use Rattle.tca_join.specs.Sets.{has, put}
-use Rattle.tca_report.specs.Reports.{PacketReport, report_cmp}
+use Rattle.tca_report.specs.report.Reports.{PacketReport, report_cmp}
 use Rattle.tca_log.specs.Disputes.{added, undisputed, disputed}
 use Rattle.tca_log.specs.declared.answer.Added.TheVariants.{Fresh, NewDispute}
 use Rattle.tca_log.specs.Next.{reports_after, disputed_after, undisputed_after, kept_after, count_after}

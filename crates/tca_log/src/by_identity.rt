@@ -5,8 +5,8 @@ ghost use Rattle.std.specs.Cmp;
 ghost use Rattle.std.specs.Cmp.{eq_by_cmp_equiv, partial_order_from_agreeing_total, partial_equiv_from_equiv};
 ghost use Rattle.std.proofs.Common.{refl, Some};
 ghost use Rattle.std.proofs.lemmas.Cmp.{on_total};
-ghost use Rattle.tca_report.specs.Identities.{identity_of};
-ghost use Rattle.tca_report.proofs.Identities.{identity_total};
+ghost use Rattle.tca_report.specs.report.Identities.{identity_of};
+ghost use Rattle.tca_report.proofs.lemmas.report.Identities.{identity_total};
 ghost use Rattle.tca_log.specs.Disputes.{by_identity_cmp};
 
 use std::cmp::Ordering;

@@ -1,7 +1,7 @@
 //! What a log keeps beside its reports: a content of each identity, and the identities that are disputed.
 ghost use Rattle.std.specs.Prelude.{◌≡◌, ◌<◌, ◌≤◌, List, length, IfOk, OnOk, OnErr};
 ghost use Rattle.std.specs.List.Sorted.{IsStrictlySortedBy};
-ghost use Rattle.tca_report.specs.Reports.{report_cmp};
+ghost use Rattle.tca_report.specs.report.Reports.{report_cmp};
 ghost use Rattle.tca_report.specs.declared.report.Identity.{Identity};
 ghost use Rattle.tca_log.specs.Logs.{first_of, is_disputed, answered, index_after, disputed_after, index_rows, IsKept, IsLog};
 

@@ -2,7 +2,7 @@
 ghost use Rattle.std.specs.Prelude.{◌≡◌, List, ℕ, ◌+◌, ◌<◌, ◌≤◌, false, [], length, IfOk, IfErr, OnOk, OnErr};
 ghost use Rattle.std.specs.List.Sorted.{IsStrictlySortedBy};
 ghost use Rattle.tca_join.specs.Sets.{has, in_order};
-ghost use Rattle.tca_report.specs.Reports.{PacketReport, report_cmp};
+ghost use Rattle.tca_report.specs.report.Reports.{PacketReport, report_cmp};
 ghost use Rattle.tca_log.specs.Arrivals.{Arrival, One, after, after_all, all_given};
 ghost use Rattle.tca_log.specs.Disputes.{added, undisputed, disputed};
 ghost use Rattle.tca_log.specs.Faults.{IsAddRefused};
@@ -32,7 +32,7 @@ pub struct Log<A: Allocator + Copy = Global> {
 
 impl<A: Allocator + Copy> Model for Log<A> {
     ghost use Rattle.std.specs.Prelude.{List};
-    ghost use Rattle.tca_report.specs.Reports.{PacketReport};
+    ghost use Rattle.tca_report.specs.report.Reports.{PacketReport};
     ghost use Rattle.tca_log.specs.Logs.{IsKept, index_rows};
 
     ghost Value = { List PacketReport };

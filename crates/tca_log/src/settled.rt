@@ -17,7 +17,7 @@ pub struct Settled<'a, A: Allocator + Copy = Global> {
 
 impl<'a, A: Allocator + Copy> Model for Settled<'a, A> {
     ghost use Rattle.std.specs.Prelude.{List};
-    ghost use Rattle.tca_report.specs.Reports.{PacketReport};
+    ghost use Rattle.tca_report.specs.report.Reports.{PacketReport};
     ghost use Rattle.tca_log.specs.Disputes.{settled_of};
 
     ghost Value = { List PacketReport };

@@ -2,8 +2,8 @@
 ghost use Rattle.std.specs.Prelude.{◌≡◌, ◌+◌, ◌<◌, ◌≤◌, ◌++◌, [], List, map, length, IfOk, IfErr, OnOk, OnErr, IsOk, false, nat_lt};
 ghost use Rattle.std.specs.List.Sorted.{IsStrictlySortedBy};
 ghost use Rattle.tca_join.specs.Sets.{in_order};
-ghost use Rattle.tca_report.specs.Reports.{report_cmp};
-ghost use Rattle.tca_report.specs.Identities.{identity_cmp};
+ghost use Rattle.tca_report.specs.report.Reports.{report_cmp};
+ghost use Rattle.tca_report.specs.report.Identities.{identity_cmp};
 ghost use Rattle.tca_log.specs.Arrivals.{Many, after};
 ghost use Rattle.tca_log.specs.Rows.Ordered.{put_each, without_each, AreApart};
 ghost use Rattle.tca_log.specs.Faults.{IsUnionRefused, IsRefusedBy};

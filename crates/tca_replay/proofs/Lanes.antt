@@ -1,8 +1,8 @@
 -- A lane as rows come and go.
 use Rattle.std.proofs.Common.{◌≡◌, ℕ, ◌+◌, ◌*◌, Bool, true, false, List, length, get_or, take, refl, sym, ap, subst, ◌∙◌, arith, Option, Some}
 use Rattle.std.specs.List.Sorted.{IsStrictlySortedBy}
-use Rattle.tca_report.specs.Reports.{PacketReport, report_cmp}
-use Rattle.tca_report.proofs.Order.{report_total}
+use Rattle.tca_report.specs.report.Reports.{PacketReport, report_cmp}
+use Rattle.tca_report.proofs.lemmas.report.Order.{report_total}
 use Rattle.tca_join.specs.Sets.{put, has}
 use Rattle.tca_log.specs.Ordered.{rank, without, Ordered}
 use Rattle.tca_log.proofs.Places.{length_put, length_without}

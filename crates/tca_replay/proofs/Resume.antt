@@ -2,7 +2,7 @@
 use Rattle.std.proofs.Common.{◌≡◌, ℕ, zero, suc, ◌+◌, ◌-◌, ◌*◌, ◌/◌, ◌<◌, ◌≤◌, min, Bool, List, [], ◌∷◌, ◌++◌, length, get_or, take, drop, refl, sym, ap, subst, ◌∙◌, arith, Option, Some, None, inl, inr, mul-le-mul_left}
 use Rattle.std.proofs.lemmas.Bool.{cases_lt}
 use Rattle.std.proofs.lemmas.List.{length-take-le}
-use Rattle.tca_report.specs.Reports.{PacketReport, report_cmp}
+use Rattle.tca_report.specs.report.Reports.{PacketReport, report_cmp}
 use Rattle.tca_accounts.specs.declared.span.Span.{Span}
 use Rattle.tca_replay.specs.declared.run.Run.{Run}
 use Rattle.tca_replay.specs.declared.run.Mark.{Mark}
@@ -11,7 +11,7 @@ use Rattle.tca_replay.specs.Runs.{course_at}
 use Rattle.tca_replay.specs.Marks.{IsMark, AreMarks}
 use Rattle.tca_log.specs.Ordered.{rank, Ordered}
 use Rattle.tca_log.proofs.Ranks.{rank-le}
-use Rattle.tca_report.proofs.Order.{report_total}
+use Rattle.tca_report.proofs.lemmas.report.Order.{report_total}
 use Rattle.std.specs.Prelude.{IfSome}
 use Rattle.tca_replay.specs.Lanes.{IsLane, row_of}
 use Rattle.tca_replay.proofs.Steps.{course_append, course_none, take_closed}

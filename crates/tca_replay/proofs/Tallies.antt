@@ -1,7 +1,7 @@
 -- The tally of a lane that was resumed.
 use Rattle.std.proofs.Common.{◌≡◌, ℕ, Bool, List, [], sym, ap, subst, ◌∙◌, Option, Some, None}
 use Rattle.std.specs.List.Sorted.{IsStrictlySortedBy}
-use Rattle.tca_report.specs.Reports.{PacketReport, report_cmp}
+use Rattle.tca_report.specs.report.Reports.{PacketReport, report_cmp}
 use Rattle.tca_meters.specs.declared.colour.Colour.{Colour}
 use Rattle.tca_accounts.specs.Spans.{Ascend}
 use Rattle.tca_accounts.specs.Bills.{coloured_by, tally_of}

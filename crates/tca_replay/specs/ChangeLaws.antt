@@ -1,7 +1,7 @@
 -- The laws of lists of changes.
 use Rattle.std.specs.Prelude.{◌≡◌, List}
 use Rattle.std.specs.List.Sorted.{IsStrictlySortedBy}
-use Rattle.tca_report.specs.Reports.{PacketReport, report_cmp}
+use Rattle.tca_report.specs.report.Reports.{PacketReport, report_cmp}
 use Rattle.tca_join.specs.Sets.{has}
 use Rattle.tca_meters.specs.Packets.{Rule}
 use Rattle.tca_accounts.specs.Bills.{coloured_by, tally_of}

@@ -1,7 +1,7 @@
 -- Lists of rows that come and go.
 use Rattle.std.specs.Prelude.{Bool, not, ◌&&◌, ◌||◌, List, [], ◌∷◌}
 use Rattle.std.specs.Ordering.{eq_by_cmp}
-use Rattle.tca_report.specs.Reports.{PacketReport, report_cmp}
+use Rattle.tca_report.specs.report.Reports.{PacketReport, report_cmp}
 use Rattle.tca_join.specs.Sets.{put}
 use Rattle.tca_log.specs.Ordered.{without}
 use Rattle.tca_replay.specs.Lanes.{LaneView, lane_put, lane_less, lane_ready}

@@ -1,6 +1,6 @@
 -- Metering a list of reports from a state on.
 use Rattle.std.specs.Prelude.{ℕ, List, [], ◌∷◌, Option, Some, None}
-use Rattle.tca_report.specs.Reports.{PacketReport}
+use Rattle.tca_report.specs.report.Reports.{PacketReport}
 use Rattle.tca_meters.specs.declared.colour.Colour.{Colour}
 use Rattle.tca_meters.specs.Packets.{Rule}
 use Rattle.tca_accounts.specs.Spans.{period_of}

@@ -1,7 +1,7 @@
 -- What a lane keeps, and what its callers see.
 use Rattle.std.specs.Prelude.{◌≡◌, ℕ, ◌+◌, ◌*◌, ◌<◌, ◌≤◌, min, Bool, true, false, List, length, take, get_or, Option, Some, None, IfNone, if◌then◌else◌}
 use Rattle.std.specs.Ordering.{is_lt}
-use Rattle.tca_report.specs.Reports.{PacketReport, report_cmp}
+use Rattle.tca_report.specs.report.Reports.{PacketReport, report_cmp}
 use Rattle.tca_join.specs.Sets.{put}
 use Rattle.tca_log.specs.Ordered.{rank, without, Ordered}
 use Rattle.tca_accounts.specs.declared.span.Span.{Span}

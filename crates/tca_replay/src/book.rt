@@ -2,7 +2,7 @@
 ghost use Rattle.std.specs.Prelude.{◌≡◌, ℕ, ◌<◌, ◌≤◌, List, [], length, map, is_none, IfOk, OnOk, OnErr};
 ghost use Rattle.std.specs.List.Sorted.{IsStrictlySortedBy};
 ghost use Rattle.tca_join.specs.Sets.{put};
-ghost use Rattle.tca_report.specs.Reports.{PacketReport, report_cmp};
+ghost use Rattle.tca_report.specs.report.Reports.{PacketReport, report_cmp};
 ghost use Rattle.tca_log.specs.Disputes as disputes;
 ghost use Rattle.tca_accounts.specs.Bills.{bill_of};
 ghost use Rattle.tca_log.specs.declared.answer.Added.TheVariants.{Fresh, NewDispute};

@@ -1,12 +1,5 @@
-pub mod Devices
-pub mod Export
-pub mod ExportReading
-pub mod FaultNumbers
-pub mod Identities
-pub mod Reports
-pub mod Extract
-pub mod Inputs
-pub mod Captures
-pub mod FirstFaults
-pub mod Gathering
-pub mod Progress
+pub mod report
+pub mod device
+pub mod export
+pub mod input
+pub mod Faults

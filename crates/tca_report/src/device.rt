@@ -1,8 +1,12 @@
 //! What octets come from and go to, with a count of the calls that failed.
 ghost use Rattle.std.specs.Prelude.{◌≡◌, ◌<◌, ◌≤◌, ◌+◌, ℕ, List, Option, IfOk, IsOk, OnOk, length};
 ghost use Rattle.std.specs.Io.KnownBytes.{ReadConsumes, WriteAppends};
-ghost use Rattle.tca_report.specs.Devices.{CountsFailure, Hosted, Rises, most_failures};
+ghost use Rattle.tca_report.specs.device.Devices.{CountsFailure, Hosted, Rises, most_failures};
 
+mod limited;
+mod octets;
+
+pub use octets::{ReadFault, WriteFault, put_all, read_octets};
 use std::io;
 use std::marker::Model;
 
@@ -58,7 +62,7 @@ pub struct Host<D> {
 }
 
 impl<D> Model for Host<D> {
-    ghost use Rattle.tca_report.specs.Devices.{Hosted};
+    ghost use Rattle.tca_report.specs.device.Devices.{Hosted};
 
     ghost Value = { Hosted D };
 

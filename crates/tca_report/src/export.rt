@@ -1,10 +1,15 @@
 //! The log export: its limit, its faults and its law.
 ghost use Rattle.std.specs.Prelude.{◌≡◌, List};
-ghost use Rattle.tca_report.specs.Export.{IsExportable, export};
-ghost use Rattle.tca_report.specs.FaultNumbers.{export_number};
-ghost use Rattle.tca_report.specs.Reports.{PacketReport};
+ghost use Rattle.tca_report.specs.export.Spelling.{IsExportable, export};
+ghost use Rattle.tca_report.specs.Faults.{export_number};
+ghost use Rattle.tca_report.specs.report.Reports.{PacketReport};
 
+mod reading;
+mod writing;
+
+pub use reading::read_export;
 use thiserror::Error;
+pub use writing::write_export;
 
 /// How many reports one export may have.
 pub(crate) const MOST_REPORTS: u32 = 4_194_304;

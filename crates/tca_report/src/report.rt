@@ -2,8 +2,8 @@
 ghost use Rattle.std.specs.Prelude.{◌≡◌};
 ghost use Rattle.std.specs.Cmp.{IsTotalOrder};
 ghost use Rattle.std.specs.declared.cmp.Ordering.TheVariants.{Equal};
-ghost use Rattle.tca_report.specs.Reports.{PacketReport, InRange, reported, ranged, report_cmp};
-ghost use Rattle.tca_report.specs.Identities.{identity_cmp, identity_of};
+ghost use Rattle.tca_report.specs.report.Reports.{PacketReport, InRange, reported, ranged, report_cmp};
+ghost use Rattle.tca_report.specs.report.Identities.{identity_cmp, identity_of};
 ghost use Rattle.tca_report.specs.declared.report.Identity.{Identity};
 
 use std::marker::Model;
@@ -44,7 +44,7 @@ pub struct Report {
 }
 
 impl Model for Report {
-    ghost use Rattle.tca_report.specs.Reports.{PacketReport, InRange};
+    ghost use Rattle.tca_report.specs.report.Reports.{PacketReport, InRange};
 
     ghost Value = { PacketReport };
 

@@ -178,6 +178,10 @@ fn reports_are_refused(rt: HostRuntime) -> Result<(), Fail> {
         refused(&rt, coarse.as_slice())?,
         ExportFault::Range { n: 2 }
     );
+    // The second report is below the first, and its DSCP is out of range.
+    let both = with_end(&rt, part(three, 10, 30), b"\x40\x00\x00\x00\x01")?;
+    let both = pair_of(&rt, part(three, 35, 60), both.as_slice())?;
+    assert_eq!(rt; refused(&rt, both.as_slice())?, ExportFault::Range { n: 1 });
     Ok(())
 }
 

@@ -3,8 +3,8 @@ ghost use Rattle.std.specs.Prelude.{◌≡◌, ◌<◌, ◌≤◌, ◌++◌, IfO
 ghost use Rattle.std.specs.List.{flat_map, zip};
 ghost use Rattle.std.specs.Io.KnownBytes.{Appends};
 ghost use Rattle.tca_join.specs.Sets.{has, in_order};
-ghost use Rattle.tca_report.specs.Devices.{CountsFailure};
-ghost use Rattle.tca_report.specs.Reports.{PacketReport, report_cmp};
+ghost use Rattle.tca_report.specs.device.Devices.{CountsFailure};
+ghost use Rattle.tca_report.specs.report.Reports.{PacketReport, report_cmp};
 ghost use Rattle.tca_log.specs.Arrivals.{Arrival, after_all, all_given};
 ghost use Rattle.tca_accounts.specs.Bills.{bill_of};
 ghost use Rattle.tca_accounts.specs.Plans.{AccountPlan};

@@ -14,38 +14,38 @@ use Rattle.tca_templates.specs.Templates.{Templates, shortest_of}
 use Rattle.tca_templates.specs.Specifiers.{ChangeView, AllGone, Gone, New, set_id, head_of, specs_on, defined, behind_head, change_at, changed, onward, after_change, template_front}
 use Rattle.tca_templates.specs.Fields.{IsSound}
 use Rattle.tca_templates.proofs.Choices.{chosen, refused, same_ok}
-use Rattle.tca_templates.proofs.Specs.{specs_told}
+use Rattle.tca_templates.proofs.Specs.{specs_holds}
 
-head_told : (options : Bool) (at count : ℕ) (octets : List ℕ) (n : ℕ) → 4 ≤ length octets → head_of options at count octets ≡ Ok n → (4 ≤ n) × (n ≤ length octets)
-head_told false at count octets n le e = let k : 4 ≡ n = cc in (omega arith, omega arith)
-head_told true at count octets n le e =
+head_holds : (options : Bool) (at count : ℕ) (octets : List ℕ) (n : ℕ) → 4 ≤ length octets → head_of options at count octets ≡ Ok n → (4 ≤ n) × (n ≤ length octets)
+head_holds false at count octets n le e = let k : 4 ≡ n = cc in (omega arith, omega arith)
+head_holds true at count octets n le e =
     let a = refused (nat_lt (length octets) 6) (TemplateCut at) _ n e in
     let b = refused ((big_number 2 (drop 4 octets) == 0) || nat_lt count (big_number 2 (drop 4 octets))) (Scope at) (Ok 6) n a.1 in
     let k : 6 ≡ n = same_ok 6 n b.1 in
     (omega arith, grind (arith, nat_tests, a.0, k))
 
-defined_told : (id : ℕ) (r : Result (List FieldSpec × ℕ) DecodeFault) (x : ChangeView × ℕ) → defined id r ≡ Ok x → (y : List FieldSpec × ℕ) × (r ≡ Ok y) × (y.1 ≡ x.1)
-defined_told id (Err f) x e = absurd cc
-defined_told id (Ok y) x e =
+defined_holds : (id : ℕ) (r : Result (List FieldSpec × ℕ) DecodeFault) (x : ChangeView × ℕ) → defined id r ≡ Ok x → (y : List FieldSpec × ℕ) × (r ≡ Ok y) × (y.1 ≡ x.1)
+defined_holds id (Err f) x e = absurd cc
+defined_holds id (Ok y) x e =
     let found : ChangeView × ℕ = (New id y.0, y.1) in
     let a = refused (shortest_of y.0 == 0) (EmptyTemplate id) (Ok found) x e in
     (y, refl, ap (λ (p : ChangeView × ℕ). p.1) (same_ok found x a.1))
 
-behind_told : (options : Bool) (id at count : ℕ) (octets : List ℕ) (x : ChangeView × ℕ) → 4 ≤ length octets
+behind_holds : (options : Bool) (id at count : ℕ) (octets : List ℕ) (x : ChangeView × ℕ) → 4 ≤ length octets
     → behind_head id at count octets (head_of options at count octets) ≡ Ok x → (4 ≤ x.1) × (x.1 ≤ length octets)
-behind_told options id at count octets x le e = go (head_of options at count octets) refl e
+behind_holds options id at count octets x le e = go (head_of options at count octets) refl e
   where
     go : (r : Result ℕ DecodeFault) → head_of options at count octets ≡ r → behind_head id at count octets r ≡ Ok x → (4 ≤ x.1) × (x.1 ≤ length octets)
     go (Err f) h e = absurd cc
     go (Ok n) h e =
-        let a = head_told options at count octets n le h in
-        let d = defined_told id (specs_on (TemplateCut at) [] n count (drop n octets)) x e in
-        let s = specs_told (TemplateCut at) [] n count (drop n octets) d.0 d.1 in
+        let a = head_holds options at count octets n le h in
+        let d = defined_holds id (specs_on (TemplateCut at) [] n count (drop n octets)) x e in
+        let s = specs_holds (TemplateCut at) [] n count (drop n octets) d.0 d.1 in
         (omega (arith, a.0, s.more, d.2), omega (arith, a.1, s.within, d.2, length-drop n octets))
 
-pub change_told : (options : Bool) (at : ℕ) (octets : List ℕ) (x : ChangeView × ℕ) → 4 ≤ length octets → change_at options at octets ≡ Ok x → (4 ≤ x.1) × (x.1 ≤ length octets)
+pub change_holds : (options : Bool) (at : ℕ) (octets : List ℕ) (x : ChangeView × ℕ) → 4 ≤ length octets → change_at options at octets ≡ Ok x → (4 ≤ x.1) × (x.1 ≤ length octets)
 unfolding change_at
-change_told options at octets x le e =
+change_holds options at octets x le e =
     let id = big_number 2 octets in
     let count = big_number 2 (drop 2 octets) in
     let all : ChangeView × ℕ = (AllGone, 4) in
@@ -56,7 +56,7 @@ change_told options at octets x le e =
           let a = refused (nat_lt id 256) (TemplateId at) _ x w.1 in
           elim (chosen (count == 0) (Ok gone) _ (Ok x) a.1) [
             | inl v ↦ let k : 4 ≡ x.1 = ap (λ (p : ChangeView × ℕ). p.1) (same_ok gone x v.1) in (omega arith, omega arith)
-            | inr v ↦ let b = refused (nat_lt 512 count) TooMany _ x v.1 in behind_told options id at count octets x le b.1
+            | inr v ↦ let b = refused (nat_lt 512 count) TooMany _ x v.1 in behind_holds options id at count octets x le b.1
           ]
     ]
 
@@ -65,9 +65,9 @@ module _ (domain : ℕ) (options : Bool) where
   unfolding template_front
   change_advances ts us at n octets e = go (nat_lt (length octets) 4) (change_at options at octets) refl refl e
     where
-      onward_told : (size : ℕ) (r : Result Templates DecodeFault) → onward size r ≡ Next us n → size ≡ n
-      onward_told size (Ok vs) e = cc
-      onward_told size (Err f) e = absurd cc
+      onward_holds : (size : ℕ) (r : Result Templates DecodeFault) → onward size r ≡ Next us n → size ≡ n
+      onward_holds size (Ok vs) e = cc
+      onward_holds size (Err f) e = absurd cc
 
       go : (b : Bool) (r : Result (ChangeView × ℕ) DecodeFault) → nat_lt (length octets) 4 ≡ b → change_at options at octets ≡ r
           → cond b Ends (after_change domain options ts r) ≡ Next us n → (0 < n) × (n ≤ length octets)
@@ -75,9 +75,9 @@ module _ (domain : ℕ) (options : Bool) where
       go false (Err g) l f e = absurd cc
       go false (Ok x) l f e =
           let le : 4 ≤ length octets = grind (arith, nat_tests, l) in
-          let told = change_told options at octets x le f in
-          let k = onward_told x.1 (changed domain options ts x.0) e in
-          (omega (arith, told.0, k), omega (arith, told.1, k))
+          let facts = change_holds options at octets x le f in
+          let k = onward_holds x.1 (changed domain options ts x.0) e in
+          (omega (arith, facts.0, k), omega (arith, facts.1, k))
 
   pub changes_end : (ts : Templates) (at : ℕ) (octets : List ℕ) → length octets < 4 → walk (template_front domain options) ts at octets ≡ Ok ts
   unfolding template_front

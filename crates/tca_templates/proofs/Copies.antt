@@ -47,10 +47,10 @@ pub keys_same : (es : List (Key × Template)) → keys_of es ≡ keys_of (templa
 keys_same [] = refl
 keys_same (e ∷ es) = ap (λ (l : List Key). e.0 ∷ l) (keys_same es)
 
-pub get_seen : (es : List (Key × Template)) (i : ℕ) (k : Key) (t : Template) → Some (k, t) ≡ slice_get es i → slice_get (templates_of es) i ≡ Some (k, template_of t)
-get_seen [] i k t h = absurd cc
-get_seen (e ∷ es) zero k t h =
+pub get_view : (es : List (Key × Template)) (i : ℕ) (k : Key) (t : Template) → Some (k, t) ≡ slice_get es i → slice_get (templates_of es) i ≡ Some (k, template_of t)
+get_view [] i k t h = absurd cc
+get_view (e ∷ es) zero k t h =
     let found : Key × Template = (k, t) in
     let same : found ≡ e = cc in
     ap (λ (z : Key × Template). Some (z.0, template_of z.1)) (sym same)
-get_seen (e ∷ es) (suc i) k t h = get_seen es i k t h
+get_view (e ∷ es) (suc i) k t h = get_view es i k t h

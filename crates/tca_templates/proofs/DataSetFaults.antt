@@ -13,7 +13,7 @@ use Rattle.tca_templates.specs.Parts.{BeginsWith}
 use Rattle.tca_templates.specs.DataSets.{IsRecord, placed_behind}
 use Rattle.tca_templates.specs.FirstFaults.{IsFaultyDataSet}
 use Rattle.tca_templates.proofs.Choices.{one_fault, no_fault}
-use Rattle.tca_templates.proofs.Fields.{fields_told}
+use Rattle.tca_templates.proofs.Fields.{fields_holds}
 use Rattle.tca_templates.proofs.Records.{data_ends, data_bad, data_next}
 use Rattle.tca_templates.proofs.DataSetLaws.{fields_found, fields_only, records_pass}
 
@@ -67,12 +67,12 @@ module _ (h : Header) (t : TemplateView) (some : 0 < shortest_of t.specs) where
           }
       go further le (Some x) o =
           let f = fields_found [] 0 t.specs octets x o in
-          let told = fields_told [] 0 t.specs octets x o in
+          let facts = fields_holds [] 0 t.specs octets x o in
           let n = x.1 in
           let size : x.1 ≡ f.size = omega (arith, f.all) in
-          let within : n ≤ length octets = omega (arith, told.within) in
+          let within : n ≤ length octets = omega (arith, facts.within) in
           let next = data_next h t some before at octets x.0 n le o in
-          let r = further (before ++ placed h t.options before x.0 ∷ []) (at + n) (drop n octets) (omega (arith, told.least, told.within, some, length-drop n octets)) (sym next ∙ e) in
+          let r = further (before ++ placed h t.options before x.0 ∷ []) (at + n) (drop n octets) (omega (arith, facts.least, facts.within, some, length-drop n octets)) (sym next ∙ e) in
           let more : IsRecord t.specs f.more (take n octets) = subst (λ m. IsRecord t.specs f.more (take m octets)) (sym size) f.each in
           let own : IsRecord t.specs x.0 (take n octets) = subst (λ (fs : List FieldView). IsRecord t.specs fs (take n octets)) (sym f.is) more in
           let there : at + n + length r.front ≡ at + length (take n octets ++ r.front) = omega (arith, length-append (take n octets) r.front, length-take-le n octets within) in

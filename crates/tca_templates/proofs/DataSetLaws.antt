@@ -13,7 +13,7 @@ use Rattle.tca_templates.specs.Records.{FieldView, PlacedView, fits, field_at, f
 use Rattle.tca_templates.specs.Parts.{InTurn}
 use Rattle.tca_templates.specs.DataSets.{IsValue, Fixed, Short, Long, IsRecord, IsDataSet, placed_behind}
 use Rattle.tca_templates.proofs.Choices.{chosen, passed, same_some, same_ok}
-use Rattle.tca_templates.proofs.Fields.{field_of, field_told, fields_next, fields_cut, fields_done, fields_told}
+use Rattle.tca_templates.proofs.Fields.{field_of, field_holds, fields_next, fields_cut, fields_done, fields_holds}
 use Rattle.tca_templates.proofs.Records.{data_ends, data_bad, data_next}
 
 -- a value of this size behind so many octets
@@ -28,7 +28,7 @@ short_found : (size b : ℕ) (bs : List ℕ) (x : ℕ × ℕ) → size ≡ 65535
 short_found size b bs x is few e =
     let f = fits_found (b ∷ bs) 1 b x e in
     subst (λ (p : ℕ × ℕ). IsValue size (take p.1 (drop p.0 (b ∷ bs))) (take (p.0 + p.1) (b ∷ bs))) f.1
-    (Short is (record { size = b; whole = take-add 1 b (b ∷ bs); few = few; says = length-take-le b bs (omega (arith, f.0)) }))
+    (Short is (record { size = b; whole = take-add 1 b (b ∷ bs); few = few; measured = length-take-le b bs (omega (arith, f.0)) }))
 
 long_found : (size a b c : ℕ) (bs : List ℕ) (x : ℕ × ℕ) → size ≡ 65535 → 255 ≤ a → fits (a ∷ (b ∷ (c ∷ bs))) 3 (big_number 2 (b ∷ (c ∷ bs))) ≡ Some x
     → IsValue size (take x.1 (drop x.0 (a ∷ (b ∷ (c ∷ bs))))) (take (x.0 + x.1) (a ∷ (b ∷ (c ∷ bs))))
@@ -37,7 +37,7 @@ long_found size a b c bs x is marks e =
     let n = big_number 2 (b ∷ (c ∷ bs)) in
     let f = fits_found octets 3 n x e in
     subst (λ (p : ℕ × ℕ). IsValue size (take p.1 (drop p.0 octets)) (take (p.0 + p.1) octets)) f.1
-    (Long is (record { marker = a; high = b; low = c; whole = take-add 3 n octets; marks = marks; says = length-take-le n bs (omega (arith, f.0)) }))
+    (Long is (record { marker = a; high = b; low = c; whole = take-add 3 n octets; marks = marks; measured = length-take-le n bs (omega (arith, f.0)) }))
 
 variable_found : (size : ℕ) (octets : List ℕ) (x : ℕ × ℕ) → size ≡ 65535
     → cond (length octets == 0) None
@@ -102,7 +102,7 @@ fields_found fields used (s ∷ ss) octets x e = go (λ more u rest h. fields_fo
         let n = y.0 + y.1 in
         let own = field_of s y octets in
         let r = found (fields ++ own ∷ []) (used + n) (drop n octets) (sym (fields_next fields used s ss octets y o) ∙ e) in
-        let f = field_told s octets y o in
+        let f = field_holds s octets y o in
         record {
           more = own ∷ r.more;
           size = n + r.size;
@@ -132,11 +132,11 @@ module _ (h : Header) (t : TemplateView) (some : 0 < shortest_of t.specs) where
       go further le None o = let bad : Err (RecordCut at) ≡ Ok after = sym (data_bad h t some before at octets le o) ∙ e in absurd cc
       go further le (Some x) o =
           let f = fields_found [] 0 t.specs octets x o in
-          let told = fields_told [] 0 t.specs octets x o in
+          let facts = fields_holds [] 0 t.specs octets x o in
           let n = x.1 in
           let size : x.1 ≡ f.size = omega (arith, f.all) in
           let next = data_next h t some before at octets x.0 n le o in
-          let r = further (before ++ placed h t.options before x.0 ∷ []) (at + n) (drop n octets) (omega (arith, told.least, told.within, some, length-drop n octets)) (sym next ∙ e) in
+          let r = further (before ++ placed h t.options before x.0 ∷ []) (at + n) (drop n octets) (omega (arith, facts.least, facts.within, some, length-drop n octets)) (sym next ∙ e) in
           let own : IsRecord t.specs x.0 (take n octets) = subst (λ (fs : List FieldView). IsRecord t.specs fs (take n octets)) (sym f.is) (subst (λ m. IsRecord t.specs f.more (take m octets)) (sym size) f.each) in
           record {
             records = x.0 ∷ r.records;
@@ -194,13 +194,13 @@ value_front size value own rest (Short is p) =
     let t2 : (length octets == 0) ≡ false = grind (arith, nat_tests) in
     let t3 : nat_lt p.size 255 ≡ true = grind (arith, nat_tests, p.few) in
     let n = length-append value rest in
-    let t4 : nat_lt (length octets) (1 + p.size) ≡ false = grind (arith, nat_tests, n, p.says) in
+    let t4 : nat_lt (length octets) (1 + p.size) ≡ false = grind (arith, nat_tests, n, p.measured) in
     let long : Option (ℕ × ℕ) = cond (nat_lt (length octets) 3) None (fits octets 3 (big_number 2 (drop 1 octets))) in
     let more : Option (ℕ × ℕ) = cond (nat_lt p.size 255) (fits octets 1 p.size) long in
     record {
       skip = 1;
       at = ap (field_at size) whole ∙ ap (λ b. cond b (variable octets) (fits octets 0 size)) t1 ∙ ap (λ b. cond b None more) t2
-          ∙ ap (λ b. cond b (fits octets 1 p.size) long) t3 ∙ ap (λ b. cond b None (Some (1, p.size))) t4 ∙ ap (λ m. Some (1, m)) (sym p.says);
+          ∙ ap (λ b. cond b (fits octets 1 p.size) long) t3 ∙ ap (λ b. cond b None (Some (1, p.size))) t4 ∙ ap (λ m. Some (1, m)) (sym p.measured);
       all = omega (arith, ap length p.whole);
       value_is = ap (λ os. take (length value) (drop 1 os)) whole ∙ take_at value rest (length value) refl;
     }
@@ -213,13 +213,13 @@ value_front size value own rest (Long is p) =
     let t3 : nat_lt p.marker 255 ≡ false = grind (arith, nat_tests, p.marks) in
     let t5 : nat_lt (length octets) 3 ≡ false = grind (arith, nat_tests) in
     let n = length-append value rest in
-    let t4 : nat_lt (length octets) (3 + many) ≡ false = grind (arith, nat_tests, n, p.says) in
+    let t4 : nat_lt (length octets) (3 + many) ≡ false = grind (arith, nat_tests, n, p.measured) in
     let long : Option (ℕ × ℕ) = cond (nat_lt (length octets) 3) None (fits octets 3 many) in
     let more : Option (ℕ × ℕ) = cond (nat_lt p.marker 255) (fits octets 1 p.marker) long in
     record {
       skip = 3;
       at = ap (field_at size) whole ∙ ap (λ b. cond b (variable octets) (fits octets 0 size)) t1 ∙ ap (λ b. cond b None more) t2
-          ∙ ap (λ b. cond b (fits octets 1 p.marker) long) t3 ∙ ap (λ b. cond b None (fits octets 3 many)) t5 ∙ ap (λ b. cond b None (Some (3, many))) t4 ∙ ap (λ m. Some (3, m)) (sym p.says);
+          ∙ ap (λ b. cond b (fits octets 1 p.marker) long) t3 ∙ ap (λ b. cond b None (fits octets 3 many)) t5 ∙ ap (λ b. cond b None (Some (3, many))) t4 ∙ ap (λ m. Some (3, m)) (sym p.measured);
       all = omega (arith, ap length p.whole);
       value_is = ap (λ os. take (length value) (drop 3 os)) whole ∙ take_at value rest (length value) refl;
     }
@@ -261,11 +261,11 @@ module _ (h : Header) (t : TemplateView) where
       let octets : front ++ rest ≡ p.own ++ tail = ap (λ os. os ++ rest) p.whole ∙ append_assoc p.own p.rest rest in
       let all : 0 + length p.own ≡ length p.own = omega arith in
       let read : fields_on [] 0 t.specs (p.own ++ tail) ≡ Some (r, length p.own) = fields_only [] 0 t.specs r p.own tail p.is ∙ ap (λ n. Some (r, n)) all in
-      let told = fields_told [] 0 t.specs (p.own ++ tail) (r, length p.own) read in
+      let facts = fields_holds [] 0 t.specs (p.own ++ tail) (r, length p.own) read in
       let size : length front ≡ length p.own + length p.rest = ap length p.whole ∙ length-append p.own p.rest in
       let there : at + length p.own + length p.rest ≡ at + length front = omega (arith, size) in
       ap (λ os. walk (data_front h t) before at os) octets
-      ∙ data_next h t some before at (p.own ++ tail) r (length p.own) (omega (arith, told.least, length-append p.own tail)) read
+      ∙ data_next h t some before at (p.own ++ tail) r (length p.own) (omega (arith, facts.least, length-append p.own tail)) read
       ∙ ap (λ os. walk (data_front h t) (before ++ placed h t.options before r ∷ []) (at + length p.own) os) (drop_at p.own tail (length p.own) refl)
       ∙ records_pass some rs (before ++ placed h t.options before r ∷ []) (at + length p.own) p.rest rest p.behind
       ∙ ap (λ n. walk (data_front h t) (placed_behind h t.options before (r ∷ rs)) n rest) there

@@ -9,8 +9,8 @@ use Rattle.tca_templates.specs.Templates.{least_of, shortest_of}
 use Rattle.tca_templates.specs.Records.{FieldView, fits, field_at, fields_on}
 use Rattle.tca_templates.proofs.Choices.{chosen, passed, same_some}
 
-fits_told : (octets : List ℕ) (skip size : ℕ) (x : ℕ × ℕ) → fits octets skip size ≡ Some x → (x.0 + x.1 ≤ length octets) × (x.0 ≡ skip) × (x.1 ≡ size)
-fits_told octets skip size x e =
+fits_holds : (octets : List ℕ) (skip size : ℕ) (x : ℕ × ℕ) → fits octets skip size ≡ Some x → (x.0 + x.1 ≤ length octets) × (x.0 ≡ skip) × (x.1 ≡ size)
+fits_holds octets skip size x e =
     let found : ℕ × ℕ = (skip, size) in
     let a = passed (nat_lt (length octets) (skip + size)) (Some found) x e in
     let k = same_some found x a.1 in
@@ -18,8 +18,8 @@ fits_told octets skip size x e =
     let q : size ≡ x.1 = ap (λ (y : ℕ × ℕ). y.1) k in
     (grind (arith, nat_tests, a.0, p, q), sym p, sym q)
 
-pub field_told : (s : FieldSpec) (octets : List ℕ) (x : ℕ × ℕ) → field_at s.length octets ≡ Some x → (x.0 + x.1 ≤ length octets) × (least_of s ≤ x.0 + x.1)
-field_told s octets x e = go (s.length == 65535) e
+pub field_holds : (s : FieldSpec) (octets : List ℕ) (x : ℕ × ℕ) → field_at s.length octets ≡ Some x → (x.0 + x.1 ≤ length octets) × (least_of s ≤ x.0 + x.1)
+field_holds s octets x e = go (s.length == 65535) e
   where
     go : (b : Bool)
         → cond b
@@ -28,14 +28,14 @@ field_told s octets x e = go (s.length == 65535) e
         (cond (nat_lt (length octets) 3) None (fits octets 3 (big_number 2 (drop 1 octets))))))
         (fits octets 0 s.length) ≡ Some x
         → (x.0 + x.1 ≤ length octets) × (cond b 1 s.length ≤ x.0 + x.1)
-    go false e = let f = fits_told octets 0 s.length x e in (f.0, omega (arith, f.1, f.2))
+    go false e = let f = fits_holds octets 0 s.length x e in (f.0, omega (arith, f.1, f.2))
     go true e =
         let a = passed (length octets == 0) _ x e in
         elim (chosen (nat_lt (slice_index octets 0) 255) (fits octets 1 (slice_index octets 0)) (cond (nat_lt (length octets) 3) None (fits octets 3 (big_number 2 (drop 1 octets)))) (Some x) a.1) [
-          | inl w ↦ let f = fits_told octets 1 _ x w.1 in (f.0, omega (arith, f.1))
+          | inl w ↦ let f = fits_holds octets 1 _ x w.1 in (f.0, omega (arith, f.1))
           | inr w ↦
               let b = passed (nat_lt (length octets) 3) _ x w.1 in
-              let f = fits_told octets 3 _ x b.1 in (f.0, omega (arith, f.1))
+              let f = fits_holds octets 3 _ x b.1 in (f.0, omega (arith, f.1))
         ]
 
 abbrev pub field_of : FieldSpec → ℕ × ℕ → List ℕ → FieldView
@@ -69,21 +69,21 @@ pub record IsRecord (used : ℕ) (specs : List FieldSpec) (octets : List ℕ) (n
   pub least : used + shortest_of specs ≤ n
   pub within : n ≤ used + length octets
 
-pub fields_told : (fields : List FieldView) (used : ℕ) (specs : List FieldSpec) (octets : List ℕ) (x : List FieldView × ℕ)
+pub fields_holds : (fields : List FieldView) (used : ℕ) (specs : List FieldSpec) (octets : List ℕ) (x : List FieldView × ℕ)
     → fields_on fields used specs octets ≡ Some x → IsRecord used specs octets x.1
-fields_told fields used [] octets x e =
+fields_holds fields used [] octets x e =
     let done : List FieldView × ℕ = (fields, used) in
     let k : done ≡ x = same_some done x (sym (fields_done fields used octets) ∙ e) in
     let u : used ≡ x.1 = ap (λ (p : List FieldView × ℕ). p.1) k in
     record { least = omega arith; within = omega arith }
-fields_told fields used (s ∷ ss) octets x e = go (λ more u rest h. fields_told more u ss rest x h) (field_at s.length octets) refl
+fields_holds fields used (s ∷ ss) octets x e = go (λ more u rest h. fields_holds more u ss rest x h) (field_at s.length octets) refl
   where
     go : ((more : List FieldView) (u : ℕ) (rest : List ℕ) → fields_on more u ss rest ≡ Some x → IsRecord u ss rest x.1)
         → (o : Option (ℕ × ℕ)) → field_at s.length octets ≡ o → IsRecord used (s ∷ ss) octets x.1
-    go told None o = let bad : None ≡ Some x = sym (fields_cut fields used s ss octets o) ∙ e in absurd cc
-    go told (Some y) o =
-        let r = told (fields ++ field_of s y octets ∷ []) (used + (y.0 + y.1)) (drop (y.0 + y.1) octets) (sym (fields_next fields used s ss octets y o) ∙ e) in
-        let f = field_told s octets y o in
+    go facts None o = let bad : None ≡ Some x = sym (fields_cut fields used s ss octets o) ∙ e in absurd cc
+    go facts (Some y) o =
+        let r = facts (fields ++ field_of s y octets ∷ []) (used + (y.0 + y.1)) (drop (y.0 + y.1) octets) (sym (fields_next fields used s ss octets y o) ∙ e) in
+        let f = field_holds s octets y o in
         record {
           least = omega (arith, r.least, f.1);
           within = omega (arith, r.within, f.0, length-drop (y.0 + y.1) octets);

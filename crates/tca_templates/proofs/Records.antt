@@ -14,7 +14,7 @@ use Rattle.tca_templates.specs.Templates.{TemplateView, shortest_of}
 use Rattle.tca_templates.specs.Records.{FieldView, PlacedView, field_at, fields_on, placed, after_record, data_front}
 use Rattle.tca_templates.specs.Fields.{records_of, counted, fields_given, IsSound}
 use Rattle.tca_templates.proofs.Choices.{same_some}
-use Rattle.tca_templates.proofs.Fields.{field_of, fields_next, fields_cut, fields_done, fields_told}
+use Rattle.tca_templates.proofs.Fields.{field_of, fields_next, fields_cut, fields_done, fields_holds}
 
 abbrev in_front : List FieldView → Option (List FieldView × ℕ) → Option (List FieldView × ℕ)
 in_front front None = None
@@ -162,8 +162,8 @@ module _ (h : Header) (t : TemplateView) (some : 0 < shortest_of t.specs) where
       go false None l f e = absurd cc
       go false (Some x) l f e =
           let k : x.1 ≡ n = cc in
-          let told = fields_told [] 0 t.specs octets x f in
-          (omega (arith, told.least, some, k), omega (arith, told.within, k))
+          let facts = fields_holds [] 0 t.specs octets x f in
+          (omega (arith, facts.least, some, k), omega (arith, facts.within, k))
 
   pub data_ends : (records : List PlacedView) (at : ℕ) (octets : List ℕ) → length octets < shortest_of t.specs → walk (data_front h t) records at octets ≡ Ok records
   unfolding data_front

@@ -3,6 +3,7 @@ use Rattle.std.proofs.Common.{◌≡◌, ℕ, suc, ◌+◌, ◌%◌, ◌^◌, �
 use Rattle.std.specs.List.{IsDistinct, AllByRecursion}
 use Rattle.std.specs.Map.{keys_of}
 use Rattle.std.proofs.lemmas.Bool.Decides.{nat_tests}
+use Rattle.tca_wire.specs.Results.{◌>>=◌}
 use Rattle.tca_wire.specs.declared.message.Header.{Header}
 use Rattle.tca_wire.specs.declared.message.SetSpan.{SetSpan}
 use Rattle.tca_templates.specs.declared.fault.DecodeFault.{DecodeFault}
@@ -10,8 +11,8 @@ use Rattle.tca_templates.specs.declared.fault.DecodeFault.TheVariants.{TooMany}
 use Rattle.tca_templates.specs.Templates.{Key, Templates, TemplateView, same_key, define, withdraw, withdraw_all, stays, known}
 use Rattle.tca_templates.specs.Specifiers.{ChangeView, AllGone, Gone, New, changed}
 use Rattle.tca_templates.specs.Records.{FieldView, PlacedView, placed}
-use Rattle.tca_templates.specs.Reading.{Seen, before}
-use Rattle.tca_templates.specs.TemplateSets.{IsTemplateRecord, on_templates, after_changes}
+use Rattle.tca_templates.specs.Reading.{ReadMessage, before}
+use Rattle.tca_templates.specs.TemplateSets.{IsTemplateRecord, after_changes}
 use Rattle.tca_templates.specs.DataSets.{placed_behind}
 use Rattle.tca_templates.specs.Parts.{InTurn}
 use Rattle.tca_templates.specs.Sessions.{IsSession, of_others, ArePlaced, IsSet, TemplateSet, OptionsTemplateSet, Skipped, DataSet, Unplaced, Unread, AreSets, IsReading}
@@ -316,25 +317,25 @@ after_stays domain options (c ∷ cs) records ts us p s e = go (λ vs h k. after
   where
     go : ((vs : Templates) → IsSession vs → after_changes domain options vs cs ≡ Ok us → IsSession us)
         → (r : Result Templates DecodeFault) → changed domain options ts c ≡ r → IsSession us
-    go more (Err f) k = let bad : Err f ≡ Ok us = sym (ap (on_templates (λ vs. after_changes domain options vs cs)) k) ∙ e in absurd cc
-    go more (Ok vs) k = more vs (changed_stays domain options c p.own ts vs p.is s k) (sym (ap (on_templates (λ vs. after_changes domain options vs cs)) k) ∙ e)
+    go more (Err f) k = let bad : Err f ≡ Ok us = sym (ap (λ (x : Result Templates DecodeFault). x >>= (λ vs. after_changes domain options vs cs)) k) ∙ e in absurd cc
+    go more (Ok vs) k = more vs (changed_stays domain options c p.own ts vs p.is s k) (sym (ap (λ (x : Result Templates DecodeFault). x >>= (λ vs. after_changes domain options vs cs)) k) ∙ e)
 
-set_stays : (h : Header) (octets : List ℕ) (seen after : Seen) (s : SetSpan) → IsSet h octets seen after s → IsSession seen.templates → IsSession after.templates
-set_stays h octets seen after s (TemplateSet two ts p is) ok =
-    subst (λ (x : Seen). IsSession x.templates) (sym is) (after_stays h.domain false p.changes p.records seen.templates ts p.each ok p.effect)
-set_stays h octets seen after s (OptionsTemplateSet three ts p is) ok =
-    subst (λ (x : Seen). IsSession x.templates) (sym is) (after_stays h.domain true p.changes p.records seen.templates ts p.each ok p.effect)
-set_stays h octets seen after s (Skipped small not2 not3 is) ok = subst (λ (x : Seen). IsSession x.templates) (sym is) ok
-set_stays h octets seen after s (DataSet least none t k records p is) ok = subst (λ (x : Seen). IsSession x.templates) (sym is) ok
-set_stays h octets seen after s (Unplaced least none k is) ok = subst (λ (x : Seen). IsSession x.templates) (sym is) ok
-set_stays h octets seen after s (Unread least id u is) ok = subst (λ (x : Seen). IsSession x.templates) (sym is) ok
+set_stays : (h : Header) (octets : List ℕ) (given after : ReadMessage) (s : SetSpan) → IsSet h octets given after s → IsSession given.templates → IsSession after.templates
+set_stays h octets given after s (TemplateSet two ts p is) ok =
+    subst (λ (x : ReadMessage). IsSession x.templates) (sym is) (after_stays h.domain false p.changes p.records given.templates ts p.each ok p.effect)
+set_stays h octets given after s (OptionsTemplateSet three ts p is) ok =
+    subst (λ (x : ReadMessage). IsSession x.templates) (sym is) (after_stays h.domain true p.changes p.records given.templates ts p.each ok p.effect)
+set_stays h octets given after s (Skipped small not2 not3 is) ok = subst (λ (x : ReadMessage). IsSession x.templates) (sym is) ok
+set_stays h octets given after s (DataSet least none t k records p is) ok = subst (λ (x : ReadMessage). IsSession x.templates) (sym is) ok
+set_stays h octets given after s (Unplaced least none k is) ok = subst (λ (x : ReadMessage). IsSession x.templates) (sym is) ok
+set_stays h octets given after s (Unread least id u is) ok = subst (λ (x : ReadMessage). IsSession x.templates) (sym is) ok
 
-sets_stay : (h : Header) (octets : List ℕ) (seen : Seen) (ss : List SetSpan) (after : Seen) → AreSets h octets seen ss after → IsSession seen.templates → IsSession after.templates
-sets_stay h octets seen [] after p ok = subst (λ (x : Seen). IsSession x.templates) (sym p) ok
-sets_stay h octets seen (s ∷ ss) after p ok = sets_stay h octets p.next ss after p.others (set_stays h octets seen p.next s p.first ok)
+sets_stay : (h : Header) (octets : List ℕ) (given : ReadMessage) (ss : List SetSpan) (after : ReadMessage) → AreSets h octets given ss after → IsSession given.templates → IsSession after.templates
+sets_stay h octets given [] after p ok = subst (λ (x : ReadMessage). IsSession x.templates) (sym p) ok
+sets_stay h octets given (s ∷ ss) after p ok = sets_stay h octets p.next ss after p.others (set_stays h octets given p.next s p.first ok)
 
-pub session_stays : (ts : Templates) (h : Header) (octets : List ℕ) (ss : List SetSpan) (seen : Seen) → IsSession ts → IsReading ts h octets ss seen → IsSession seen.templates
-session_stays ts h octets ss seen ok p = sets_stay h octets (before ts) ss seen p ok
+pub session_stays : (ts : Templates) (h : Header) (octets : List ℕ) (ss : List SetSpan) (given : ReadMessage) → IsSession ts → IsReading ts h octets ss given → IsSession given.templates
+session_stays ts h octets ss given ok p = sets_stay h octets (before ts) ss given p ok
 
 placed_last : (h : Header) (i : ℕ) (rs : List PlacedView) (r : PlacedView) → ArePlaced h i rs → r.domain ≡ h.domain → r.place ≡ (h.sequence + (i + length rs)) % 2 ^ 32
     → ArePlaced h i (rs ++ r ∷ [])
@@ -351,17 +352,17 @@ placed_all h options front (r ∷ rs) all =
     let e : length front ≡ 0 + length front = omega arith in
     placed_all h options (front ++ placed h options front r ∷ []) rs (placed_last h 0 front (placed h options front r) all refl (ap (λ n. (h.sequence + n) % 2 ^ 32) e))
 
-set_places : (h : Header) (octets : List ℕ) (seen after : Seen) (s : SetSpan) → IsSet h octets seen after s → ArePlaced h 0 seen.records → ArePlaced h 0 after.records
-set_places h octets seen after s (TemplateSet two ts p is) all = subst (λ (x : Seen). ArePlaced h 0 x.records) (sym is) all
-set_places h octets seen after s (OptionsTemplateSet three ts p is) all = subst (λ (x : Seen). ArePlaced h 0 x.records) (sym is) all
-set_places h octets seen after s (Skipped small not2 not3 is) all = subst (λ (x : Seen). ArePlaced h 0 x.records) (sym is) all
-set_places h octets seen after s (DataSet least none t k records p is) all = subst (λ (x : Seen). ArePlaced h 0 x.records) (sym is) (placed_all h t.options seen.records records all)
-set_places h octets seen after s (Unplaced least none k is) all = subst (λ (x : Seen). ArePlaced h 0 x.records) (sym is) all
-set_places h octets seen after s (Unread least id u is) all = subst (λ (x : Seen). ArePlaced h 0 x.records) (sym is) all
+set_places : (h : Header) (octets : List ℕ) (given after : ReadMessage) (s : SetSpan) → IsSet h octets given after s → ArePlaced h 0 given.records → ArePlaced h 0 after.records
+set_places h octets given after s (TemplateSet two ts p is) all = subst (λ (x : ReadMessage). ArePlaced h 0 x.records) (sym is) all
+set_places h octets given after s (OptionsTemplateSet three ts p is) all = subst (λ (x : ReadMessage). ArePlaced h 0 x.records) (sym is) all
+set_places h octets given after s (Skipped small not2 not3 is) all = subst (λ (x : ReadMessage). ArePlaced h 0 x.records) (sym is) all
+set_places h octets given after s (DataSet least none t k records p is) all = subst (λ (x : ReadMessage). ArePlaced h 0 x.records) (sym is) (placed_all h t.options given.records records all)
+set_places h octets given after s (Unplaced least none k is) all = subst (λ (x : ReadMessage). ArePlaced h 0 x.records) (sym is) all
+set_places h octets given after s (Unread least id u is) all = subst (λ (x : ReadMessage). ArePlaced h 0 x.records) (sym is) all
 
-sets_places : (h : Header) (octets : List ℕ) (seen : Seen) (ss : List SetSpan) (after : Seen) → AreSets h octets seen ss after → ArePlaced h 0 seen.records → ArePlaced h 0 after.records
-sets_places h octets seen [] after p all = subst (λ (x : Seen). ArePlaced h 0 x.records) (sym p) all
-sets_places h octets seen (s ∷ ss) after p all = sets_places h octets p.next ss after p.others (set_places h octets seen p.next s p.first all)
+sets_places : (h : Header) (octets : List ℕ) (given : ReadMessage) (ss : List SetSpan) (after : ReadMessage) → AreSets h octets given ss after → ArePlaced h 0 given.records → ArePlaced h 0 after.records
+sets_places h octets given [] after p all = subst (λ (x : ReadMessage). ArePlaced h 0 x.records) (sym p) all
+sets_places h octets given (s ∷ ss) after p all = sets_places h octets p.next ss after p.others (set_places h octets given p.next s p.first all)
 
-pub reading_places : (ts : Templates) (h : Header) (octets : List ℕ) (ss : List SetSpan) (seen : Seen) → IsReading ts h octets ss seen → ArePlaced h 0 seen.records
-reading_places ts h octets ss seen p = sets_places h octets (before ts) ss seen p tt
+pub reading_places : (ts : Templates) (h : Header) (octets : List ℕ) (ss : List SetSpan) (given : ReadMessage) → IsReading ts h octets ss given → ArePlaced h 0 given.records
+reading_places ts h octets ss given p = sets_places h octets (before ts) ss given p tt

@@ -5,6 +5,7 @@ use Rattle.std.proofs.lemmas.Bool.Decides.{nat_tests}
 use Rattle.std.specs.Prelude.{◌||◌}
 use Rattle.std.specs.List.{list_any}
 use Rattle.std.proofs.lemmas.List.{length-drop, nil_from_length}
+use Rattle.tca_wire.specs.Results.{◌>>=◌}
 use Rattle.tca_wire.proofs.Tiles.{blank_set}
 use Rattle.tca_wire.specs.Walks.{walk}
 use Rattle.tca_wire.specs.declared.message.Header.{Header}
@@ -13,7 +14,7 @@ use Rattle.tca_templates.specs.declared.fault.DecodeFault.{DecodeFault}
 use Rattle.tca_templates.specs.Templates.{TemplateView, known}
 use Rattle.tca_templates.specs.Specifiers.{template_front}
 use Rattle.tca_templates.specs.Records.{data_front}
-use Rattle.tca_templates.specs.Reading.{Seen, with_templates, with_records, body_of, data_of, set_of, next_set, sets_on}
+use Rattle.tca_templates.specs.Reading.{ReadMessage, with_templates, with_records, body_of, data_of, set_of, sets_on}
 use Rattle.tca_templates.specs.Fields.{is_template_set, is_read}
 
 is_number : (m n : ℕ) → m ≡ n → (m == n) ≡ true
@@ -28,68 +29,68 @@ is_less m n h = grind (arith, nat_tests, h)
 no_less : (m n : ℕ) → n ≤ m → nat_lt m n ≡ false
 no_less m n h = grind (arith, nat_tests, h)
 
-module _ (h : Header) (octets : List ℕ) (seen : Seen) (s : SetSpan) where
-  chain : Bool → Bool → Bool → Result Seen DecodeFault
-  chain a b d = cond a (with_templates seen (walk (template_front h.domain false) seen.templates (s.at + 4) (body_of octets s)))
-      (cond b (with_templates seen (walk (template_front h.domain true) seen.templates (s.at + 4) (body_of octets s)))
-      (cond d (Ok (record seen { skipped = seen.skipped + 1 })) (data_of h octets s seen seen.unplaced (known (h.domain, s.id) seen.templates))))
+module _ (h : Header) (octets : List ℕ) (given : ReadMessage) (s : SetSpan) where
+  chain : Bool → Bool → Bool → Result ReadMessage DecodeFault
+  chain a b d = cond a (with_templates given (walk (template_front h.domain false) given.templates (s.at + 4) (body_of octets s)))
+      (cond b (with_templates given (walk (template_front h.domain true) given.templates (s.at + 4) (body_of octets s)))
+      (cond d (Ok (record given { skipped = given.skipped + 1 })) (data_of h octets s given given.unplaced (known (h.domain, s.id) given.templates))))
 
-  is_chain : set_of h octets seen s ≡ chain (s.id == 2) (s.id == 3) (nat_lt s.id 256)
+  is_chain : set_of h octets given s ≡ chain (s.id == 2) (s.id == 3) (nat_lt s.id 256)
   unfolding set_of chain
   is_chain = refl
 
-  pub set_2 : s.id ≡ 2 → set_of h octets seen s ≡ with_templates seen (walk (template_front h.domain false) seen.templates (s.at + 4) (body_of octets s))
+  pub set_2 : s.id ≡ 2 → set_of h octets given s ≡ with_templates given (walk (template_front h.domain false) given.templates (s.at + 4) (body_of octets s))
   unfolding chain
   set_2 e = is_chain ∙ ap (λ a. chain a (s.id == 3) (nat_lt s.id 256)) (is_number s.id 2 e)
 
-  pub set_3 : s.id ≢ 2 → s.id ≡ 3 → set_of h octets seen s ≡ with_templates seen (walk (template_front h.domain true) seen.templates (s.at + 4) (body_of octets s))
+  pub set_3 : s.id ≢ 2 → s.id ≡ 3 → set_of h octets given s ≡ with_templates given (walk (template_front h.domain true) given.templates (s.at + 4) (body_of octets s))
   unfolding chain
   set_3 n e = is_chain ∙ ap (λ a. chain a (s.id == 3) (nat_lt s.id 256)) (no_number s.id 2 n) ∙ ap (λ a. chain false a (nat_lt s.id 256)) (is_number s.id 3 e)
 
-  pub set_skipped : s.id ≢ 2 → s.id ≢ 3 → s.id < 256 → set_of h octets seen s ≡ Ok (record seen { skipped = seen.skipped + 1 })
+  pub set_skipped : s.id ≢ 2 → s.id ≢ 3 → s.id < 256 → set_of h octets given s ≡ Ok (record given { skipped = given.skipped + 1 })
   unfolding chain
   set_skipped n m l = is_chain ∙ ap (λ a. chain a (s.id == 3) (nat_lt s.id 256)) (no_number s.id 2 n) ∙ ap (λ a. chain false a (nat_lt s.id 256)) (no_number s.id 3 m)
       ∙ ap (λ a. chain false false a) (is_less s.id 256 l)
 
-  pub set_data : s.id ≢ 2 → s.id ≢ 3 → 256 ≤ s.id → set_of h octets seen s ≡ data_of h octets s seen seen.unplaced (known (h.domain, s.id) seen.templates)
+  pub set_data : s.id ≢ 2 → s.id ≢ 3 → 256 ≤ s.id → set_of h octets given s ≡ data_of h octets s given given.unplaced (known (h.domain, s.id) given.templates)
   unfolding chain
   set_data n m l = is_chain ∙ ap (λ a. chain a (s.id == 3) (nat_lt s.id 256)) (no_number s.id 2 n) ∙ ap (λ a. chain false a (nat_lt s.id 256)) (no_number s.id 3 m)
       ∙ ap (λ a. chain false false a) (no_less s.id 256 l)
 
   -- behind a set of an unknown template
-  pub set_stopped : s.id ≢ 2 → s.id ≢ 3 → 256 ≤ s.id → is_some seen.unplaced ≡ true → set_of h octets seen s ≡ Ok seen
-  set_stopped n m l e = set_data n m l ∙ go seen.unplaced e
+  pub set_stopped : s.id ≢ 2 → s.id ≢ 3 → 256 ≤ s.id → is_some given.unplaced ≡ true → set_of h octets given s ≡ Ok given
+  set_stopped n m l e = set_data n m l ∙ go given.unplaced e
     where
-      go : (u : Option ℕ) → is_some u ≡ true → data_of h octets s seen u (known (h.domain, s.id) seen.templates) ≡ Ok seen
+      go : (u : Option ℕ) → is_some u ≡ true → data_of h octets s given u (known (h.domain, s.id) given.templates) ≡ Ok given
       go (Some id) e = refl
       go None e = absurd cc
 
-  open_set : s.id ≢ 2 → s.id ≢ 3 → 256 ≤ s.id → is_some seen.unplaced ≡ false → set_of h octets seen s ≡ data_of h octets s seen None (known (h.domain, s.id) seen.templates)
-  open_set n m l e = set_data n m l ∙ go seen.unplaced e
+  open_set : s.id ≢ 2 → s.id ≢ 3 → 256 ≤ s.id → is_some given.unplaced ≡ false → set_of h octets given s ≡ data_of h octets s given None (known (h.domain, s.id) given.templates)
+  open_set n m l e = set_data n m l ∙ go given.unplaced e
     where
       go : (u : Option ℕ) → is_some u ≡ false
-          → data_of h octets s seen u (known (h.domain, s.id) seen.templates) ≡ data_of h octets s seen None (known (h.domain, s.id) seen.templates)
+          → data_of h octets s given u (known (h.domain, s.id) given.templates) ≡ data_of h octets s given None (known (h.domain, s.id) given.templates)
       go (Some id) e = absurd cc
       go None e = refl
 
-  pub set_unknown : s.id ≢ 2 → s.id ≢ 3 → 256 ≤ s.id → is_some seen.unplaced ≡ false → known (h.domain, s.id) seen.templates ≡ None
-      → set_of h octets seen s ≡ Ok (record seen { unplaced = Some s.id })
-  set_unknown n m l e k = open_set n m l e ∙ ap (data_of h octets s seen None) k
+  pub set_unknown : s.id ≢ 2 → s.id ≢ 3 → 256 ≤ s.id → is_some given.unplaced ≡ false → known (h.domain, s.id) given.templates ≡ None
+      → set_of h octets given s ≡ Ok (record given { unplaced = Some s.id })
+  set_unknown n m l e k = open_set n m l e ∙ ap (data_of h octets s given None) k
 
-  pub set_known : s.id ≢ 2 → s.id ≢ 3 → 256 ≤ s.id → is_some seen.unplaced ≡ false → (t : TemplateView) → known (h.domain, s.id) seen.templates ≡ Some t
-      → set_of h octets seen s ≡ with_records seen (walk (data_front h t) seen.records (s.at + 4) (body_of octets s))
-  set_known n m l e t k = open_set n m l e ∙ ap (data_of h octets s seen None) k
+  pub set_known : s.id ≢ 2 → s.id ≢ 3 → 256 ≤ s.id → is_some given.unplaced ≡ false → (t : TemplateView) → known (h.domain, s.id) given.templates ≡ Some t
+      → set_of h octets given s ≡ with_records given (walk (data_front h t) given.records (s.at + 4) (body_of octets s))
+  set_known n m l e t k = open_set n m l e ∙ ap (data_of h octets s given None) k
 
 -- one set after the other
-pub sets_step : (h : Header) (octets : List ℕ) (seen : Seen) (ss : List SetSpan) (i : ℕ) (r : Result Seen DecodeFault) → i < length ss
-    → set_of h octets seen (get_or ss i blank_set) ≡ r → sets_on h octets seen (drop i ss) ≡ next_set (λ more. sets_on h octets more (drop (i + 1) ss)) r
+pub sets_step : (h : Header) (octets : List ℕ) (given : ReadMessage) (ss : List SetSpan) (i : ℕ) (r : Result ReadMessage DecodeFault) → i < length ss
+    → set_of h octets given (get_or ss i blank_set) ≡ r → sets_on h octets given (drop i ss) ≡ (r >>= (λ more. sets_on h octets more (drop (i + 1) ss)))
 unfolding sets_on
-sets_step h octets seen ss i r lt e =
-    rw (add-one) (ap (λ (l : List SetSpan). sets_on h octets seen l) (drop-cons ss i blank_set lt) ∙ ap (next_set (λ more. sets_on h octets more (drop (suc i) ss))) e)
+sets_step h octets given ss i r lt e =
+    rw (add-one) (ap (λ (l : List SetSpan). sets_on h octets given l) (drop-cons ss i blank_set lt) ∙ ap (λ (x : Result ReadMessage DecodeFault). x >>= (λ more. sets_on h octets more (drop (suc i) ss))) e)
 
-pub sets_all : (h : Header) (octets : List ℕ) (seen : Seen) (ss : List SetSpan) (i : ℕ) → length ss ≤ i → sets_on h octets seen (drop i ss) ≡ Ok seen
+pub sets_all : (h : Header) (octets : List ℕ) (given : ReadMessage) (ss : List SetSpan) (i : ℕ) → length ss ≤ i → sets_on h octets given (drop i ss) ≡ Ok given
 unfolding sets_on
-sets_all h octets seen ss i le = ap (λ (l : List SetSpan). sets_on h octets seen l) (nil_from_length (drop i ss) (omega (arith, length-drop i ss)))
+sets_all h octets given ss i le = ap (λ (l : List SetSpan). sets_on h octets given l) (nil_from_length (drop i ss) (omega (arith, length-drop i ss)))
 
 neither : (a b : Bool) → (a || b) ≡ false → (a ≡ false) × (b ≡ false)
 neither true b h = absurd cc

@@ -98,9 +98,9 @@ pub record AreRead (specs : List FieldSpec) (used n : ℕ) (octets : List ℕ) (
   pub count : length x.0 ≡ length specs + n
   pub are : x.0 ≡ specs ++ specs_in n octets
 
-pub specs_told : (cut : DecodeFault) (specs : List FieldSpec) (used count : ℕ) (octets : List ℕ) (x : List FieldSpec × ℕ)
+pub specs_holds : (cut : DecodeFault) (specs : List FieldSpec) (used count : ℕ) (octets : List ℕ) (x : List FieldSpec × ℕ)
     → specs_on cut specs used count octets ≡ Ok x → AreRead specs used count octets x
-specs_told cut specs used zero octets x e =
+specs_holds cut specs used zero octets x e =
     let done : List FieldSpec × ℕ = (specs, used) in
     let given : Result (List FieldSpec × ℕ) DecodeFault = Ok done in
     let same : given ≡ Ok x = sym (specs_done cut specs used octets) ∙ e in
@@ -113,14 +113,14 @@ specs_told cut specs used zero octets x e =
       count = omega arith;
       are = sym (ap (λ (p : List FieldSpec × ℕ). p.0) k) ∙ sym (append-nil specs) ∙ ap (λ (l : List FieldSpec). specs ++ l) (sym (specs_in_done octets));
     }
-specs_told cut specs used (suc count) octets x e =
-    go (λ more u rest h. specs_told cut more u count rest x h) (spec_at octets) refl
+specs_holds cut specs used (suc count) octets x e =
+    go (λ more u rest h. specs_holds cut more u count rest x h) (spec_at octets) refl
   where
     go : ((more : List FieldSpec) (u : ℕ) (rest : List ℕ) → specs_on cut more u count rest ≡ Ok x → AreRead more u count rest x)
         → (o : Option (FieldSpec × ℕ)) → spec_at octets ≡ o → AreRead specs used (suc count) octets x
-    go told None o = let bad : Err cut ≡ Ok x = sym (specs_cut cut specs used count octets o) ∙ e in absurd cc
-    go told (Some y) o =
-        let r = told (specs ++ y.0 ∷ []) (used + y.1) (drop y.1 octets) (sym (specs_next cut specs used count octets y o) ∙ e) in
+    go facts None o = let bad : Err cut ≡ Ok x = sym (specs_cut cut specs used count octets o) ∙ e in absurd cc
+    go facts (Some y) o =
+        let r = facts (specs ++ y.0 ∷ []) (used + y.1) (drop y.1 octets) (sym (specs_next cut specs used count octets y o) ∙ e) in
         let s = spec_size octets y o in
         record {
           more = omega (arith, r.more);
@@ -142,5 +142,5 @@ pub specs_measured : (cut : DecodeFault) (specs : List FieldSpec) (head used cou
 specs_measured cut specs head used count left octets rest none e =
     let x : List FieldSpec × ℕ = (specs, used) in
     let is : specs_on cut [] head count octets ≡ Ok x = sym e ∙ ap (λ n. specs_on cut specs used n rest) none ∙ specs_done cut specs used rest in
-    let told = specs_told cut [] head count octets x is in
-    record { is = is; are = told.are; many = omega (arith, told.count); more = told.more; within = told.within }
+    let facts = specs_holds cut [] head count octets x is in
+    record { is = is; are = facts.are; many = omega (arith, facts.count); more = facts.more; within = facts.within }

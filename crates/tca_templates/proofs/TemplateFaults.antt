@@ -56,11 +56,11 @@ fields_whole options at octets f s specs p =
     let found : List FieldSpec × ℕ = (specs, r.0) in
     no_fault found f (sym r.1 ∙ s)
 
-cut_told : (options : Bool) (at : ℕ) (octets : List ℕ) (f : DecodeFault) → specs_of options at octets ≡ Err f → f ≡ TemplateCut at
-cut_told options at octets f s = specs_refused (TemplateCut at) [] (head_size options) (count_at octets) (drop (head_size options) octets) f s
+cut_holds : (options : Bool) (at : ℕ) (octets : List ℕ) (f : DecodeFault) → specs_of options at octets ≡ Err f → f ≡ TemplateCut at
+cut_holds options at octets f s = specs_refused (TemplateCut at) [] (head_size options) (count_at octets) (drop (head_size options) octets) f s
 
-scope_told : (n count : ℕ) → ((n == 0) || nat_lt count n) ≡ true → (n ≡ 0) ⊎ (count < n)
-scope_told n count e = go (n == 0) refl e
+scope_holds : (n count : ℕ) → ((n == 0) || nat_lt count n) ≡ true → (n ≡ 0) ⊎ (count < n)
+scope_holds n count e = go (n == 0) refl e
   where
     go : (b : Bool) → (n == 0) ≡ b → (b || nat_lt count n) ≡ true → (n ≡ 0) ⊎ (count < n)
     go true z e = inl (grind (arith, nat_tests, z))
@@ -75,7 +75,7 @@ head_wrong domain true ts at octets f d e =
       | inr w ↦ elim (refused_by ((scope_at octets == 0) || nat_lt (count_at octets) (scope_at octets)) (Scope at) (Ok 6) f w.1) [
         | inl v ↦
             let six : 6 ≤ length octets = grind (arith, nat_tests, w.0) in
-            BadScope d refl six (scope_told (scope_at octets) (count_at octets) v.0) (sym v.1)
+            BadScope d refl six (scope_holds (scope_at octets) (count_at octets) v.0) (sym v.1)
         | inr v ↦ absurd (no_fault 6 f v.1)
       ]
     ]
@@ -88,7 +88,7 @@ definition_wrong domain options ts at octets fault le d e = go (head_of options 
         → specs_of options at octets ≡ r → defined (id_at octets) r ≡ Err fault → IsFaultyTemplate domain options ts at octets fault
     of head scope (Err f) s e =
         let same : f ≡ fault = cc in
-        CutFields d head scope (fields_whole options at octets f s) (sym same ∙ cut_told options at octets f s)
+        CutFields d head scope (fields_whole options at octets f s) (sym same ∙ cut_holds options at octets f s)
     of head scope (Ok y) s e =
         let found : ChangeView × ℕ = (New (id_at octets) y.0, y.1) in
         elim (refused_by (shortest_of y.0 == 0) (EmptyTemplate (id_at octets)) (Ok found) fault e) [
@@ -165,11 +165,11 @@ definition_front options id specs own rest p =
       };
     }
 
-full_told : (o : Option TemplateView) (n : ℕ) → (is_none o && not (nat_lt n 4096)) ≡ true → (o ≡ None) × (4096 ≤ n)
-full_told None n e =
+full_holds : (o : Option TemplateView) (n : ℕ) → (is_none o && not (nat_lt n 4096)) ≡ true → (o ≡ None) × (4096 ≤ n)
+full_holds None n e =
     let full : not (nat_lt n 4096) ≡ true = e in
     (refl, grind (arith, nat_tests, full))
-full_told (Some t) n e = absurd cc
+full_holds (Some t) n e = absurd cc
 
 pub changed_wrong : (domain : ℕ) (options : Bool) (ts : Templates) (at : ℕ) (c : ChangeView) (own rest : List ℕ) (fault : DecodeFault)
     → IsTemplateRecord options c own → changed domain options ts c ≡ Err fault → IsFaultyTemplate domain options ts at (own ++ rest) fault
@@ -179,7 +179,7 @@ changed_wrong domain options ts at (New id specs) own rest fault p e =
     let d = definition_front options id specs own rest p in
     elim (refused_by (is_none (known (domain, id) ts) && not (nat_lt (length ts) 4096)) TooMany _ fault e) [
       | inl w ↦
-          let full = full_told (known (domain, id) ts) (length ts) w.0 in
+          let full = full_holds (known (domain, id) ts) (length ts) w.0 in
           Full d.defines specs d.fields p.some (ap (λ n. known (domain, n) ts) d.same ∙ full.0) full.1 (sym w.1)
       | inr w ↦ absurd (no_fault _ fault w.1)
     ]
@@ -251,7 +251,7 @@ specs_none : (options : Bool) (at : ℕ) (octets : List ℕ) → head_size optio
 specs_none options at octets head scope none = go (specs_of options at octets) refl
   where
     go : (r : Result (List FieldSpec × ℕ) DecodeFault) → specs_of options at octets ≡ r → specs_of options at octets ≡ Err (TemplateCut at)
-    go (Err f) s = s ∙ ap (λ (g : DecodeFault). Err g) (cut_told options at octets f s)
+    go (Err f) s = s ∙ ap (λ (g : DecodeFault). Err g) (cut_holds options at octets f s)
     go (Ok y) s = absurd (none y.0 (fields_there options at octets y head scope s))
 
 full_only : (o : Option TemplateView) (n : ℕ) → o ≡ None → 4096 ≤ n → (is_none o && not (nat_lt n 4096)) ≡ true

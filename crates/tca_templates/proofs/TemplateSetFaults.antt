@@ -3,14 +3,15 @@ use Rattle.std.proofs.Common.{◌≡◌, ℕ, zero, suc, ◌+◌, ◌<◌, ◌�
 use Rattle.std.specs.Prelude.{nat_lt}
 use Rattle.std.proofs.lemmas.Bool.Decides.{nat_tests}
 use Rattle.std.proofs.lemmas.List.{length-drop, length-append, length-take-le, take-append-drop}
+use Rattle.tca_wire.specs.Results.{◌>>=◌}
 use Rattle.tca_wire.specs.Walks.{walk}
 use Rattle.tca_templates.specs.declared.fault.DecodeFault.{DecodeFault}
 use Rattle.tca_templates.specs.Templates.{Templates}
 use Rattle.tca_templates.specs.Specifiers.{ChangeView, change_at, changed, template_front}
-use Rattle.tca_templates.specs.TemplateSets.{on_templates, after_changes}
+use Rattle.tca_templates.specs.TemplateSets.{after_changes}
 use Rattle.tca_templates.specs.FirstFaults.{IsFaultyTemplate, IsFaultyTemplateSet}
 use Rattle.tca_templates.proofs.Choices.{one_fault, no_fault}
-use Rattle.tca_templates.proofs.Changes.{change_told, changes_end, changes_bad, changes_refused, changes_next}
+use Rattle.tca_templates.proofs.Changes.{change_holds, changes_end, changes_bad, changes_refused, changes_next}
 use Rattle.tca_templates.proofs.TemplateSetLaws.{record_found, changes_pass}
 use Rattle.tca_templates.proofs.TemplateFaults.{change_wrong, changed_wrong, record_refused}
 
@@ -47,9 +48,9 @@ fault_for (suc most) domain options ts at octets fault lt e =
         first four (subst (λ (g : DecodeFault). IsFaultyTemplate domain options ts at octets g) same
         (subst (λ (os : List ℕ). IsFaultyTemplate domain options ts at os f) (take-append-drop x.1 octets) wrong))
     step further x four c (Ok vs) k =
-        let told = change_told options at octets x four c in
-        let r = further vs (at + x.1) (drop x.1 octets) (omega (arith, told.0, told.1, length-drop x.1 octets)) (sym (changes_next domain options ts vs at octets x four c k) ∙ e) in
-        let there : at + x.1 + length r.records ≡ at + length (take x.1 octets ++ r.records) = omega (arith, length-append (take x.1 octets) r.records, length-take-le x.1 octets told.1) in
+        let facts = change_holds options at octets x four c in
+        let r = further vs (at + x.1) (drop x.1 octets) (omega (arith, facts.0, facts.1, length-drop x.1 octets)) (sym (changes_next domain options ts vs at octets x four c k) ∙ e) in
+        let there : at + x.1 + length r.records ≡ at + length (take x.1 octets ++ r.records) = omega (arith, length-append (take x.1 octets) r.records, length-take-le x.1 octets facts.1) in
         record {
           changes = x.0 ∷ r.changes;
           templates = r.templates;
@@ -57,7 +58,7 @@ fault_for (suc most) domain options ts at octets fault lt e =
           rest = r.rest;
           whole = sym (take-append-drop x.1 octets) ∙ ap (λ rest. take x.1 octets ++ rest) r.whole ∙ sym (append_assoc (take x.1 octets) r.records r.rest);
           each = record { own = take x.1 octets; rest = r.records; whole = refl; is = record_found options at octets x four c; behind = r.each };
-          effect = ap (on_templates (λ vs. after_changes domain options vs r.changes)) k ∙ r.effect;
+          effect = ap (λ (x : Result Templates DecodeFault). x >>= (λ vs. after_changes domain options vs r.changes)) k ∙ r.effect;
           more = r.more;
           wrong = subst (λ (n : ℕ). IsFaultyTemplate domain options r.templates n r.rest fault) there r.wrong;
         }

@@ -4,6 +4,7 @@ use Rattle.std.specs.Prelude.{nat_lt, ◌==◌, ◌&&◌, ◌||◌, if◌then◌
 use Rattle.std.proofs.lemmas.Bool.Decides.{nat_tests}
 use Rattle.std.proofs.lemmas.List.{length-drop, length-append, length-take-le, append-nil, drop-take, drop_at, drop-append-le, take-append-drop}
 use Rattle.byteorder.specs.Endian.{big_number}
+use Rattle.tca_wire.specs.Results.{◌>>=◌}
 use Rattle.tca_wire.specs.Walks.{walk}
 use Rattle.tca_templates.specs.declared.template.FieldSpec.{FieldSpec}
 use Rattle.tca_templates.specs.declared.fault.DecodeFault.{DecodeFault}
@@ -11,11 +12,11 @@ use Rattle.tca_templates.specs.declared.fault.DecodeFault.TheVariants.{TemplateI
 use Rattle.tca_templates.specs.Templates.{Templates, shortest_of}
 use Rattle.tca_templates.specs.Specifiers.{ChangeView, AllGone, Gone, New, set_id, spec_at, specs_on, head_of, defined, behind_head, change_at, changed, template_front}
 use Rattle.tca_templates.specs.Parts.{InTurn}
-use Rattle.tca_templates.specs.TemplateSets.{IsSpecifier, head_size, HasScope, IsTemplateRecord, on_templates, after_changes, IsTemplateSet}
+use Rattle.tca_templates.specs.TemplateSets.{IsSpecifier, head_size, HasScope, IsTemplateRecord, after_changes, IsTemplateSet}
 use Rattle.tca_templates.proofs.Choices.{chosen, passed, refused, same_some, same_ok}
 use Rattle.tca_templates.proofs.PartLaws.{number_front, number_taken}
 use Rattle.tca_templates.proofs.Specs.{spec_size, specs_next, specs_cut, specs_done}
-use Rattle.tca_templates.proofs.Changes.{change_told, changes_end, changes_bad, changes_refused, changes_next}
+use Rattle.tca_templates.proofs.Changes.{change_holds, changes_end, changes_bad, changes_refused, changes_next}
 
 spec_found : (octets : List ℕ) (x : FieldSpec × ℕ) → spec_at octets ≡ Some x → IsSpecifier x.0 (take x.1 octets)
 spec_found octets x e =
@@ -162,7 +163,7 @@ record_found options at octets x le e =
     let size = length-take-le 4 octets le in
     elim (chosen ((id == set_id options) && (count == 0)) (Ok all) _ (Ok x) e) [
       | inl w ↦
-          let same : (id ≡ set_id options) × (count ≡ 0) = both_told (id == set_id options) id (set_id options) count refl w.0 in
+          let same : (id ≡ set_id options) × (count ≡ 0) = both_holds (id == set_id options) id (set_id options) count refl w.0 in
           subst (λ (p : ChangeView × ℕ). IsTemplateRecord options p.0 (take p.1 octets)) (same_ok all x w.1)
           (record { size = size; id = id_is ∙ same.0; none = count_is ∙ same.1 })
       | inr w ↦
@@ -180,9 +181,9 @@ record_found options at octets x le e =
           ]
     ]
   where
-    both_told : (b : Bool) (id set count : ℕ) → b ≡ (id == set) → (b && (count == 0)) ≡ true → (id ≡ set) × (count ≡ 0)
-    both_told true id set count is e = (grind (arith, nat_tests, is), grind (arith, nat_tests, e))
-    both_told false id set count is e = absurd cc
+    both_holds : (b : Bool) (id set count : ℕ) → b ≡ (id == set) → (b && (count == 0)) ≡ true → (id ≡ set) × (count ≡ 0)
+    both_holds true id set count is e = (grind (arith, nat_tests, is), grind (arith, nat_tests, e))
+    both_holds false id set count is e = absurd cc
 
 -- what a walk over a template set found, from these templates on
 found_for : (most : ℕ) (domain : ℕ) (options : Bool) (ts us : Templates) (at : ℕ) (octets : List ℕ) → length octets < most
@@ -197,8 +198,8 @@ found_for (suc most) domain options ts us at octets lt e =
     step : Further → (x : ChangeView × ℕ) → 4 ≤ length octets → change_at options at octets ≡ Ok x → (r : Result Templates DecodeFault) → changed domain options ts x.0 ≡ r → IsTemplateSet domain options ts us octets
     step further x four c (Err f) k = let bad : Err f ≡ Ok us = sym (changes_refused domain options ts at octets x f four c k) ∙ e in absurd cc
     step further x four c (Ok vs) k =
-        let told = change_told options at octets x four c in
-        let r = further vs (at + x.1) (drop x.1 octets) (omega (arith, told.0, told.1, length-drop x.1 octets)) (sym (changes_next domain options ts vs at octets x four c k) ∙ e) in
+        let facts = change_holds options at octets x four c in
+        let r = further vs (at + x.1) (drop x.1 octets) (omega (arith, facts.0, facts.1, length-drop x.1 octets)) (sym (changes_next domain options ts vs at octets x four c k) ∙ e) in
         record {
           changes = x.0 ∷ r.changes;
           records = take x.1 octets ++ r.records;
@@ -206,7 +207,7 @@ found_for (suc most) domain options ts us at octets lt e =
           whole = sym (take-append-drop x.1 octets) ∙ ap (λ rest. take x.1 octets ++ rest) r.whole ∙ sym (append_assoc (take x.1 octets) r.records r.padding);
           each = record { own = take x.1 octets; rest = r.records; whole = refl; is = record_found options at octets x four c; behind = r.each };
           few = r.few;
-          effect = ap (on_templates (λ vs. after_changes domain options vs r.changes)) k ∙ r.effect;
+          effect = ap (λ (x : Result Templates DecodeFault). x >>= (λ vs. after_changes domain options vs r.changes)) k ∙ r.effect;
         }
 
     go : Further → 4 ≤ length octets → (r : Result (ChangeView × ℕ) DecodeFault) → change_at options at octets ≡ r → IsTemplateSet domain options ts us octets
@@ -382,7 +383,7 @@ changes_pass domain options (c ∷ cs) ts us at records rest p e = go (λ vs at 
 
     go : Further → (r : Result Templates DecodeFault) → changed domain options ts c ≡ r
         → walk (template_front domain options) ts at (records ++ rest) ≡ walk (template_front domain options) us (at + length records) rest
-    go more (Err f) k = let bad : Err f ≡ Ok us = sym (ap (on_templates (λ vs. after_changes domain options vs cs)) k) ∙ e in absurd cc
+    go more (Err f) k = let bad : Err f ≡ Ok us = sym (ap (λ (x : Result Templates DecodeFault). x >>= (λ vs. after_changes domain options vs cs)) k) ∙ e in absurd cc
     go more (Ok vs) k =
         let tail = p.rest ++ rest in
         let octets : records ++ rest ≡ p.own ++ tail = ap (λ os. os ++ rest) p.whole ∙ append_assoc p.own p.rest rest in
@@ -393,7 +394,7 @@ changes_pass domain options (c ∷ cs) ts us at records rest p e = go (λ vs at 
         ap (λ os. walk (template_front domain options) ts at os) octets
         ∙ changes_next domain options ts vs at (p.own ++ tail) (c, length p.own) four front.0 k
         ∙ ap (λ os. walk (template_front domain options) vs (at + length p.own) os) (drop_at p.own tail (length p.own) refl)
-        ∙ more vs (at + length p.own) (sym (ap (on_templates (λ vs. after_changes domain options vs cs)) k) ∙ e)
+        ∙ more vs (at + length p.own) (sym (ap (λ (x : Result Templates DecodeFault). x >>= (λ vs. after_changes domain options vs cs)) k) ∙ e)
         ∙ ap (λ n. walk (template_front domain options) us n rest) there
 
 pub template_set_only : (domain : ℕ) (options : Bool) (ts us : Templates) (at : ℕ) (octets : List ℕ)

@@ -12,7 +12,7 @@ pub record IsShort (value octets : List ℕ) : Type 0 where
   pub size : ℕ
   pub whole : octets ≡ size ∷ value
   pub few : size < 255
-  pub says : length value ≡ size
+  pub measured : length value ≡ size
 
 -- A value whose length stands before it in two octets behind a marker of 255. No octet is above 255. Short lengths may have
 -- this form too.
@@ -22,7 +22,7 @@ pub record IsLong (value octets : List ℕ) : Type 0 where
   pub low : ℕ
   pub whole : octets ≡ marker ∷ (high ∷ (low ∷ value))
   pub marks : 255 ≤ marker
-  pub says : length value ≡ big_number 2 (high ∷ (low ∷ []))
+  pub measured : length value ≡ big_number 2 (high ∷ (low ∷ []))
 
 -- A value in a field of this length: of just so many octets, or of a variable length where that is 65535 (RFC 7011, section 7).
 pub data IsValue (size : ℕ) (value octets : List ℕ) : Type 0 where

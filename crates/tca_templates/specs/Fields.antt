@@ -8,7 +8,7 @@ use Rattle.tca_templates.specs.declared.record.Row.{Row}
 use Rattle.tca_templates.specs.Templates.{Key, TemplateView, Templates}
 use Rattle.tca_templates.specs.Specifiers.{ChangeView, AllGone, Gone, New, specs_in}
 use Rattle.tca_wire.specs.declared.message.SetSpan.{SetSpan}
-use Rattle.tca_templates.specs.Reading.{Seen}
+use Rattle.tca_templates.specs.Reading.{ReadMessage}
 use Rattle.tca_templates.specs.declared.fault.DecodeFault.{DecodeFault}
 use Rattle.tca_templates.specs.declared.record.Field.{Field}
 use Rattle.tca_templates.specs.Records.{FieldView, PlacedView}
@@ -33,7 +33,7 @@ change_view changes.AllGone = AllGone
 change_view (changes.Gone id) = Gone id
 change_view (changes.New id d) = New id (specs_in d.count d.octets.now)
 
--- what a call returned, seen by view
+-- what a call returned, as the view shows it
 abbrev pub viewed : {X Y F : Type 0} → (X → Y) → Result X F → Result Y F
 viewed view (Ok x) = Ok (view x)
 viewed view (Err f) = Err f
@@ -56,8 +56,8 @@ counted [] = 0
 counted (r ∷ rs) = r.count + counted rs
 
 -- what has come of a message, as the code keeps it
-abbrev pub seen_of : ℕ → List (Key × Template) → List Row → List Field → Option ℕ → ℕ → Seen
-seen_of domain entries rows fields unplaced skipped = record {
+abbrev pub read_message_of : ℕ → List (Key × Template) → List Row → List Field → Option ℕ → ℕ → ReadMessage
+read_message_of domain entries rows fields unplaced skipped = record {
   templates = templates_of entries;
   records = records_of domain (map field_view fields) rows;
   unplaced = unplaced;

@@ -9,7 +9,7 @@ use Rattle.tca_templates.specs.declared.fault.DecodeFault.TheVariants.{TemplateI
 use Rattle.tca_templates.specs.Templates.{Templates, TemplateView, known, shortest_of}
 use Rattle.tca_templates.specs.Specifiers.{ChangeView, set_id}
 use Rattle.tca_templates.specs.Records.{FieldView}
-use Rattle.tca_templates.specs.Reading.{Seen, body_of}
+use Rattle.tca_templates.specs.Reading.{ReadMessage, body_of}
 use Rattle.tca_templates.specs.Parts.{InTurn, BeginsWith}
 use Rattle.tca_templates.specs.TemplateSets.{IsSpecifier, IsTemplateRecord, HasScope, head_size, after_changes}
 use Rattle.tca_templates.specs.DataSets.{IsRecord}
@@ -87,18 +87,18 @@ pub record IsFaultyDataSet (t : TemplateView) (at : ℕ) (octets : List ℕ) (fa
   pub is : fault ≡ RecordCut (at + length front)
 
 -- A set that is wrong, when this has come of the message before it. What is skipped or unread is never wrong.
-pub data IsFaultySet (h : Header) (octets : List ℕ) (seen : Seen) (s : SetSpan) (fault : DecodeFault) : Type 0 where
-  TemplateSet : s.id ≡ 2 → IsFaultyTemplateSet h.domain false seen.templates (s.at + 4) (body_of octets s) fault → IsFaultySet h octets seen s fault
-  OptionsTemplateSet : s.id ≡ 3 → IsFaultyTemplateSet h.domain true seen.templates (s.at + 4) (body_of octets s) fault → IsFaultySet h octets seen s fault
-  DataSet : 256 ≤ s.id → seen.unplaced ≡ None → (t : TemplateView) → known (h.domain, s.id) seen.templates ≡ Some t
-      → IsFaultyDataSet t (s.at + 4) (body_of octets s) fault → IsFaultySet h octets seen s fault
+pub data IsFaultySet (h : Header) (octets : List ℕ) (given : ReadMessage) (s : SetSpan) (fault : DecodeFault) : Type 0 where
+  TemplateSet : s.id ≡ 2 → IsFaultyTemplateSet h.domain false given.templates (s.at + 4) (body_of octets s) fault → IsFaultySet h octets given s fault
+  OptionsTemplateSet : s.id ≡ 3 → IsFaultyTemplateSet h.domain true given.templates (s.at + 4) (body_of octets s) fault → IsFaultySet h octets given s fault
+  DataSet : 256 ≤ s.id → given.unplaced ≡ None → (t : TemplateView) → known (h.domain, s.id) given.templates ≡ Some t
+      → IsFaultyDataSet t (s.at + 4) (body_of octets s) fault → IsFaultySet h octets given s fault
 
 -- The sets of a message up to the first that is wrong, and its fault.
 pub record IsFirstFault (ts : Templates) (h : Header) (octets : List ℕ) (sets : List SetSpan) (fault : DecodeFault) : Type 0 where
   pub before : List SetSpan
   pub set : SetSpan
   pub behind : List SetSpan
-  pub seen : Seen
+  pub given : ReadMessage
   pub whole : sets ≡ before ++ set ∷ behind
-  pub read : IsReading ts h octets before seen
-  pub wrong : IsFaultySet h octets seen set fault
+  pub read : IsReading ts h octets before given
+  pub wrong : IsFaultySet h octets given set fault

@@ -6,7 +6,7 @@ use Rattle.tca_wire.specs.declared.message.Header.{Header}
 use Rattle.tca_wire.specs.declared.message.SetSpan.{SetSpan}
 use Rattle.tca_templates.specs.Templates.{Key, Templates, TemplateView, same_key, stays, known, shortest_of}
 use Rattle.tca_templates.specs.Records.{FieldView, PlacedView}
-use Rattle.tca_templates.specs.Reading.{Seen, body_of, before}
+use Rattle.tca_templates.specs.Reading.{ReadMessage, body_of, before}
 use Rattle.tca_templates.specs.TemplateSets.{IsTemplateSet}
 use Rattle.tca_templates.specs.DataSets.{IsDataSet, placed_behind}
 
@@ -35,36 +35,36 @@ ArePlaced h i [] = ⊤
 ArePlaced h i (r ∷ rs) = (r.domain ≡ h.domain) × (r.place ≡ (h.sequence + i) % 2 ^ 32) × ArePlaced h (i + 1) rs
 
 -- One set, and what has come of the message before it and with it.
-pub data IsSet (h : Header) (octets : List ℕ) (seen after : Seen) (s : SetSpan) : Type 0 where
+pub data IsSet (h : Header) (octets : List ℕ) (given after : ReadMessage) (s : SetSpan) : Type 0 where
   -- A template set, of identifier 2.
-  TemplateSet : s.id ≡ 2 → (ts : Templates) → IsTemplateSet h.domain false seen.templates ts (body_of octets s)
-      → after ≡ record seen { templates = ts } → IsSet h octets seen after s
+  TemplateSet : s.id ≡ 2 → (ts : Templates) → IsTemplateSet h.domain false given.templates ts (body_of octets s)
+      → after ≡ record given { templates = ts } → IsSet h octets given after s
   -- An options template set, of identifier 3.
-  OptionsTemplateSet : s.id ≡ 3 → (ts : Templates) → IsTemplateSet h.domain true seen.templates ts (body_of octets s)
-      → after ≡ record seen { templates = ts } → IsSet h octets seen after s
+  OptionsTemplateSet : s.id ≡ 3 → (ts : Templates) → IsTemplateSet h.domain true given.templates ts (body_of octets s)
+      → after ≡ record given { templates = ts } → IsSet h octets given after s
   -- The other identifiers below 256 are skipped and counted.
-  Skipped : s.id < 256 → s.id ≢ 2 → s.id ≢ 3 → after ≡ record seen { skipped = seen.skipped + 1 } → IsSet h octets seen after s
+  Skipped : s.id < 256 → s.id ≢ 2 → s.id ≢ 3 → after ≡ record given { skipped = given.skipped + 1 } → IsSet h octets given after s
   -- A data set of a template that is known by then.
-  DataSet : 256 ≤ s.id → seen.unplaced ≡ None → (t : TemplateView) → known (h.domain, s.id) seen.templates ≡ Some t
+  DataSet : 256 ≤ s.id → given.unplaced ≡ None → (t : TemplateView) → known (h.domain, s.id) given.templates ≡ Some t
       → (records : List (List FieldView)) → IsDataSet t records (body_of octets s)
-      → after ≡ record seen { records = placed_behind h t.options seen.records records } → IsSet h octets seen after s
+      → after ≡ record given { records = placed_behind h t.options given.records records } → IsSet h octets given after s
   -- The first data set of a template that isn't known: how many records it has isn't known, so no record from here on has a place.
-  Unplaced : 256 ≤ s.id → seen.unplaced ≡ None → known (h.domain, s.id) seen.templates ≡ None
-      → after ≡ record seen { unplaced = Some s.id } → IsSet h octets seen after s
+  Unplaced : 256 ≤ s.id → given.unplaced ≡ None → known (h.domain, s.id) given.templates ≡ None
+      → after ≡ record given { unplaced = Some s.id } → IsSet h octets given after s
   -- Any data set behind it.
-  Unread : 256 ≤ s.id → (id : ℕ) → seen.unplaced ≡ Some id → after ≡ seen → IsSet h octets seen after s
+  Unread : 256 ≤ s.id → (id : ℕ) → given.unplaced ≡ Some id → after ≡ given → IsSet h octets given after s
 
 -- What comes of these sets, one after the other.
-pub record Then (h : Header) (octets : List ℕ) (seen : Seen) (s : SetSpan) (Others : Seen → Type 0) : Type 0 where
-  pub next : Seen
-  pub first : IsSet h octets seen next s
+pub record Then (h : Header) (octets : List ℕ) (given : ReadMessage) (s : SetSpan) (Others : ReadMessage → Type 0) : Type 0 where
+  pub next : ReadMessage
+  pub first : IsSet h octets given next s
   pub others : Others next
 
-abbrev pub AreSets : Header → List ℕ → Seen → List SetSpan → Seen → Type 0
-AreSets h octets seen [] after = after ≡ seen
-AreSets h octets seen (s ∷ ss) after = Then h octets seen s (λ next. AreSets h octets next ss after)
+abbrev pub AreSets : Header → List ℕ → ReadMessage → List SetSpan → ReadMessage → Type 0
+AreSets h octets given [] after = after ≡ given
+AreSets h octets given (s ∷ ss) after = Then h octets given s (λ next. AreSets h octets next ss after)
 
 -- A message of this header and these sets, read when these templates are known: its records in their order, the first data set
 -- that has no known template, how many sets were skipped, and the templates after it.
-abbrev pub IsReading : Templates → Header → List ℕ → List SetSpan → Seen → Type 0
+abbrev pub IsReading : Templates → Header → List ℕ → List SetSpan → ReadMessage → Type 0
 IsReading ts h octets sets after = AreSets h octets (before ts) sets after

@@ -1,6 +1,7 @@
 -- The grammar of template sets (RFC 7011, sections 3.2 and 3.4): template records one after the other, and padding.
 use Rattle.std.specs.Prelude.{◌≡◌, ◌⊎◌, ⊤, ℕ, ◌+◌, ◌≤◌, ◌<◌, Bool, true, false, List, [], ◌∷◌, ◌++◌, length, drop, Some, None, Result, Ok, Err}
 use Rattle.byteorder.specs.Endian.{big_number}
+use Rattle.tca_wire.specs.Results.{◌>>=◌}
 use Rattle.tca_templates.specs.declared.template.FieldSpec.{FieldSpec}
 use Rattle.tca_templates.specs.declared.fault.DecodeFault.{DecodeFault}
 use Rattle.tca_templates.specs.Templates.{Templates, shortest_of}
@@ -60,13 +61,9 @@ IsTemplateRecord options (Gone id) octets = (256 ≤ id) × IsWithdrawal id octe
 IsTemplateRecord options (New id specs) octets = IsDefinition options id specs octets
 
 -- The templates after these changes, one after the other.
-abbrev pub on_templates : (Templates → Result Templates DecodeFault) → Result Templates DecodeFault → Result Templates DecodeFault
-on_templates next (Ok ts) = next ts
-on_templates next (Err f) = Err f
-
 abbrev pub after_changes : ℕ → Bool → Templates → List ChangeView → Result Templates DecodeFault
 after_changes domain options ts [] = Ok ts
-after_changes domain options ts (c ∷ cs) = on_templates (λ us. after_changes domain options us cs) (changed domain options ts c)
+after_changes domain options ts (c ∷ cs) = changed domain options ts c >>= (λ us. after_changes domain options us cs)
 
 -- A template set of an observation domain: its octets are template records and at most three octets of padding. It takes the
 -- templates before it to those after it.

@@ -1,13 +1,13 @@
 //! A session, which reads messages.
 ghost use Rattle.std.specs.Prelude.{◌≡◌, ◌≢◌, ◌<◌, ◌≤◌, ◌^◌, length, OnOk, OnErr, IfOk, IfErr, Ok, Err, map, true};
 ghost use Rattle.std.specs.List.{list_any};
-ghost use Rattle.tca_wire.specs.Walks.{Gives};
+ghost use Rattle.tca_wire.specs.Results.{Gives};
 ghost use Rattle.tca_templates.specs.Templates.{listed};
-ghost use Rattle.tca_templates.specs.Reading.{read_of, Seen};
+ghost use Rattle.tca_templates.specs.Reading.{read_of, ReadMessage};
 ghost use Rattle.tca_templates.specs.Sessions.{IsReading};
 ghost use Rattle.tca_templates.specs.FirstFaults.{IsFirstFault};
 ghost use Rattle.tca_templates.specs.Fields.{records_of, counted, field_view, is_read};
-ghost use Rattle.tca_templates.specs.Outcomes.{seen_in};
+ghost use Rattle.tca_templates.specs.Outcomes.{outcome_view};
 
 use crate::fault::DecodeFault;
 use crate::iter::TemplatesIter;
@@ -109,15 +109,15 @@ impl Decoder {
     /// record past the set's end is `RecordCut`.
     pub fn read(&mut self, alloc: Global, message: &Message<'_>) -> Result<Outcome, DecodeFault>
         // What is read is what the message is in this session.
-        ensures found { IfOk result (λ o. IsReading self.old message.now.header message.now.octets.now message.now.sets.items (seen_in self.new o)) }
+        ensures found { IfOk result (λ o. IsReading self.old message.now.header message.now.octets.now message.now.sets.items (outcome_view self.new o)) }
         // A fault is the first from the left.
         ensures first { IfErr result (λ f. f ≢ DecodeFault.Memory
             → IsFirstFault self.old message.now.header message.now.octets.now message.now.sets.items f) }
         // What the message is in this session is read, unless memory runs out.
-        ensures only { (seen : Seen) → IsReading self.old message.now.header message.now.octets.now message.now.sets.items seen →
-            Gives DecodeFault.Memory (λ o. seen_in self.new o) result (Ok seen) }
+        ensures only { (given : ReadMessage) → IsReading self.old message.now.header message.now.octets.now message.now.sets.items given →
+            Gives DecodeFault.Memory (λ o. outcome_view self.new o) result (Ok given) }
         // Which fault it is else: the first from the left.
-        ensures exact { Gives DecodeFault.Memory (λ o. seen_in self.new o) result
+        ensures exact { Gives DecodeFault.Memory (λ o. outcome_view self.new o) result
             (read_of self.old message.now.header message.now.octets.now message.now.sets.items) }
         ensures err { OnErr result (self.new ≡ self.old) }
         // Memory is wanted only where a set isn't skipped.

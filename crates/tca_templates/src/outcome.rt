@@ -1,10 +1,10 @@
 //! The records of a message as values of their own.
 ghost use Rattle.std.specs.Prelude.{◌≡◌, [], length, map, true, false, OnOk, OnErr, IfOk, IsOk, Err};
 ghost use Rattle.std.specs.List.{list_any};
-ghost use Rattle.tca_wire.specs.Walks.{Gives};
+ghost use Rattle.tca_wire.specs.Results.{Gives};
 ghost use Rattle.tca_templates.specs.Reading.{read_of};
 ghost use Rattle.tca_templates.specs.Fields.{templates_of, records_of, counted, field_view, is_template_set, is_read};
-ghost use Rattle.tca_templates.specs.Outcomes.{value_view, placed_view, seen_in};
+ghost use Rattle.tca_templates.specs.Outcomes.{value_view, placed_view, outcome_view};
 
 use crate::draft::copied;
 use crate::fault::DecodeFault;
@@ -75,7 +75,7 @@ fn values(alloc: Global, fields: &[Field<'_>]) -> Result<Vec<FieldValue>, AllocE
 }
 
 /// The records, each with its fields.
-fn place(
+fn copied_records(
     alloc: Global,
     domain: u32,
     rows: &[Row],
@@ -115,7 +115,7 @@ fn read_values(
     templates: &mut Store,
     message: &Message<'_>,
 ) -> Result<Outcome, DecodeFault>
-    ensures exact { Gives DecodeFault.Memory (λ o. seen_in (templates_of templates.new.entries) o) result
+    ensures exact { Gives DecodeFault.Memory (λ o. outcome_view (templates_of templates.new.entries) o) result
         (read_of (templates_of templates.old.entries) message.now.header message.now.octets.now message.now.sets.items) }
     ensures kept { list_any is_template_set message.now.sets.items ≡ false
         → templates_of templates.new.entries ≡ templates_of templates.old.entries }
@@ -124,7 +124,7 @@ fn read_values(
     let mut rows = Vec::new(alloc);
     let mut fields = Vec::new(alloc);
     let (unplaced, skipped) = read_sets(alloc, templates, message, &mut rows, &mut fields)?;
-    let fields = place(alloc, message.header.domain, &rows, &fields)?;
+    let fields = copied_records(alloc, message.header.domain, &rows, &fields)?;
     Ok(Outcome {
         fields,
         unplaced,
@@ -139,7 +139,7 @@ pub(crate) fn read_message(
     templates: &mut Store,
     message: &Message<'_>,
 ) -> Result<Outcome, DecodeFault>
-    ensures exact { Gives DecodeFault.Memory (λ o. seen_in (templates_of templates.new.entries) o) result
+    ensures exact { Gives DecodeFault.Memory (λ o. outcome_view (templates_of templates.new.entries) o) result
         (read_of (templates_of templates.old.entries) message.now.header message.now.octets.now message.now.sets.items) }
     ensures err { OnErr result (templates_of templates.new.entries ≡ templates_of templates.old.entries) }
     ensures memory { result ≡ Err DecodeFault.Memory → list_any is_read message.now.sets.items ≡ true }

@@ -3,15 +3,15 @@ ghost use Rattle.std.specs.Prelude.{◌≡◌, ◌<◌, ◌≤◌, ◌+◌, ◌+
 ghost use Rattle.std.specs.Option.{is_none};
 ghost use Rattle.std.specs.Map.{keys_of};
 ghost use Rattle.std.specs.List.{list_any};
-ghost use Rattle.tca_wire.specs.Walks.{Gives};
-ghost use Rattle.tca_templates.specs.Reading.{Seen, body_of, set_of, read_of};
+ghost use Rattle.tca_wire.specs.Results.{Gives};
+ghost use Rattle.tca_templates.specs.Reading.{ReadMessage, body_of, set_of, read_of};
 ghost use Rattle.tca_templates.specs.Sessions.{HaveOctets, IsSession, of_others, ArePlaced, IsReading};
 ghost use Rattle.tca_templates.specs.FirstFaults.{IsFirstFault};
 ghost use Rattle.tca_templates.specs.declared.fault.DecodeFault.{DecodeFault};
 ghost use Rattle.tca_templates.specs.Templates.{Key, Templates, TemplateView, same_key, define, withdraw, withdraw_all, known};
 ghost use Rattle.tca_wire.specs.declared.message.Header.{Header};
 ghost use Rattle.tca_wire.specs.declared.message.SetSpan.{SetSpan};
-ghost use Rattle.tca_templates.specs.Fields.{seen_of, counted, templates_of, is_template_set, is_read};
+ghost use Rattle.tca_templates.specs.Fields.{read_message_of, counted, templates_of, is_template_set, is_read};
 
 use crate::fault::DecodeFault;
 use crate::record::{Field, Row, read_records};
@@ -56,9 +56,9 @@ fn read_set<'a>(
     requires counted { counted rows.old.items ≡ length fields.old.items }
     requires skipped { aside.skipped + 1 < 2 ^ 32 }
     ensures exact { Gives DecodeFault.Memory
-        (λ x. seen_of message.now.header.domain templates.new.entries rows.new.items fields.new.items x.unplaced x.skipped) result
+        (λ x. read_message_of message.now.header.domain templates.new.entries rows.new.items fields.new.items x.unplaced x.skipped) result
         (set_of message.now.header message.now.octets.now
-        (seen_of message.now.header.domain templates.old.entries rows.old.items fields.old.items aside.unplaced aside.skipped) set) }
+        (read_message_of message.now.header.domain templates.old.entries rows.old.items fields.old.items aside.unplaced aside.skipped) set) }
     ensures few { OnOk result (length rows.new.items ≤ set.at + set.length) }
     ensures counted { OnOk result (counted rows.new.items ≡ length fields.new.items) }
     ensures skipped { IfOk result (λ x. x.skipped ≤ aside.skipped + 1) }
@@ -108,7 +108,7 @@ pub(crate) fn read_sets<'a>(
     requires rows { rows.old.items ≡ [] }
     requires fields { fields.old.items ≡ [] }
     ensures exact { Gives DecodeFault.Memory
-        (λ x. seen_of message.now.header.domain templates.new.entries rows.new.items fields.new.items x.0 x.1) result
+        (λ x. read_message_of message.now.header.domain templates.new.entries rows.new.items fields.new.items x.0 x.1) result
         (read_of (templates_of templates.old.entries) message.now.header message.now.octets.now message.now.sets.items) }
     ensures counted { OnOk result (counted rows.new.items ≡ length fields.new.items) }
     ensures few { OnOk result (length rows.new.items ≤ message.now.header.length) }
@@ -132,10 +132,10 @@ pub(crate) fn read_sets<'a>(
 /// where it is no message of that session, the one fault before which all is right. So it is where no template that is
 /// known gives its records no octet.
 pub fn reading_words()
-    ensures found { (ts : Templates) (h : Header) (octets : List ℕ) (ss : List SetSpan) (seen : Seen) → HaveOctets ts
-        → read_of ts h octets ss ≡ Ok seen → IsReading ts h octets ss seen }
-    ensures only { (ts : Templates) (h : Header) (octets : List ℕ) (ss : List SetSpan) (seen : Seen) → IsReading ts h octets ss seen
-        → read_of ts h octets ss ≡ Ok seen }
+    ensures found { (ts : Templates) (h : Header) (octets : List ℕ) (ss : List SetSpan) (given : ReadMessage) → HaveOctets ts
+        → read_of ts h octets ss ≡ Ok given → IsReading ts h octets ss given }
+    ensures only { (ts : Templates) (h : Header) (octets : List ℕ) (ss : List SetSpan) (given : ReadMessage) → IsReading ts h octets ss given
+        → read_of ts h octets ss ≡ Ok given }
     ensures fault { (ts : Templates) (h : Header) (octets : List ℕ) (ss : List SetSpan) (f : DecodeFault) → HaveOctets ts
         → read_of ts h octets ss ≡ Err f → IsFirstFault ts h octets ss f }
     ensures no_other { (ts : Templates) (h : Header) (octets : List ℕ) (ss : List SetSpan) (f : DecodeFault) → HaveOctets ts
@@ -147,13 +147,13 @@ pub fn reading_words()
 /// and withdrawals remove theirs. Record `i` of a message, from 0, has the place of the message's sequence number and `i`.
 pub fn session_words()
     ensures opens { IsSession [] }
-    ensures stays { (ts : Templates) (h : Header) (octets : List ℕ) (ss : List SetSpan) (seen : Seen) → IsSession ts
-        → IsReading ts h octets ss seen → IsSession seen.templates }
+    ensures stays { (ts : Templates) (h : Header) (octets : List ℕ) (ss : List SetSpan) (given : ReadMessage) → IsSession ts
+        → IsReading ts h octets ss given → IsSession given.templates }
     ensures defined { (k j : Key) (t : TemplateView) (ts : Templates) → known j (define k t ts) ≡ (if same_key j k then Some t else known j ts) }
     ensures order { (k : Key) (t : TemplateView) (ts : Templates) → keys_of (define k t ts) ≡ (if is_none (known k ts) then keys_of ts ++ k ∷ [] else keys_of ts) }
     ensures withdrawn { (k j : Key) (ts : Templates) → IsSession ts → known j (withdraw k ts) ≡ (if same_key j k then None else known j ts) }
     ensures all_withdrawn { (domain : ℕ) (options : Bool) (j : Key) (ts : Templates) → IsSession ts
         → known j (withdraw_all domain options ts) ≡ of_others domain options j (known j ts) }
-    ensures places { (ts : Templates) (h : Header) (octets : List ℕ) (ss : List SetSpan) (seen : Seen) → IsReading ts h octets ss seen
-        → ArePlaced h 0 seen.records }
+    ensures places { (ts : Templates) (h : Header) (octets : List ℕ) (ss : List SetSpan) (given : ReadMessage) → IsReading ts h octets ss given
+        → ArePlaced h 0 given.records }
 {}

@@ -1,7 +1,8 @@
 //! The records of a data set.
 ghost use Rattle.std.specs.Prelude.{◌≡◌, ◌≢◌, ◌<◌, ◌≤◌, ◌+◌, ◌++◌, ◌^◌, [], length, drop, map, OnOk, OnErr, IfOk, IfErr, IfSome, None, Err};
 ghost use Rattle.std.specs.Option.{is_some};
-ghost use Rattle.tca_wire.specs.Walks.{Gives, Next, Bad, walk};
+ghost use Rattle.tca_wire.specs.Results.{Gives};
+ghost use Rattle.tca_wire.specs.Walks.{Next, Bad, walk};
 ghost use Rattle.tca_templates.specs.Records.{field_at, fields_on, data_front};
 ghost use Rattle.tca_templates.specs.Templates.{shortest_of};
 ghost use Rattle.tca_templates.specs.Fields.{field_view, fields_given, template_of, records_of, counted, IsSound};

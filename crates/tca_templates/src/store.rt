@@ -2,7 +2,8 @@
 ghost use Rattle.std.specs.Prelude.{◌≡◌, ◌≢◌, ◌<◌, ◌≤◌, ◌+◌, ◌^◌, [], length, OnOk, OnErr, IfOk, IfErr, Err};
 ghost use Rattle.std.specs.Option.{option_map};
 ghost use Rattle.std.specs.Result.{IsOk};
-ghost use Rattle.tca_wire.specs.Walks.{Gives, Next, Bad, walk};
+ghost use Rattle.tca_wire.specs.Results.{Gives};
+ghost use Rattle.tca_wire.specs.Walks.{Next, Bad, walk};
 ghost use Rattle.tca_templates.specs.Templates.{known, define, withdraw, withdraw_all};
 ghost use Rattle.tca_templates.specs.Specifiers.{changed, template_front};
 ghost use Rattle.tca_templates.specs.Fields.{change_view, template_of, templates_of, IsSound};

@@ -34,33 +34,33 @@ either false = inr refl
 lt_true : (m n : ℕ) → m < n → nat_lt m n ≡ true
 lt_true m n h = grind (arith, nat_tests, h)
 
-lt_told : (m n : ℕ) → nat_lt m n ≡ true → m < n
-lt_told m n h = grind (arith, nat_tests, h)
+lt_holds : (m n : ℕ) → nat_lt m n ≡ true → m < n
+lt_holds m n h = grind (arith, nat_tests, h)
 
-le_told : (m n : ℕ) → nat_lt m n ≡ false → n ≤ m
-le_told m n h = grind (arith, nat_tests, h)
+le_holds : (m n : ℕ) → nat_lt m n ≡ false → n ≤ m
+le_holds m n h = grind (arith, nat_tests, h)
 
 ten : (n : ℕ) → n ≡ 10 → not (n == 10) ≡ false
 ten n h = grind (arith, nat_tests, h)
 
-ten_told : (n : ℕ) → not (n == 10) ≡ false → n ≡ 10
-ten_told n h = grind (arith, nat_tests, h)
+ten_holds : (n : ℕ) → not (n == 10) ≡ false → n ≡ 10
+ten_holds n h = grind (arith, nat_tests, h)
 
 other_true : (n : ℕ) → n ≢ 10 → not (n == 10) ≡ true
 other_true n h = grind (arith, nat_tests, h)
 
-other_told : (n : ℕ) → not (n == 10) ≡ true → n ≢ 10
-other_told n h = λ is. let same : not (n == 10) ≡ false = ten n is in absurd cc
+other_holds : (n : ℕ) → not (n == 10) ≡ true → n ≢ 10
+other_holds n h = λ is. let same : not (n == 10) ≡ false = ten n is in absurd cc
 
-no_set_told : (at : ℕ) (octets : List ℕ) (fault : WireFault) → 0 < length octets → judged at octets ≡ Err fault → IsNoSet at octets fault
-no_set_told at octets fault some e =
+no_set_holds : (at : ℕ) (octets : List ℕ) (fault : WireFault) → 0 < length octets → judged at octets ≡ Err fault → IsNoSet at octets fault
+no_set_holds at octets fault some e =
     let n = big_number 2 (drop 2 octets) in
     elim (refused_by (nat_lt (length octets) 4) (Trailing at) _ fault e) [
-      | inl few ↦ let here : IsNoSet at octets (Trailing at) = (refl, some, lt_told _ _ few.0) in subst (λ (x : WireFault). IsNoSet at octets x) few.1 here
+      | inl few ↦ let here : IsNoSet at octets (Trailing at) = (refl, some, lt_holds _ _ few.0) in subst (λ (x : WireFault). IsNoSet at octets x) few.1 here
       | inr all ↦ elim (refused_by (nat_lt n 4) (SetLength at) _ fault all.1) [
-        | inl low ↦ let here : IsNoSet at octets (SetLength at) = (refl, le_told _ _ all.0, lt_told _ _ low.0) in subst (λ (x : WireFault). IsNoSet at octets x) low.1 here
+        | inl low ↦ let here : IsNoSet at octets (SetLength at) = (refl, le_holds _ _ all.0, lt_holds _ _ low.0) in subst (λ (x : WireFault). IsNoSet at octets x) low.1 here
         | inr least ↦ elim (refused_by (nat_lt (length octets) n) (SetPastEnd at) _ fault least.1) [
-          | inl past ↦ let here : IsNoSet at octets (SetPastEnd at) = (refl, le_told _ _ all.0, le_told _ _ least.0, lt_told _ _ past.0) in subst (λ (x : WireFault). IsNoSet at octets x) past.1 here
+          | inl past ↦ let here : IsNoSet at octets (SetPastEnd at) = (refl, le_holds _ _ all.0, le_holds _ _ least.0, lt_holds _ _ past.0) in subst (λ (x : WireFault). IsNoSet at octets x) past.1 here
           | inr within ↦ absurd (no_fault _ fault within.1)
         ]
       ]
@@ -96,10 +96,10 @@ no_set_for (suc most) ss at (b ∷ bs) fault l e =
         → (x : Result SetSpan WireFault) → judged at (b ∷ bs) ≡ x → (before : List SetSpan) × EndsInNoSet before at (b ∷ bs) fault
     go more (Err f) j =
         let same = one_fault (walk set_front ss at (b ∷ bs)) f fault (sets_bad ss at (b ∷ bs) f (omega arith) j) e in
-        ([], subst (λ (x : WireFault). IsNoSet at (b ∷ bs) x) same (no_set_told at (b ∷ bs) f (omega arith) j))
+        ([], subst (λ (x : WireFault). IsNoSet at (b ∷ bs) x) same (no_set_holds at (b ∷ bs) f (omega arith) j))
     go more (Ok s) j =
-        let told = judged_ok at (b ∷ bs) s j in
-        let r = more (ss ++ s ∷ []) (at + s.length) (drop s.length (b ∷ bs)) (omega (arith, told.least, told.within, length-drop s.length (b ∷ bs)))
+        let facts = judged_ok at (b ∷ bs) s j in
+        let r = more (ss ++ s ∷ []) (at + s.length) (drop s.length (b ∷ bs)) (omega (arith, facts.least, facts.within, length-drop s.length (b ∷ bs)))
         (sym (sets_next ss at (b ∷ bs) s (omega arith) j) ∙ e) in
         (s ∷ r.0, (stands_found at (b ∷ bs) s j, r.1))
 
@@ -109,9 +109,9 @@ no_set_only (s ∷ before) ss at rest fault h =
     let j = stands_only at rest s h.0 in
     sets_next ss at rest s (omega (arith, j.1, j.2)) j.0 ∙ no_set_only before (ss ++ s ∷ []) (at + s.length) (drop s.length rest) fault h.1
 
-sets_told : (h : Header) (x : Result (List SetSpan) WireFault) (fault : WireFault) → with_header h x ≡ Err fault → x ≡ Err fault
-sets_told h (Ok ss) fault e = absurd cc
-sets_told h (Err f) fault e = let same : f ≡ fault = cc in ap (λ (x : WireFault). Err x) same
+sets_holds : (h : Header) (x : Result (List SetSpan) WireFault) (fault : WireFault) → with_header h x ≡ Err fault → x ≡ Err fault
+sets_holds h (Ok ss) fault e = absurd cc
+sets_holds h (Err f) fault e = let same : f ≡ fault = cc in ap (λ (x : WireFault). Err x) same
 
 pub fault_found : (octets : List ℕ) (fault : WireFault) → message_of octets ≡ Err fault → IsFirstFault octets fault
 unfolding message_of
@@ -119,17 +119,17 @@ fault_found octets fault e =
     let v = version_at octets in
     let n = length_at octets in
     elim (refused_by (nat_lt (length octets) 16) Short _ fault e) [
-      | inl few ↦ inl (sym few.1, inl (lt_told _ _ few.0))
+      | inl few ↦ inl (sym few.1, inl (lt_holds _ _ few.0))
       | inr all ↦ elim (refused_by (not (v == 10)) (BadVersion v) _ fault all.1) [
-        | inl bad ↦ let here : IsFaulty octets (BadVersion v) = (le_told _ _ all.0, refl, other_told v bad.0) in inr (inl (subst (λ (x : WireFault). IsFaulty octets x) bad.1 here))
+        | inl bad ↦ let here : IsFaulty octets (BadVersion v) = (le_holds _ _ all.0, refl, other_holds v bad.0) in inr (inl (subst (λ (x : WireFault). IsFaulty octets x) bad.1 here))
         | inr right ↦ elim (refused_by (nat_lt n 16) (BadLength n) _ fault right.1) [
-          | inl low ↦ let here : IsFaulty octets (BadLength n) = (le_told _ _ all.0, ten_told v right.0, refl, lt_told _ _ low.0) in inr (inl (subst (λ (x : WireFault). IsFaulty octets x) low.1 here))
+          | inl low ↦ let here : IsFaulty octets (BadLength n) = (le_holds _ _ all.0, ten_holds v right.0, refl, lt_holds _ _ low.0) in inr (inl (subst (λ (x : WireFault). IsFaulty octets x) low.1 here))
           | inr room ↦ elim (refused_by (nat_lt (length octets) n) Short _ fault room.1) [
-            | inl cut ↦ inl (sym cut.1, inr (ten_told v right.0, le_told _ _ room.0, lt_told _ _ cut.0))
+            | inl cut ↦ inl (sym cut.1, inr (ten_holds v right.0, le_holds _ _ room.0, lt_holds _ _ cut.0))
             | inr whole ↦
                 let body = drop 16 (take n octets) in
-                let found = no_set_for (suc (length body)) [] 16 body fault (omega arith) (sets_told (header_at octets) (sets_of body) fault whole.1) in
-                inr (inr (record { version = ten_told v right.0; room = le_told _ _ room.0; whole = le_told _ _ whole.0; before = found.0; sets = found.1 }))
+                let found = no_set_for (suc (length body)) [] 16 body fault (omega arith) (sets_holds (header_at octets) (sets_of body) fault whole.1) in
+                inr (inr (record { version = ten_holds v right.0; room = le_holds _ _ room.0; whole = le_holds _ _ whole.0; before = found.0; sets = found.1 }))
           ]
         ]
       ]

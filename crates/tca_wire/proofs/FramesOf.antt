@@ -16,18 +16,18 @@ IsAtFront octets Part = IsPart octets
 IsAtFront octets (Faulty fault) = IsFaulty octets fault
 
 whole_front : (octets : List ℕ) (n : ℕ) → 16 ≤ n → n ≤ length octets → version_at octets ≡ 10 → length_at octets ≡ n → IsFrame (take n octets)
-whole_front octets n room within version told =
+whole_front octets n room within version facts =
     let size = length-take-le n octets within in
     let long : 16 ≤ length (take n octets) = omega (arith, size, room) in
     let parts = take-append-drop n octets in
     record {
       version = sym (version_front (take n octets) (drop n octets) long) ∙ ap (λ z. version_at z) parts ∙ version;
-      whole = sym (length_front (take n octets) (drop n octets) long) ∙ ap (λ z. length_at z) parts ∙ told ∙ sym size;
+      whole = sym (length_front (take n octets) (drop n octets) long) ∙ ap (λ z. length_at z) parts ∙ facts ∙ sym size;
       room = long;
     }
 
-front_told : (octets : List ℕ) → IsAtFront octets (at_front octets)
-front_told octets = few (nat_lt (length octets) 16) refl
+front_holds : (octets : List ℕ) → IsAtFront octets (at_front octets)
+front_holds octets = few (nat_lt (length octets) 16) refl
   where
     tail : (b : Bool) → nat_lt (length octets) (length_at octets) ≡ b → 16 ≤ length octets → version_at octets ≡ 10 → 16 ≤ length_at octets
         → IsAtFront octets (cond b Part (Whole (length_at octets)))
@@ -61,18 +61,18 @@ framed most octets (Faulty fault) = ([], Failed fault)
 stream_for : (most : ℕ) (octets : List ℕ) → length octets < most → IsStream octets (frames_for most octets).0 (frames_for most octets).1
 unfolding frames_for
 stream_for zero octets lt = absurd (omega arith)
-stream_for (suc most) octets lt = go (λ rest l. stream_for most rest l) (at_front octets) (front_told octets)
+stream_for (suc most) octets lt = go (λ rest l. stream_for most rest l) (at_front octets) (front_holds octets)
   where
     go : ((rest : List ℕ) → length rest < most → IsStream rest (frames_for most rest).0 (frames_for most rest).1)
         → (x : AtFront) → IsAtFront octets x → IsStream octets (framed most octets x).0 (framed most octets x).1
-    go more Part told = record { rest = octets; whole = refl; each = tt; ends = (refl, told) }
-    go more (Faulty fault) told = record { rest = octets; whole = refl; each = tt; ends = told }
-    go more (Whole n) told =
-        let r = more (drop n octets) (omega (arith, told.0, told.1, length-drop n octets)) in
+    go more Part facts = record { rest = octets; whole = refl; each = tt; ends = (refl, facts) }
+    go more (Faulty fault) facts = record { rest = octets; whole = refl; each = tt; ends = facts }
+    go more (Whole n) facts =
+        let r = more (drop n octets) (omega (arith, facts.0, facts.1, length-drop n octets)) in
         record {
           rest = r.rest;
           whole = sym (take-append-drop n octets) ∙ ap (λ z. take n octets ++ z) r.whole ∙ sym (append_assoc (take n octets) (concat (frames_for most (drop n octets)).0) r.rest);
-          each = (told.2, r.each);
+          each = (facts.2, r.each);
           ends = r.ends;
         }
 

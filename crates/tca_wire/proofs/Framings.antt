@@ -27,8 +27,8 @@ length_front xs ys h =
 -- two frames in front of the same octets are one
 same_frame : (f g p q : List ℕ) → IsFrame f → IsFrame g → f ++ p ≡ g ++ q → (f ≡ g) × (p ≡ q)
 same_frame f g p q hf hg e =
-    let told : length_at f ≡ length_at g = sym (length_front f p hf.room) ∙ ap (λ (zs : List ℕ). length_at zs) e ∙ length_front g q hg.room in
-    let long : length g ≡ length f = sym hg.whole ∙ sym told ∙ hf.whole in (
+    let facts : length_at f ≡ length_at g = sym (length_front f p hf.room) ∙ ap (λ (zs : List ℕ). length_at zs) e ∙ length_front g q hg.room in
+    let long : length g ≡ length f = sym hg.whole ∙ sym facts ∙ hf.whole in (
       sym (take_at f p (length f) refl) ∙ ap (take (length f)) e ∙ take_at g q (length f) long,
       sym (drop_at f p (length f) refl) ∙ ap (drop (length f)) e ∙ drop_at g q (length f) long,
     )
@@ -36,8 +36,8 @@ same_frame f g p q hf hg e =
 not_faulty : (g p : List ℕ) (fault : WireFault) → IsFrame g → IsFaulty (g ++ p) fault → ⊥
 not_faulty g p (BadVersion v) h bad = bad.2 (sym bad.1 ∙ version_front g p h.room ∙ h.version)
 not_faulty g p (BadLength n) h bad =
-    let told = length_front g p h.room in
-    omega (arith, told, h.whole, h.room, bad.2, bad.3)
+    let facts = length_front g p h.room in
+    omega (arith, facts, h.whole, h.room, bad.2, bad.3)
 not_faulty g p Short h bad = bad
 not_faulty g p (SetLength at) h bad = bad
 not_faulty g p (SetPastEnd at) h bad = bad
@@ -47,10 +47,10 @@ not_faulty g p Memory h bad = bad
 -- no frame stands in front of a rest
 no_frame : (g p : List ℕ) (x : Framing) → IsFrame g → EndsAs (g ++ p) x → ⊥
 no_frame g p (Holds held) h ends =
-    let told = length_front g p h.room in
+    let facts = length_front g p h.room in
     elim ends.1 [
       | inl short ↦ omega (arith, short, h.room, length-append g p)
-      | inr part ↦ omega (arith, part.2, told, h.whole, length-append g p)
+      | inr part ↦ omega (arith, part.2, facts, h.whole, length-append g p)
     ]
 no_frame g p (Failed fault) h ends = not_faulty g p fault h ends
 

@@ -37,8 +37,8 @@ stands_found at octets s e =
 same_number : (m n : ℕ) → (m == n) ≡ true → m ≡ n
 same_number m n h = grind (arith, nat_tests, h)
 
-le_told : (m n : ℕ) → nat_le m n ≡ true → m ≤ n
-le_told m n h = grind (arith, nat_tests, h)
+le_holds : (m n : ℕ) → nat_le m n ≡ true → m ≤ n
+le_holds m n h = grind (arith, nat_tests, h)
 
 pub not_lt : (m n : ℕ) → n ≤ m → nat_lt m n ≡ false
 not_lt m n h = grind (arith, nat_tests, h)
@@ -53,8 +53,8 @@ stands_only at octets s h =
     let at_is : s.at ≡ at = same_number s.at at a.0 in
     let id_is : s.id ≡ big_number 2 octets = same_number _ _ b.0 in
     let length_is : s.length ≡ n = same_number _ _ l.0 in
-    let least : 4 ≤ s.length = le_told _ _ m.0 in
-    let within : s.length ≤ length octets = le_told _ _ m.1 in
+    let least : 4 ≤ s.length = le_holds _ _ m.0 in
+    let within : s.length ≤ length octets = le_holds _ _ m.1 in
     let t1 : nat_lt (length octets) 4 ≡ false = not_lt _ _ (omega arith) in
     let t2 : nat_lt n 4 ≡ false = not_lt _ _ (omega arith) in
     let t3 : nat_lt (length octets) n ≡ false = not_lt _ _ (omega arith) in
@@ -85,8 +85,8 @@ found_for (suc most) ss out at (b ∷ bs) l e =
         → (x : Result SetSpan WireFault) → judged at (b ∷ bs) ≡ x → IsTiled at (b ∷ bs) ss out
     go more (Err f) j = let bad : Ok out ≡ Err f = sym e ∙ sets_bad ss at (b ∷ bs) f (omega arith) j in absurd cc
     go more (Ok s) j =
-        let told = judged_ok at (b ∷ bs) s j in
-        let r = more (ss ++ s ∷ []) (at + s.length) (drop s.length (b ∷ bs)) (omega (arith, told.least, told.within, length-drop s.length (b ∷ bs)))
+        let facts = judged_ok at (b ∷ bs) s j in
+        let r = more (ss ++ s ∷ []) (at + s.length) (drop s.length (b ∷ bs)) (omega (arith, facts.least, facts.within, length-drop s.length (b ∷ bs)))
         (sym (sets_next ss at (b ∷ bs) s (omega arith) j) ∙ e) in
         record { more = s ∷ r.more; is = r.is ∙ append_assoc ss (s ∷ []) r.more; tiled = both _ _ (stands_found at (b ∷ bs) s j) r.tiled }
 
@@ -104,13 +104,13 @@ sets_found octets ss e =
     let t = found_for (suc (length octets)) [] ss 16 octets (omega arith) e in
     subst (λ (x : List SetSpan). tile 16 x octets ≡ true) (sym t.is) t.tiled
 
-header_told : (h k : Header) (ss : List SetSpan) (x : Result (List SetSpan) WireFault) → with_header k x ≡ Ok (h, ss) → (h ≡ k) × (x ≡ Ok ss)
-header_told h k ss (Ok ts) e =
+header_holds : (h k : Header) (ss : List SetSpan) (x : Result (List SetSpan) WireFault) → with_header k x ≡ Ok (h, ss) → (h ≡ k) × (x ≡ Ok ss)
+header_holds h k ss (Ok ts) e =
     let found : Header × List SetSpan = (k, ts) in
     let given : Header × List SetSpan = (h, ss) in
     let same : found ≡ given = cc in
     (sym (ap (λ (x : Header × List SetSpan). x.0) same), ap (λ (x : Header × List SetSpan). Ok x.1) same)
-header_told h k ss (Err f) e = absurd cc
+header_holds h k ss (Err f) e = absurd cc
 
 pub message_found : (octets : List ℕ) (h : Header) (ss : List SetSpan) → message_of octets ≡ Ok (h, ss) → IsMessage octets h ss
 unfolding message_of
@@ -121,7 +121,7 @@ message_found octets h ss e =
     let b = refused (not (big_number 2 octets == 10)) (BadVersion (big_number 2 octets)) _ x a.1 in
     let c = refused (nat_lt n 16) (BadLength n) _ x b.1 in
     let d = refused (nat_lt (length octets) n) Short _ x c.1 in
-    let t = header_told h (header_at octets) ss (sets_of (drop 16 (take n octets))) d.1 in
+    let t = header_holds h (header_at octets) ss (sets_of (drop 16 (take n octets))) d.1 in
     let l : h.length ≡ n = ap (λ (x : Header). x.length) t.0 in
     record {
       version = grind (arith, nat_tests, b.0);

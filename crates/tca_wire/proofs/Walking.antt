@@ -2,7 +2,8 @@
 use Rattle.std.proofs.Common.{◌≡◌, ℕ, zero, suc, ◌+◌, ◌<◌, List, length, drop, Result, Ok, Err, refl, ap, ◌∙◌, arith}
 use Rattle.std.specs.Prelude.{◌≢◌, IfOk, IfErr}
 use Rattle.std.proofs.lemmas.List.{length-drop}
-use Rattle.tca_wire.specs.Walks.{Front, Ends, Bad, Next, by_front, walk_for, walk, Advances, Gives}
+use Rattle.tca_wire.specs.Walks.{Front, Ends, Bad, Next, by_front, walk_for, walk, Advances}
+use Rattle.tca_wire.specs.Results.{Gives}
 
 module _ {S F : Type 0} (front : S → ℕ → List ℕ → Front S F) (advances : Advances front) where
   -- more pieces than there are octets change nothing

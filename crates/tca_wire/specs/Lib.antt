@@ -1,3 +1,4 @@
+pub mod Results
 pub mod Walks
 pub mod Messages
 pub mod Frames

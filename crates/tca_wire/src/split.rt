@@ -1,6 +1,6 @@
 //! Reading one message.
 ghost use Rattle.std.specs.Prelude.{List, ℕ, Ok, Err, IfOk, IfErr, IsOk, IsErrOf, ◌≡◌, ◌≢◌, ◌<◌, ◌≤◌, ◌+◌, ◌^◌, length, take};
-ghost use Rattle.tca_wire.specs.Walks.{Gives};
+ghost use Rattle.tca_wire.specs.Results.{Gives};
 ghost use Rattle.tca_wire.specs.Messages.{judged, judged_header, sets_of, message_of, HasSet, IsMessage};
 ghost use Rattle.tca_wire.specs.FirstFaults.{IsFirstFault};
 ghost use Rattle.tca_wire.specs.declared.message.Header.{Header};

@@ -1,36 +1,36 @@
 -- What an input holds, as it is added to a set.
 use Rattle.std.proofs.Common.{◌≡◌, ◌≢◌, ◌∙◌, ℕ, true, false, List, Result, Ok, Err, refl, sym, ap}
-use Rattle.tca_report.specs.Reports.{PacketReport}
+use Rattle.tca_report.specs.report.Reports.{PacketReport}
 use Rattle.std.specs.Prelude.{IsOk, IsOkAnd, Bool, if◌then◌else◌, ◌<◌, length}
-use Rattle.tca_report.specs.ExportReading.{reading}
-use Rattle.tca_report.specs.Inputs.{Heard, capture_of, exported, input_of, is_export}
+use Rattle.tca_report.specs.export.Reading.{reading}
+use Rattle.tca_report.specs.input.Inputs.{CaptureSoFar, capture_of, exported, input_of, is_export}
 use Rattle.tca_report.specs.declared.export.ExportFault.{ExportFault}
-use Rattle.tca_report.specs.Gathering.{notes_of, said, told}
-use Rattle.tca_report.specs.declared.inputs.Notes.{Notes}
-use Rattle.tca_report.specs.declared.inputs.InputFault.{InputFault}
-use Rattle.tca_report.specs.declared.inputs.InputFault.TheVariants.{Export, Wire, Decode, Memory}
+use Rattle.tca_report.specs.input.Gathered.{notes_of, gathered_of, reports_and_notes}
+use Rattle.tca_report.specs.declared.input.Notes.{Notes}
+use Rattle.tca_report.specs.declared.input.InputFault.{InputFault}
+use Rattle.tca_report.specs.declared.input.InputFault.TheVariants.{Export, Wire, Decode, Memory}
 use Rattle.tcacct.specs.declared.fault.RunFault.{RunFault}
 use Rattle.tcacct.specs.Runs.{IsRefusedAs, IsSoundExport, input_refusal, is_memory, wants_memory, with_input}
 
--- what was heard where reports and notes were given
-pub said_ok : (r : Result Heard InputFault) (x : List PacketReport × Notes) → said r ≡ Ok x → (h : Heard) × (r ≡ Ok h) × (x.0 ≡ h.reports) × (x.1 ≡ notes_of h)
-said_ok (Ok h) x e =
-    let same : told h ≡ x = cc in
+-- what was so_far where reports and notes were given
+pub gathered_ok : (r : Result CaptureSoFar InputFault) (x : List PacketReport × Notes) → gathered_of r ≡ Ok x → (h : CaptureSoFar) × (r ≡ Ok h) × (x.0 ≡ h.reports) × (x.1 ≡ notes_of h)
+gathered_ok (Ok h) x e =
+    let same : reports_and_notes h ≡ x = cc in
     (h, refl, sym (ap (λ (p : List PacketReport × Notes). p.0) same), sym (ap (λ (p : List PacketReport × Notes). p.1) same))
-said_ok (Err f) x e = absurd cc
+gathered_ok (Err f) x e = absurd cc
 
-said_err : (r : Result Heard InputFault) (fault : InputFault) → said r ≡ Err fault → r ≡ Err fault
-said_err (Ok h) fault e = absurd cc
-said_err (Err f) fault e = let same : f ≡ fault = cc in ap (λ (x : InputFault). Err x) same
+gathered_err : (r : Result CaptureSoFar InputFault) (fault : InputFault) → gathered_of r ≡ Err fault → r ≡ Err fault
+gathered_err (Ok h) fault e = absurd cc
+gathered_err (Err f) fault e = let same : f ≡ fault = cc in ap (λ (x : InputFault). Err x) same
 
 -- the refusal of an input where its fault was given
-pub refused_as : (n : ℕ) (held : List PacketReport) (r : Result Heard InputFault) (fault : InputFault) (e : RunFault) → e ≡ input_refusal n fault
-    → (fault ≢ Memory → said r ≡ Err fault) → IsRefusedAs e (with_input n held r)
+pub refused_as : (n : ℕ) (held : List PacketReport) (r : Result CaptureSoFar InputFault) (fault : InputFault) (e : RunFault) → e ≡ input_refusal n fault
+    → (fault ≢ Memory → gathered_of r ≡ Err fault) → IsRefusedAs e (with_input n held r)
 refused_as n held r fault e is given = λ none.
     let other : fault ≢ Memory = λ m.
     let short : true ≡ false = sym (ap (λ (x : RunFault). wants_memory x) (is ∙ ap (input_refusal n) m)) ∙ none in
     absurd cc in
-    ap (with_input n held) (said_err r fault (given other)) ∙ ap (λ (x : RunFault). Err x) (sym is)
+    ap (with_input n held) (gathered_err r fault (given other)) ∙ ap (λ (x : RunFault). Err x) (sym is)
 
 -- only want of memory is refused as such
 memory_alone : (n : ℕ) (fault : InputFault) → is_memory (input_refusal n fault) ≡ true → fault ≡ Memory
@@ -49,12 +49,12 @@ pub memory_of_gather : (n : ℕ) (input : List ℕ) (fault : InputFault) (e : Ru
 memory_of_gather n input fault e is last short whole =
     still_ok _ (reading input) (last (memory_alone n fault (sym (ap is_memory is) ∙ short)) whole)
 
-no_fault : (r : Result (List PacketReport) ExportFault) (h : Heard) → exported r ≡ Ok h → IsOk r
+no_fault : (r : Result (List PacketReport) ExportFault) (h : CaptureSoFar) → exported r ≡ Ok h → IsOk r
 no_fault (Ok rs) h e = refl
 no_fault (Err fault) h e = absurd cc
 
 -- nothing is wrong with an input that was read
-pub sound_if_read : (input : List ℕ) (h : Heard) → input_of input ≡ Ok h → IsSoundExport input
+pub sound_if_read : (input : List ℕ) (h : CaptureSoFar) → input_of input ≡ Ok h → IsSoundExport input
 sound_if_read input h read whole =
     let chosen : input_of input ≡ exported (reading input) = ap (λ (b : Bool). if b then exported (reading input) else capture_of input) whole in
     no_fault (reading input) h (sym chosen ∙ read)

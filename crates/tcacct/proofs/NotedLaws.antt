@@ -1,7 +1,7 @@
 -- The notes of the inputs, gathered one by one.
 use Rattle.std.proofs.Common.{ℕ, List, [], ◌∷◌, ◌++◌, append_assoc, sym, subst}
 use Rattle.std.proofs.lemmas.List.{append-nil}
-use Rattle.tca_report.specs.declared.inputs.Notes.{Notes}
+use Rattle.tca_report.specs.declared.input.Notes.{Notes}
 use Rattle.tcacct.specs.Noted.{AreNotes, IsNoted}
 
 -- notes of what is left complete those so far

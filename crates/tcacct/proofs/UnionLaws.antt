@@ -7,8 +7,8 @@ use Rattle.std.proofs.lemmas.List.Concat.{flat_map-cons}
 use Rattle.tca_join.specs.Sets.{has, in_order}
 use Rattle.tca_join.proofs.Sets.{has-append, has-in_order}
 use Rattle.tca_join.proofs.Merge.{in_order_of_rising, in_order_alike}
-use Rattle.tca_report.specs.Reports.{PacketReport, report_cmp}
-use Rattle.tca_report.proofs.Order.{report_total, report_exact}
+use Rattle.tca_report.specs.report.Reports.{PacketReport, report_cmp}
+use Rattle.tca_report.proofs.lemmas.report.Order.{report_total, report_exact}
 use Rattle.tcacct.specs.Runs.{HoldsReports, HoldReports, IsUnion}
 
 -- the reports that the inputs hold, together with a set

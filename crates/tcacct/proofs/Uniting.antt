@@ -5,8 +5,8 @@ use Rattle.std.proofs.lemmas.Option.{slice_get-map, slice_get_read}
 use Rattle.std.proofs.lemmas.List.{length-map, length-take-le, map-append, take-map, take_more}
 use Rattle.std.proofs.Math.Seq.{drop-cons}
 use Rattle.std.proofs.Math.ListN.{drop_of_length-le}
-use Rattle.tca_report.specs.Reports.{PacketReport}
-use Rattle.tca_report.specs.Inputs.{input_of}
+use Rattle.tca_report.specs.report.Reports.{PacketReport}
+use Rattle.tca_report.specs.input.Inputs.{input_of}
 use Rattle.tcacct.specs.declared.fault.RunFault.{RunFault}
 use Rattle.tcacct.specs.Runs.{IsInTurn, IsRefusedAs, IsSoundExport, and_then, is_log_memory, is_memory, united_from, with_input}
 

@@ -1,9 +1,9 @@
 -- What the command `bill` writes, and what it is refused for.
 use Rattle.std.specs.Prelude.{◌≡◌, ◌≢◌, ◌⊎◌, ℕ, true, false, List, Option, None, Ok, Err, IsUtf8}
 use Rattle.toml.specs.Parse.{parse_document}
-use Rattle.tca_report.specs.Reports.{PacketReport}
-use Rattle.tca_report.specs.Export.{export}
-use Rattle.tca_report.specs.declared.inputs.Notes.{Notes}
+use Rattle.tca_report.specs.report.Reports.{PacketReport}
+use Rattle.tca_report.specs.export.Spelling.{export}
+use Rattle.tca_report.specs.declared.input.Notes.{Notes}
 use Rattle.tca_accounts.specs.Plans.{AccountPlan}
 use Rattle.tca_accounts.specs.Documents.{plan_in}
 use Rattle.tca_accounts.specs.Bills.{bill_of}

@@ -1,7 +1,7 @@
 -- What the command `combine` writes and prints, and what it is refused for.
 use Rattle.std.specs.Prelude.{◌≡◌, ◌⊎◌, ℕ, true, false, List, length, Ok}
-use Rattle.tca_report.specs.Reports.{PacketReport}
-use Rattle.tca_report.specs.Export.{export}
+use Rattle.tca_report.specs.report.Reports.{PacketReport}
+use Rattle.tca_report.specs.export.Spelling.{export}
 use Rattle.tcacct.specs.Devices.{Device, IsCutOff, Receives}
 use Rattle.tcacct.specs.Texts.{combine_text}
 use Rattle.tcacct.specs.declared.fault.RunFault.{RunFault}

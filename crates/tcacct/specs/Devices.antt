@@ -3,7 +3,7 @@ use Rattle.std.proofs.Common.{inl, inr}
 use Rattle.std.specs.Prelude.{◌≡◌, ◌<◌, ◌⊎◌, ℕ, List, length, take, Option, Some, None, option_map}
 use Rattle.std.specs.Borrow.{MutBor}
 use Rattle.std.specs.Io.KnownBytes.{Appends}
-use Rattle.tca_report.specs.Devices.{Rises}
+use Rattle.tca_report.specs.device.Devices.{Rises}
 
 -- a device as it stands: the octets that went out to it, where they are known, and how many of its calls have failed
 pub record Device : Type 0 where

@@ -1,17 +1,17 @@
 -- What the inputs of a command hold beside reports.
 use Rattle.std.specs.Prelude.{◌≡◌, ◌==◌, ◌&&◌, Bool, ℕ, List, [], ◌∷◌, ◌++◌, Ok, codes, sum_by, if◌then◌else◌}
 use Rattle.std.specs.Fmt.{decimal}
-use Rattle.tca_report.specs.Reports.{PacketReport}
-use Rattle.tca_report.specs.Inputs.{Heard, input_of}
-use Rattle.tca_report.specs.Gathering.{notes_of}
-use Rattle.tca_report.specs.declared.inputs.Notes.{Notes}
+use Rattle.tca_report.specs.report.Reports.{PacketReport}
+use Rattle.tca_report.specs.input.Inputs.{CaptureSoFar, input_of}
+use Rattle.tca_report.specs.input.Gathered.{notes_of}
+use Rattle.tca_report.specs.declared.input.Notes.{Notes}
 use Rattle.tcacct.specs.Runs.{IsUnion, united}
 
 -- These are the notes of an input, a log export or a capture.
 pub record IsNoted (input : List ℕ) (notes : Notes) : Type 0 where
-  pub heard : Heard
-  pub read : input_of input ≡ Ok heard
-  pub notes_are : notes ≡ notes_of heard
+  pub so_far : CaptureSoFar
+  pub read : input_of input ≡ Ok so_far
+  pub notes_are : notes ≡ notes_of so_far
 
 -- Each input has the notes beside it.
 unfoldable pub AreNotes : List (List ℕ) → List Notes → Type 0

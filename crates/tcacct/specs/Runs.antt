@@ -3,15 +3,15 @@ use Rattle.std.specs.Prelude.{◌≡◌, ◌==◌, ℕ, ◌+◌, ◌<◌, Bool, 
 use Rattle.std.specs.List.{flat_map}
 use Rattle.std.specs.declared.vec.Vec.{Vec}
 use Rattle.tca_join.specs.Sets.{in_order}
-use Rattle.tca_report.specs.Reports.{PacketReport, report_cmp}
+use Rattle.tca_report.specs.report.Reports.{PacketReport, report_cmp}
 use Rattle.tca_wire.specs.Faults.{wire_number}
 use Rattle.tca_templates.specs.Faults.{decode_number}
-use Rattle.tca_report.specs.Export.{most_reports}
-use Rattle.tca_report.specs.ExportReading.{reading}
-use Rattle.tca_report.specs.FaultNumbers.{export_number}
-use Rattle.tca_report.specs.Inputs.{Heard, input_of, is_export}
-use Rattle.tca_report.specs.declared.inputs.InputFault.{InputFault}
-use Rattle.tca_report.specs.declared.inputs.InputFault.TheVariants.{Export, Wire, Decode, Memory}
+use Rattle.tca_report.specs.export.Spelling.{most_reports}
+use Rattle.tca_report.specs.export.Reading.{reading}
+use Rattle.tca_report.specs.Faults.{export_number}
+use Rattle.tca_report.specs.input.Inputs.{CaptureSoFar, input_of, is_export}
+use Rattle.tca_report.specs.declared.input.InputFault.{InputFault}
+use Rattle.tca_report.specs.declared.input.InputFault.TheVariants.{Export, Wire, Decode, Memory}
 use Rattle.tcacct.specs.declared.fault.RunFault.{RunFault}
 use Rattle.tcacct.specs.declared.fault.Family.{Family}
 use Rattle.tcacct.specs.declared.fault.Family.TheVariants as family
@@ -22,9 +22,9 @@ octets_of = map (λ v. v.items)
 
 -- An input, a log export or a capture, holds these reports in its order.
 pub record HoldsReports (input : List ℕ) (rs : List PacketReport) : Type 0 where
-  pub heard : Heard
-  pub read : input_of input ≡ Ok heard
-  pub reports : rs ≡ heard.reports
+  pub so_far : CaptureSoFar
+  pub read : input_of input ≡ Ok so_far
+  pub reports : rs ≡ so_far.reports
 
 -- Each input holds the list beside it.
 unfoldable pub HoldReports : List (List ℕ) → List (List PacketReport) → Type 0
@@ -67,7 +67,7 @@ with_reports n held rs =
     else Ok (in_order report_cmp (held ++ rs))
 
 -- a set with the reports of input n, or the refusal of that input: it has a fault, or the union would have too many reports
-abbrev pub with_input : ℕ → List PacketReport → Result Heard InputFault → Result (List PacketReport) RunFault
+abbrev pub with_input : ℕ → List PacketReport → Result CaptureSoFar InputFault → Result (List PacketReport) RunFault
 with_input n held (Ok h) = with_reports n held h.reports
 with_input n held (Err fault) = Err (input_refusal n fault)
 

@@ -1,7 +1,7 @@
 //! Why a command was refused.
 ghost use Rattle.std.specs.Prelude.{◌≡◌, Some, None};
 ghost use Rattle.tca_log.specs.Faults.{fault_number};
-ghost use Rattle.tca_report.specs.FaultNumbers.{read_number};
+ghost use Rattle.tca_report.specs.Faults.{read_number};
 ghost use Rattle.tcacct.specs.Faults.{family_name, fault_text};
 ghost use Rattle.tcacct.specs.Runs.{input_refusal, refusal, write_refusal};
 ghost use Rattle.tcacct.specs.declared.fault.Family.TheVariants as family;

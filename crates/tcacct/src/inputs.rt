@@ -2,8 +2,8 @@
 ghost use Rattle.std.specs.Prelude.{◌≡◌, ◌<◌, ◌^◌, ◌++◌, List, Ok, Some, IfErr, IfOk, IsOk, OnOk, false, true, length, MatchResult};
 ghost use Rattle.std.specs.List.Sorted.{IsStrictlySortedBy};
 ghost use Rattle.tca_join.specs.Sets.{in_order};
-ghost use Rattle.tca_report.specs.Reports.{PacketReport, report_cmp};
-ghost use Rattle.tca_report.specs.Inputs.{input_of};
+ghost use Rattle.tca_report.specs.report.Reports.{PacketReport, report_cmp};
+ghost use Rattle.tca_report.specs.input.Inputs.{input_of};
 ghost use Rattle.tcacct.specs.Noted.{IsNoted, IsUniting};
 ghost use Rattle.tcacct.specs.Runs.{HoldsReports, IsRefusedAs, IsSoundExport, IsUnitingRefused, is_log_memory, is_memory, is_write, octets_of, with_input};
 

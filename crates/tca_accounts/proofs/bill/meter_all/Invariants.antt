@@ -1,7 +1,7 @@
 use Rattle.std.proofs.Common.{◌≡◌, ◌+◌, length}
 use Rattle.tca_accounts.proofs.Bills.{none_in}
 use Rattle.std.specs.List.Sorted.{IsStrictlySortedBy}
-use Rattle.tca_report.specs.Reports.{report_cmp}
+use Rattle.tca_report.specs.report.Reports.{report_cmp}
 use Rattle.tca_log.specs.Disputes.{undisputed}
 use Rattle.tca_accounts.specs.Bills.{unassigned}
 use Rattle.tca_accounts.specs.Metering.{AreRunning}

@@ -1,6 +1,6 @@
 use Rattle.std.proofs.Common.{rules, ◌≡◌, ◌≤◌, List, [], ◌∷◌, ◌++◌, Some, None, append_assoc, sym, ap, subst, ◌∙◌, arith}
 use Rattle.std.proofs.lemmas.List.{append-nil}
-use Rattle.tca_report.specs.Reports.{PacketReport}
+use Rattle.tca_report.specs.report.Reports.{PacketReport}
 use Rattle.tca_report.specs.declared.report.Identity.{Identity}
 use Rattle.tca_log.specs.Logs.{count_at}
 use Rattle.tca_log.proofs.AscendingPlaces.{IsAbove, alone_more, alone_none, last_of, none_disputed}

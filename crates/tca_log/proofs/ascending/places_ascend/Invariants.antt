@@ -1,5 +1,5 @@
 use Rattle.std.proofs.Common.{◌≡◌, List, ◌++◌}
-use Rattle.tca_report.specs.Reports.{PacketReport}
+use Rattle.tca_report.specs.report.Reports.{PacketReport}
 use Rattle.tca_log.proofs.AscendingPlaces.{AreAlone}
 use Rattle.tca_log.proofs.ascending.places_ascend.Given as goal
 

@@ -1,6 +1,6 @@
 use Rattle.std.proofs.Common.{length, sym, ap, ◌∙◌, arith}
-use Rattle.tca_report.specs.Reports.{report_cmp}
-use Rattle.tca_report.proofs.Order.{report_total}
+use Rattle.tca_report.specs.report.Reports.{report_cmp}
+use Rattle.tca_report.proofs.lemmas.report.Order.{report_total}
 use Rattle.tca_log.proofs.OrderedRows.Each.{beyond_shorter}
 use Rattle.tca_log.proofs.Gathering.{new_next, held_next, none_left}
 use Rattle.tca_log.proofs.union.count_new.Goals as goal

@@ -1,5 +1,5 @@
 use Rattle.std.proofs.Common.{◌≡◌, ◌+◌, length, drop}
-use Rattle.tca_report.specs.Reports.{report_cmp}
+use Rattle.tca_report.specs.report.Reports.{report_cmp}
 use Rattle.tca_log.specs.Rows.Ordered.{without_each}
 use Rattle.tca_log.proofs.union.count_new.Given as goal
 

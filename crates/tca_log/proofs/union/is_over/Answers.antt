@@ -1,6 +1,6 @@
 use Rattle.std.proofs.Common.{◌+◌, ◌-◌, length, sym, ◌∙◌, arith, le-ltb}
-use Rattle.tca_report.specs.Reports.{report_cmp}
-use Rattle.tca_report.proofs.Order.{report_total}
+use Rattle.tca_report.specs.report.Reports.{report_cmp}
+use Rattle.tca_report.proofs.lemmas.report.Order.{report_total}
 use Rattle.tca_log.specs.Rows.Ordered.{without_each}
 use Rattle.tca_log.proofs.OrderedRows.Each.{beyond_shorter}
 use Rattle.tca_log.proofs.union.is_over.Goals as goal

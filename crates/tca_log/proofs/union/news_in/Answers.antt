@@ -1,5 +1,5 @@
-use Rattle.tca_report.specs.Reports.{report_cmp}
-use Rattle.tca_report.proofs.Order.{report_total}
+use Rattle.tca_report.specs.report.Reports.{report_cmp}
+use Rattle.tca_report.proofs.lemmas.report.Order.{report_total}
 use Rattle.tca_join.proofs.Sets.{rises_in_order}
 use Rattle.tca_log.proofs.union.news_in.Goals as goal
 

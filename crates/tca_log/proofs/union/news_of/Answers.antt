@@ -1,7 +1,7 @@
 use Rattle.std.proofs.Common.{List, ◌+◌, [], length, drop, subst, sym, ap, ◌∙◌, arith}
 use Rattle.std.proofs.lemmas.List.{nil_from_length}
-use Rattle.tca_report.specs.Reports.{PacketReport, report_cmp}
-use Rattle.tca_report.proofs.Order.{report_total}
+use Rattle.tca_report.specs.report.Reports.{PacketReport, report_cmp}
+use Rattle.tca_report.proofs.lemmas.report.Order.{report_total}
 use Rattle.tca_log.specs.Rows.Ordered.{without_each}
 use Rattle.tca_log.proofs.OrderedRows.Each.{ArePutting, putting_none, putting_new, putting_more, putting_some, putting_all, beyond_rises, apart_none, put_each_none, without_none}
 use Rattle.tca_log.proofs.Gathering.{new_next, held_next, none_left}

@@ -1,6 +1,6 @@
 use Rattle.std.proofs.Common.{subst, sym, ap, ◌∙◌}
-use Rattle.tca_report.specs.Identities.{identity_cmp}
-use Rattle.tca_report.proofs.Identities.{identity_total}
+use Rattle.tca_report.specs.report.Identities.{identity_cmp}
+use Rattle.tca_report.proofs.lemmas.report.Identities.{identity_total}
 use Rattle.tca_log.specs.Rows.Ordered.{without_each, AreApart}
 use Rattle.tca_log.proofs.OrderedRows.Each.{undone_all}
 use Rattle.tca_log.proofs.union.put_additions.Goals as goal

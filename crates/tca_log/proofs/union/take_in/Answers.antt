@@ -1,7 +1,7 @@
 use Rattle.std.proofs.Common.{ap, sym, ◌∙◌, arith}
 use Rattle.std.proofs.lemmas.List.{nil_from_length}
-use Rattle.tca_report.specs.Reports.{report_cmp}
-use Rattle.tca_report.proofs.Order.{report_total}
+use Rattle.tca_report.specs.report.Reports.{report_cmp}
+use Rattle.tca_report.proofs.lemmas.report.Order.{report_total}
 use Rattle.tca_log.specs.Rows.Ordered.{put_each}
 use Rattle.tca_log.proofs.OrderedRows.Each.{put_each_none}
 use Rattle.tca_log.proofs.union.take_in.Goals as goal

@@ -1,9 +1,9 @@
 use Rattle.std.proofs.Common.{◌≡◌, ap, sym, subst, List, ◌∙◌, arith}
 use Rattle.std.proofs.lemmas.List.{nil_from_length}
-use Rattle.tca_report.specs.Reports.{PacketReport, report_cmp}
-use Rattle.tca_report.proofs.Order.{report_total}
+use Rattle.tca_report.specs.report.Reports.{PacketReport, report_cmp}
+use Rattle.tca_report.proofs.lemmas.report.Order.{report_total}
 use Rattle.tca_log.specs.Rows.Ordered.{put_each, without_each}
-use Rattle.tca_report.specs.Identities.{identity_cmp}
+use Rattle.tca_report.specs.report.Identities.{identity_cmp}
 use Rattle.tca_log.specs.Logs.{index_cmp, IsLog}
 use Rattle.tca_log.proofs.OrderedRows.Each.{put_each_none, undone_all}
 use Rattle.tca_log.proofs.Uniting.{additions, few_fresh, few_newly_disputed, united_log}

@@ -1,4 +1,4 @@
-use Rattle.tca_report.proofs.ExportHeader.{one_spelling}
+use Rattle.tca_report.proofs.lemmas.export.Spelling.{one_spelling}
 use Rattle.tca_report.proofs.export.spelling_is_unique.Goals as goal
 
 pub returns : goal.returns

@@ -1,4 +1,4 @@
-use Rattle.tca_report.proofs.Order.{report_total, report_exact}
+use Rattle.tca_report.proofs.lemmas.report.Order.{report_total, report_exact}
 use Rattle.tca_report.proofs.report.order_is_total.Goals as goal
 
 pub returns-clause-total : goal.returns-clause-total

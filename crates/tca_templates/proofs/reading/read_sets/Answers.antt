@@ -5,7 +5,7 @@ use Rattle.std.proofs.lemmas.Result.{err_from_is_err_and}
 use Rattle.tca_wire.specs.declared.message.SetSpan.{SetSpan}
 use Rattle.tca_wire.proofs.Tiles.{blank_set, tile_span, tile_next, tile_few}
 use Rattle.tca_templates.specs.Reading.{set_of}
-use Rattle.tca_templates.specs.Fields.{seen_of, is_template_set, is_read}
+use Rattle.tca_templates.specs.Fields.{read_message_of, is_template_set, is_read}
 use Rattle.tca_templates.proofs.Sets.{sets_step, sets_all, none_at}
 use Rattle.tca_templates.proofs.reading.read_sets.Goals as goal
 
@@ -34,20 +34,20 @@ pub returns-in_err-aside-clause-exact : goal.returns-in_err-aside-clause-exact
 returns-in_err-aside-clause-exact c =
     let m = c.args.message.now in
     let lt : c.loop-set.set-index < length m.sets.items = omega (arith, c.loop-set-test.true, ap length c.deref-set-items.ensures.value) in
-    let seen = seen_of m.header.domain c.loop-set.templates.entries c.loop-set.rows.items c.loop-set.fields.items c.loop-set.aside.unplaced c.loop-set.aside.skipped in
-    let same = ap (λ (l : List SetSpan). set_of m.header m.octets.now seen (get_or l c.loop-set.set-index blank_set)) (sym c.deref-set-items.ensures.value) in
+    let given = read_message_of m.header.domain c.loop-set.templates.entries c.loop-set.rows.items c.loop-set.fields.items c.loop-set.aside.unplaced c.loop-set.aside.skipped in
+    let same = ap (λ (l : List SetSpan). set_of m.header m.octets.now given (get_or l c.loop-set.set-index blank_set)) (sym c.deref-set-items.ensures.value) in
     let p = err_from_is_err_and c.from_residual.result c.from_residual.ensures.1 in
     rw (p.1, p.2) (λ ne. sym c.loop-set.invariant.so_far
-    ∙ sets_step m.header m.octets.now seen m.sets.items c.loop-set.set-index (Err c.in_err-aside.field-0.0) lt (same ∙ c.in_err-aside.ensures.exact ne))
+    ∙ sets_step m.header m.octets.now given m.sets.items c.loop-set.set-index (Err c.in_err-aside.field-0.0) lt (same ∙ c.in_err-aside.ensures.exact ne))
 
 pub loop-set-preserved : goal.loop-set-preserved
 loop-set-preserved c =
     let m = c.args.message.now in
     let lt : c.loop-set.set-index < length m.sets.items = omega (arith, c.loop-set-test.true, ap length c.deref-set-items.ensures.value) in
-    let seen = seen_of m.header.domain c.loop-set.templates.entries c.loop-set.rows.items c.loop-set.fields.items c.loop-set.aside.unplaced c.loop-set.aside.skipped in
-    let next = seen_of m.header.domain c.read_set.new.templates.entries c.read_set.new.rows.items c.read_set.new.fields.items c.in_ok-aside.aside.unplaced c.in_ok-aside.aside.skipped in
-    let same = ap (λ (l : List SetSpan). set_of m.header m.octets.now seen (get_or l c.loop-set.set-index blank_set)) (sym c.deref-set-items.ensures.value) in
-    let step = sets_step m.header m.octets.now seen m.sets.items c.loop-set.set-index (Ok next) lt (same ∙ c.in_ok-aside.ensures.exact) in
+    let given = read_message_of m.header.domain c.loop-set.templates.entries c.loop-set.rows.items c.loop-set.fields.items c.loop-set.aside.unplaced c.loop-set.aside.skipped in
+    let next = read_message_of m.header.domain c.read_set.new.templates.entries c.read_set.new.rows.items c.read_set.new.fields.items c.in_ok-aside.aside.unplaced c.in_ok-aside.aside.skipped in
+    let same = ap (λ (l : List SetSpan). set_of m.header m.octets.now given (get_or l c.loop-set.set-index blank_set)) (sym c.deref-set-items.ensures.value) in
+    let step = sets_step m.header m.octets.now given m.sets.items c.loop-set.set-index (Ok next) lt (same ∙ c.in_ok-aside.ensures.exact) in
     let here : get_or c.deref-set-items.result.now c.loop-set.set-index blank_set ≡ get_or m.sets.items c.loop-set.set-index blank_set = ap (λ (l : List SetSpan). get_or l c.loop-set.set-index blank_set) c.deref-set-items.ensures.value in
     record {
       so_far = sym step ∙ c.loop-set.invariant.so_far;

@@ -5,7 +5,7 @@ use Rattle.tca_templates.specs.declared.fault.DecodeFault.TheVariants.{RecordCut
 use Rattle.tca_templates.specs.declared.record.Field.{Field}
 use Rattle.tca_templates.specs.Records.{field_at}
 use Rattle.tca_templates.specs.Fields.{field_view, fields_given}
-use Rattle.tca_templates.proofs.Fields.{blank, shortest_more, all_shortest, field_told, field_of, fields_step, fields_stop, fields_all}
+use Rattle.tca_templates.proofs.Fields.{blank, shortest_more, all_shortest, field_holds, field_of, fields_step, fields_stop, fields_all}
 use Rattle.tca_templates.proofs.record.read_fields.Goals as goal
 
 pub loop-spec-preserved : goal.loop-spec-preserved
@@ -23,9 +23,9 @@ loop-spec-preserved c =
     (c.split_at-in-loop-spec.ensures.back ∙ ap (drop c.in-Some.skip) c.split_at.ensures.front ∙ drop-take c.in-Some.skip c.in-Some.size rest) in
     record {
       so_far = rw (views, c.split_at.ensures.back) (sym step ∙ c.loop-spec.invariant.so_far);
-      least = omega (arith, shortest_more c.args.specs.now c.loop-spec.spec-index c.loop-spec-test.true, (field_told spec rest x e).1, c.loop-spec.invariant.least);
+      least = omega (arith, shortest_more c.args.specs.now c.loop-spec.spec-index c.loop-spec-test.true, (field_holds spec rest x e).1, c.loop-spec.invariant.least);
       longer = rw c.in-Ok.ensures.items (omega (arith, length-append c.loop-spec.fields.items (pushed ∷ []), c.loop-spec.invariant.longer));
-      place = rw c.split_at.ensures.back (omega (arith, (field_told spec rest x e).0, length-drop (x.0 + x.1) rest, c.loop-spec.invariant.place));
+      place = rw c.split_at.ensures.back (omega (arith, (field_holds spec rest x e).0, length-drop (x.0 + x.1) rest, c.loop-spec.invariant.place));
     }
 
 pub returns-in_default-clause-exact : goal.returns-in_default-clause-exact

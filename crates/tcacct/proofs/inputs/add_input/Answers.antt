@@ -1,9 +1,9 @@
 use Rattle.std.proofs.Common.{◌≡◌, ◌∙◌, ◌++◌, ◌≤◌, Ok, Err, length, sym, ap, le-ltb}
 use Rattle.tca_join.specs.Sets.{in_order}
-use Rattle.tca_report.specs.Reports.{report_cmp}
-use Rattle.tca_report.specs.Inputs.{input_of}
+use Rattle.tca_report.specs.report.Reports.{report_cmp}
+use Rattle.tca_report.specs.input.Inputs.{input_of}
 use Rattle.tcacct.specs.Runs.{with_input, with_reports}
-use Rattle.tcacct.proofs.InputLaws.{memory_of_gather, refused_as, said_ok}
+use Rattle.tcacct.proofs.InputLaws.{memory_of_gather, refused_as, gathered_ok}
 use Rattle.tcacct.proofs.inputs.add_input.Goals as goal
 
 pub returns-in-Ok-add_all-clause-exact : goal.returns-in-Ok-add_all-clause-exact
@@ -12,21 +12,21 @@ returns-in-Ok-add_all-clause-exact c =
     let all = in_order report_cmp (c.args.log.now ++ reports) in
     let is : c.add_all.new.self ≡ all = c.in-Ok-add_all.ensures.ok in
     let few : length all ≤ 4194304 = rw is at c.reports-reports.ensures.limit in
-    let heard = said_ok _ _ c.in-Ok.ensures.exact in
-    ap (with_input c.args.n c.args.log.now) heard.1 ∙ ap (with_reports c.args.n c.args.log.now) (sym heard.2) ∙ rw (le-ltb 4194304 (length all) few) (ap Ok (sym is))
+    let so_far = gathered_ok _ _ c.in-Ok.ensures.exact in
+    ap (with_input c.args.n c.args.log.now) so_far.1 ∙ ap (with_reports c.args.n c.args.log.now) (sym so_far.2) ∙ rw (le-ltb 4194304 (length all) few) (ap Ok (sym is))
 
 pub returns-in-Ok-add_all-clause-found : goal.returns-in-Ok-add_all-clause-found
 returns-in-Ok-add_all-clause-found c =
-    let heard = said_ok _ _ c.in-Ok.ensures.exact in (
+    let so_far = gathered_ok _ _ c.in-Ok.ensures.exact in (
       c.in-Ok.gathered.reports.items,
-      record { heard = heard.0; read = heard.1; reports = heard.2 },
+      record { so_far = so_far.0; read = so_far.1; reports = so_far.2 },
       c.in-Ok-add_all.ensures.ok,
     )
 
 pub returns-in-Ok-add_all-clause-noted : goal.returns-in-Ok-add_all-clause-noted
 returns-in-Ok-add_all-clause-noted c =
-    let heard = said_ok _ _ c.in-Ok.ensures.exact in
-    record { heard = heard.0; read = heard.1; notes_are = heard.3 }
+    let so_far = gathered_ok _ _ c.in-Ok.ensures.exact in
+    record { so_far = so_far.0; read = so_far.1; notes_are = so_far.3 }
 
 pub returns-in-Err-clause-exact : goal.returns-in-Err-clause-exact
 returns-in-Err-clause-exact c =

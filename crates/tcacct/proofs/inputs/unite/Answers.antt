@@ -45,6 +45,6 @@ returns-then-is_err-clause-refused c =
     let noted = rw c.deref.ensures.value at c.in-Ok.ensures.noted in
     rw c.input.ensures.fault (record {
       due = λ other. absurd (true≢false other);
-      turn = in_turn (λ v. v.items) c.args.inputs.now c.loop-n.n c.loop-n.log c.loop-n-test.true c.loop-n.invariant.taken c.index-inputs-n.result _ c.index-inputs-n.is refl (λ short. absurd (true≢false (sym short))) (λ short. sound_if_read _ noted.heard noted.read);
+      turn = in_turn (λ v. v.items) c.args.inputs.now c.loop-n.n c.loop-n.log c.loop-n-test.true c.loop-n.invariant.taken c.index-inputs-n.result _ c.index-inputs-n.is refl (λ short. absurd (true≢false (sym short))) (λ short. sound_if_read _ noted.so_far noted.read);
       no_write = refl;
     })

@@ -1,6 +1,6 @@
 use Rattle.std.proofs.Common.{◌≡◌, List, [], map, take, drop, Ok}
 use Rattle.std.specs.List.Sorted.{IsStrictlySortedBy}
-use Rattle.tca_report.specs.Reports.{PacketReport, report_cmp}
+use Rattle.tca_report.specs.report.Reports.{PacketReport, report_cmp}
 use Rattle.tcacct.specs.Runs.{united_from}
 use Rattle.tcacct.proofs.UnionLaws.{IsUnionWith}
 use Rattle.tcacct.proofs.NotedLaws.{Completed}

@@ -1,5 +1,5 @@
 use Rattle.std.proofs.Common.{◌<◌, List, length, sym, subst, ◌∙◌, arith}
-use Rattle.tca_report.specs.Reports.{PacketReport}
+use Rattle.tca_report.specs.report.Reports.{PacketReport}
 use Rattle.tca_log.specs.Logs.{IsLog}
 use Rattle.tca_log.proofs.Logs.{repeat, repeat_put, kept, next_log, next_answer}
 use Rattle.tca_log.proofs.log.Log.add.Goals as goal

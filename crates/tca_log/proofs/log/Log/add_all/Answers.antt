@@ -3,8 +3,8 @@ use Rattle.std.proofs.Common.{◌≡◌, ◌≤◌, ◌+◌, ◌++◌, ℕ, List
 use Rattle.std.proofs.lemmas.Bool.{false≢true}
 use Rattle.tca_join.specs.Sets.{in_order}
 use Rattle.tca_join.proofs.Sets.{rises_in_order}
-use Rattle.tca_report.specs.Reports.{PacketReport, report_cmp}
-use Rattle.tca_report.proofs.Order.{report_total, report_exact}
+use Rattle.tca_report.specs.report.Reports.{PacketReport, report_cmp}
+use Rattle.tca_report.proofs.lemmas.report.Order.{report_total, report_exact}
 use Rattle.tca_log.specs.Rows.Ordered.{put_each, without_each}
 use Rattle.tca_log.specs.Faults.{IsRefusedBy}
 use Rattle.tca_log.proofs.OrderedRows.Each.{putting_nothing, beyond_apart, beyond_rises}

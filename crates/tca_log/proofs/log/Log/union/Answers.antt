@@ -1,7 +1,7 @@
 use Rattle.std.proofs.Common.{◌≡◌, ◌≤◌, ◌++◌, length, rules, ap, ◌∙◌, arith}
 use Rattle.tca_join.specs.Sets.{in_order}
-use Rattle.tca_report.specs.Reports.{report_cmp}
-use Rattle.tca_report.proofs.Order.{report_total, report_exact}
+use Rattle.tca_report.specs.report.Reports.{report_cmp}
+use Rattle.tca_report.proofs.lemmas.report.Order.{report_total, report_exact}
 use Rattle.tca_log.specs.Rows.Ordered.{without_each, put_each}
 use Rattle.tca_log.proofs.OrderedRows.Each.{putting_nothing, beyond_apart, beyond_rises}
 use Rattle.tca_log.proofs.Uniting.{union_is, union_length}

@@ -1,6 +1,6 @@
 use Rattle.std.proofs.Common.{◌≡◌, ◌∷◌, rules, sym, ap, ◌∙◌}
 use Rattle.tca_join.specs.Sets.{has}
-use Rattle.tca_report.specs.Identities.{identity_cmp}
+use Rattle.tca_report.specs.report.Identities.{identity_cmp}
 use Rattle.tca_log.specs.Disputes.{settled_of}
 use Rattle.tca_log.proofs.Undisputed.{settled_keep, settled_skip, settled_none}
 use Rattle.tca_log.proofs.settled.SettledIterator.next.Goals as goal

@@ -1,6 +1,6 @@
 use Rattle.std.proofs.Common.{sym, subst, ◌∙◌, arith}
 use Rattle.tca_join.specs.Sets.{put}
-use Rattle.tca_report.specs.Reports.{report_cmp}
+use Rattle.tca_report.specs.report.Reports.{report_cmp}
 use Rattle.tca_log.specs.declared.answer.Added.TheVariants.{MoreDispute, Repeat, NewDispute, Fresh}
 use Rattle.tca_replay.specs.Books.{BookView, Takes, Fits}
 use Rattle.tca_replay.proofs.Books.{reports_few, fits_after}

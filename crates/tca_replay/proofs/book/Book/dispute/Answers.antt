@@ -1,7 +1,7 @@
 use Rattle.std.proofs.Common.{◌+◌, refl, arith}
 use Rattle.std.specs.Prelude.{is_none}
 use Rattle.tca_log.specs.declared.answer.Added.TheVariants.{NewDispute}
-use Rattle.tca_report.specs.Reports.{PacketReport}
+use Rattle.tca_report.specs.report.Reports.{PacketReport}
 use Rattle.tca_accounts.specs.Plans.{account_of}
 use Rattle.tca_replay.specs.Lanes.{lane_less}
 use Rattle.tca_replay.specs.Books.{BookView, Takes}

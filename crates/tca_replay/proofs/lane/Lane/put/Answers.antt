@@ -1,5 +1,5 @@
 use Rattle.std.proofs.Common.{◌≡◌, true, false}
-use Rattle.tca_report.specs.Reports.{report_cmp}
+use Rattle.tca_report.specs.report.Reports.{report_cmp}
 use Rattle.tca_join.specs.Sets.{has}
 use Rattle.tca_replay.specs.Runs.{metering}
 use Rattle.tca_replay.proofs.Lanes.{lane_took, view_put}

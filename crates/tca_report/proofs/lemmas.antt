@@ -1,0 +1,4 @@
+pub mod report
+pub mod device
+pub mod export
+pub mod input

@@ -1,0 +1,78 @@
+-- A reader that holds what has come of a capture still does with one message more.
+use Rattle.std.proofs.Common.{◌≡◌, ℕ, ◌+◌, ◌≤◌, List, [], ◌∷◌, ◌++◌, length, take, drop, Option, Some, None, Result, Ok, Err, refl, sym, ap, ap₂, ◌∙◌, arith, length-append}
+use Rattle.std.specs.Prelude.{is_some}
+use Rattle.std.specs.Int.{from_bool}
+use Rattle.tca_wire.specs.Messages.{message_of}
+use Rattle.tca_wire.specs.declared.message.Header.{Header}
+use Rattle.tca_wire.specs.declared.message.SetSpan.{SetSpan}
+use Rattle.tca_wire.specs.declared.fault.WireFault.{WireFault}
+use Rattle.tca_templates.specs.declared.record.Row.{Row}
+use Rattle.tca_templates.specs.Templates.{Templates}
+use Rattle.tca_templates.specs.Records.{FieldView, PlacedView}
+use Rattle.tca_templates.specs.Fields.{records_of}
+use Rattle.tca_templates.specs.Reading.{ReadMessage, read_of}
+use Rattle.tca_templates.specs.declared.fault.DecodeFault.{DecodeFault}
+use Rattle.tca_report.specs.report.Reports.{PacketReport}
+use Rattle.tca_report.specs.input.Extract.{extract_of}
+use Rattle.tca_report.specs.input.Inputs.{CaptureSoFar, or_taken, reports_of, reasons_of, counts_of, one_if, with_message, with_reading, with_split, capture_with}
+use Rattle.tca_report.specs.input.CaptureReaders.{Agrees}
+use Rattle.tca_report.specs.declared.input.extraction.NotReport.{NotReport}
+use Rattle.tca_report.specs.declared.input.Notes.{Notes}
+use Rattle.tca_report.specs.declared.input.capture.CaptureReader.{CaptureReader}
+
+-- what a message adds
+pub with_is : (at : ℕ) (so_far : CaptureSoFar) (octets own : List ℕ) (ts : Templates) (header : Header) (sets : List SetSpan) (read : Result ReadMessage DecodeFault)
+    → message_of octets ≡ Ok (header, sets) → ts ≡ so_far.templates → own ≡ take header.length octets → read_of ts header own sets ≡ read → capture_with at so_far octets ≡ with_reading at so_far read
+with_is at so_far octets own ts header sets read split known here found =
+    ap (λ (x : Result (Header × List SetSpan) WireFault). with_split at so_far octets x) split
+    ∙ ap₂ (λ (t : Templates) (o : List ℕ). with_reading at so_far (read_of t header o sets)) (sym known) (sym here)
+    ∙ ap (λ (x : Result ReadMessage DecodeFault). with_reading at so_far x) found
+
+taken_more : (r : Result PacketReport NotReport) (reasons : List NotReport) → length (or_taken r reasons) ≤ length reasons + 1
+taken_more (Ok x) reasons = omega arith
+taken_more (Err reason) reasons = omega arith
+
+pub reasons_few : (records : List PlacedView) → length (reasons_of records) ≤ length records
+reasons_few [] = omega arith
+reasons_few (r ∷ rs) = let more = reasons_few rs in let one = taken_more (extract_of r) (reasons_of rs) in omega (arith, more, one)
+
+pub as_many_records : (domain : ℕ) (fields : List FieldView) (rows : List Row) → length (records_of domain fields rows) ≡ length rows
+as_many_records domain fields [] = refl
+as_many_records domain fields (r ∷ rs) = let more = as_many_records domain (drop r.count fields) rs in omega (arith, more)
+
+pub one_at_most : (unplaced : Option ℕ) → one_if unplaced ≤ 1
+one_at_most None = omega arith
+one_at_most (Some id) = omega arith
+
+-- the progress goes on by a message of so many octets
+pub record GoesOn (p q : CaptureReader) (given : ReadMessage) (size : ℕ) : Type 0 where
+  pub templates : q.decoder ≡ given.templates
+  pub reports : q.reports.items ≡ p.reports.items ++ reports_of given.records
+  pub not_reports : (reasons : List NotReport) → p.notes.not_reports ≡ counts_of reasons → q.notes.not_reports ≡ counts_of (reasons ++ reasons_of given.records)
+  pub messages : q.notes.messages ≡ p.notes.messages + 1
+  pub unplaced : q.notes.unplaced ≡ p.notes.unplaced + one_if given.unplaced
+  pub skipped : q.notes.skipped ≡ p.notes.skipped + given.skipped
+  pub at : q.at ≡ p.at + size
+  pub some : 1 ≤ size
+  pub few : length given.records ≤ size
+  pub few_skipped : given.skipped ≤ size
+
+pub agrees_more : (p q : CaptureReader) (so_far : CaptureSoFar) (given : ReadMessage) (size : ℕ) → Agrees p so_far → GoesOn p q given size → Agrees q (with_message so_far given)
+agrees_more p q so_far given size k g =
+    let counts = g.not_reports so_far.reasons (ap (λ (n : Notes). n.not_reports) k.notes) in
+    let messages = g.messages ∙ ap (λ (n : Notes). n.messages + 1) k.notes in
+    let unplaced = g.unplaced ∙ ap (λ (n : Notes). n.unplaced + one_if given.unplaced) k.notes in
+    let skipped = g.skipped ∙ ap (λ (n : Notes). n.skipped + given.skipped) k.notes in
+    record {
+      templates = g.templates;
+      reports = g.reports ∙ ap (λ (l : List PacketReport). l ++ reports_of given.records) k.reports;
+      notes = λ i. record { messages = messages i; not_reports = counts i; unplaced = unplaced i; skipped = skipped i };
+      messages = omega (arith, k.messages, g.at, g.some);
+      reasons = omega (arith, k.reasons, g.at, g.few, reasons_few given.records, length-append so_far.reasons (reasons_of given.records));
+      unplaced_messages = omega (arith, k.unplaced_messages, g.at, g.some, one_at_most given.unplaced);
+      skipped = omega (arith, k.skipped, g.at, g.few_skipped);
+    }
+
+pub one_some : (unplaced : Option ℕ) → from_bool (is_some unplaced) ≡ one_if unplaced
+one_some None = refl
+one_some (Some id) = refl

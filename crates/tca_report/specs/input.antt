@@ -1,0 +1,6 @@
+pub mod Extract
+pub mod Inputs
+pub mod Captures
+pub mod FirstFaults
+pub mod Gathered
+pub mod CaptureReaders

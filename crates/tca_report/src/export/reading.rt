@@ -1,0 +1,201 @@
+//! Reading a log export.
+ghost use Rattle.std.specs.Prelude.{◌≡◌, ◌≢◌, ◌<◌, ◌≤◌, ◌+◌, ◌*◌, List, [], Ok, Err, None, OnOk, IfOk, IfErr, IsErrOf, IsOkAnd, MatchResult, length, take, drop, vec_len, vec_capacity};
+ghost use Rattle.std.specs.Int.{w32, w64, from_be_bytes};
+ghost use Rattle.tca_wire.specs.Results.{Gives};
+ghost use Rattle.tca_report.specs.report.Reports.{PacketReport, reported, ranged};
+ghost use Rattle.tca_report.specs.export.Spelling.{IsExportable, export};
+ghost use Rattle.tca_report.specs.export.FirstFaults.{IsFaultyExport};
+ghost use Rattle.tca_report.specs.export.Reading.{above, count_of, reading, record_at, records_at};
+ghost use Rattle.tca_report.specs.declared.export.ExportFault.{ExportFault};
+ghost use Rattle.tca_report.specs.declared.export.ExportFault.TheVariants.{Memory};
+
+use crate::export::{ExportFault, MOST_REPORTS};
+use crate::report::{Content, Identity, Report};
+use std::alloc::Global;
+
+fn u32_at(octets: &[u8]) -> (u32, &[u8])
+    requires { 4 ≤ length octets.now }
+    ensures value { result.0 ≡ from_be_bytes w32 (take 4 octets.now) }
+    ensures rest { result.1.now ≡ drop 4 octets.now }
+{
+    let (front, rest) = octets.split_at(4);
+    let number = u32::from_be_bytes([front[0], front[1], front[2], front[3]]);
+    (number, rest)
+}
+
+fn u64_at(octets: &[u8]) -> (u64, &[u8])
+    requires { 8 ≤ length octets.now }
+    ensures value { result.0 ≡ from_be_bytes w64 (take 8 octets.now) }
+    ensures rest { result.1.now ≡ drop 8 octets.now }
+{
+    let (front, rest) = octets.split_at(8);
+    let number = u64::from_be_bytes([
+        front[0], front[1], front[2], front[3], front[4], front[5], front[6], front[7],
+    ]);
+    (number, rest)
+}
+
+/// What the first 25 octets say, and the octets after them.
+fn fields_at(octets: &[u8]) -> (Identity, Content, &[u8])
+    requires { 25 ≤ length octets.now }
+    ensures { (reported result.0 result.1, result.2.now) ≡ record_at octets.now }
+{
+    let (time, rest) = u64_at(octets);
+    let (domain, rest) = u32_at(rest);
+    let (place, rest) = u32_at(rest);
+    let (octets, rest) = u32_at(rest);
+    let dscp = rest[0];
+    let (iface, rest) = u32_at(&rest[1..]);
+    (
+        Identity { domain, place },
+        Content {
+            time,
+            octets,
+            dscp,
+            iface,
+        },
+        rest,
+    )
+}
+
+/// The report of the first 25 octets, where they are in range, and the octets after them.
+fn report_at(octets: &[u8]) -> (Option<Report>, &[u8])
+    requires { 25 ≤ length octets.now }
+    ensures report { result.0 ≡ ranged (record_at octets.now).0 }
+    ensures rest { result.1.now ≡ (record_at octets.now).1 }
+{
+    let (identity, content, rest) = fields_at(octets);
+    (Report::new(identity, content), rest)
+}
+
+/// Whether a report is above the last one before it.
+fn follows(last: Option<Report>, report: &Report) -> bool
+    ensures { result ≡ above last report.now }
+{
+    match last {
+        None => true,
+        Some(before) => before.cmp(report).is_lt(),
+    }
+}
+
+/// Reads so many reports into the room that was made for them.
+fn read_records(count: u32, octets: &[u8], into: &mut Vec<Report>) -> Result<(), ExportFault>
+    requires whole { 25 * count ≤ length octets.now }
+    requires empty { into.old.items ≡ [] }
+    requires room { count ≤ vec_capacity into.old }
+    ensures ok { OnOk result (records_at count 0 None octets.now ≡ Ok into.new.items) }
+    ensures fault { IfErr result (λ e. records_at count 0 None octets.now ≡ Err e) }
+    ensures no_memory { IfErr result (λ e. e ≢ Memory) }
+{
+    let mut last: Option<Report> = None;
+    let mut rest = octets;
+    for n in 0..count {
+        let (found, after) = report_at(rest);
+        let Some(report) = found else {
+            return Err(ExportFault::Range { n });
+        };
+        let rises = follows(last, &report);
+        if !rises {
+            return Err(ExportFault::Order { n });
+        }
+        into.push_reserved(report);
+        last = Some(report);
+        rest = after;
+    }
+    Ok(())
+}
+
+/// The first fault among so many records, or want of memory where they have none. It takes no
+/// memory, and is asked only where memory lacks.
+#[cold]
+fn refused(count: u32, octets: &[u8]) -> ExportFault
+    requires whole { 25 * count ≤ length octets.now }
+    ensures fault { result ≢ Memory → records_at count 0 None octets.now ≡ Err result }
+    ensures memory { result ≡ Memory → IsOkAnd (records_at count 0 None octets.now) (λ rs. length rs ≡ count) }
+{
+    let mut last: Option<Report> = None;
+    let mut rest = octets;
+    for n in 0..count {
+        let (found, after) = report_at(rest);
+        let Some(report) = found else {
+            return ExportFault::Range { n };
+        };
+        let rises = follows(last, &report);
+        if !rises {
+            return ExportFault::Order { n };
+        }
+        last = Some(report);
+        rest = after;
+    }
+    ExportFault::Memory
+}
+
+/// How many reports follow the header, or the first thing that is wrong before them.
+#[tactic(auto, unfolding(crate::specs::export::Reading::count_of))]
+fn header_count(octets: &[u8]) -> Result<u32, ExportFault>
+    ensures exact { result ≡ count_of octets.now }
+    ensures whole { IfOk result (λ n. length octets.now ≡ 10 + 25 * n) }
+    ensures no_memory { IfErr result (λ e. e ≢ Memory) }
+{
+    if octets.len() < 4 {
+        return Err(ExportFault::Cut);
+    }
+    if octets[0] != b'T' || octets[1] != b'C' || octets[2] != b'A' || octets[3] != b'X' {
+        return Err(ExportFault::Magic);
+    }
+    if octets.len() < 10 {
+        return Err(ExportFault::Cut);
+    }
+    let version = u16::from_be_bytes([octets[4], octets[5]]);
+    if version != 1 {
+        return Err(ExportFault::Version(version));
+    }
+    let (count, records) = u32_at(&octets[6..]);
+    if count > MOST_REPORTS {
+        return Err(ExportFault::Count);
+    }
+    let wanted = 25 * (count as usize);
+    if records.len() < wanted {
+        return Err(ExportFault::Cut);
+    }
+    if records.len() > wanted {
+        return Err(ExportFault::Count);
+    }
+    Ok(count)
+}
+
+/// The reports of an export, or its first fault.
+fn read_whole(alloc: Global, octets: &[u8]) -> Result<Vec<Report>, ExportFault>
+    ensures exact { Gives Memory (λ v. v.items) result (reading octets.now) }
+    ensures memory { IsErrOf result Memory → IsOkAnd (reading octets.now) (λ rs. 0 < length rs) }
+{
+    let count = header_count(octets)?;
+    let records = &octets[10..];
+    let Ok(mut reports) = Vec::with_capacity(alloc, count as usize) else {
+        return Err(refused(count, records));
+    };
+    read_records(count, records, &mut reports)?;
+    Ok(reports)
+}
+
+/// Reads a log export, version 1.
+///
+/// The first fault from the left is answered, in this order: fewer than 4 octets `Cut`; `Magic`;
+/// fewer than 10 octets `Cut`; `Version`; more than 4,194,304 reports `Count`; fewer octets than
+/// the count needs `Cut`; more `Count`; then report by report `Range` and `Order`; and last
+/// `Memory` for the list.
+pub fn read_export(alloc: Global, octets: &[u8]) -> Result<Vec<Report>, ExportFault>
+    ensures found { IfOk result (λ v. IsExportable v.items × (octets.now ≡ export v.items)) }
+    ensures only { (rs : List PacketReport) → IsExportable rs → octets.now ≡ export rs
+        → MatchResult result (λ v. v.items ≡ rs) (λ e. e ≡ Memory) }
+    ensures exact { Gives Memory (λ v. v.items) result (reading octets.now) }
+
+    // A fault is the first from the left, and octets with a fault are refused for it.
+    ensures first { IfErr result (λ f. f ≢ Memory → IsFaultyExport octets.now f) }
+    ensures refused { (f : ExportFault) → IsFaultyExport octets.now f → result ≡ Err f }
+
+    // Memory is wanted for the whole list alone, where the octets spell one that isn't empty.
+    ensures memory { IsErrOf result Memory → (rs : List PacketReport) × IsExportable rs × (octets.now ≡ export rs) × (0 < length rs) }
+{
+    read_whole(alloc, octets)
+}

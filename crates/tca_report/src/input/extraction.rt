@@ -1,0 +1,322 @@
+//! Which fields of a data record make a report.
+ghost use Rattle.std.specs.Prelude.{◌≡◌, ◌==◌, ◌&&◌, ◌<◌, ◌≤◌, ◌^◌, IfOk, length, map, Ok, Err, Result};
+ghost use Rattle.std.specs.Option.{option_map, is_none};
+ghost use Rattle.byteorder.specs.Endian.{big_number};
+ghost use Rattle.tca_templates.specs.Fields.{field_view};
+ghost use Rattle.tca_templates.specs.Outcomes.{placed_view};
+ghost use Rattle.tca_report.specs.input.Extract.{unsigned, date_time_milliseconds, date_time_microseconds, date_time_nanoseconds, date_time_seconds, since_1970, time_in, header_in, section_in, octets_in, code_point_in, interface_in, judged, extract_of};
+ghost use Rattle.tca_report.specs.Faults.{reason_number};
+
+use crate::input::fields::{
+    DataField, INGRESS_INTERFACE, IP_CLASS_OF_SERVICE, IP_DIFF_SERV_CODE_POINT,
+    IP_HEADER_PACKET_SECTION, IP_TOTAL_LENGTH, OBSERVATION_TIME_MICROSECONDS,
+    OBSERVATION_TIME_MILLISECONDS, OBSERVATION_TIME_NANOSECONDS, OBSERVATION_TIME_SECONDS,
+    OCTET_DELTA_COUNT, TOTAL_LENGTH_IPV4, find,
+};
+use crate::report::{Content, Identity, Report};
+use byteorder::{BigEndian, ByteOrder};
+use tca_templates::{Field, PlacedFields};
+use thiserror::Error;
+
+/// Why a data record is no report.
+#[derive(Clone, Copy, Debug, PartialEq, Eq, Error)]
+pub enum NotReport {
+    /// It is a record of an options template.
+    #[error("the record is of an options template")]
+    Options,
+    /// It has no time.
+    #[error("the record has no observation time")]
+    NoTime,
+    /// It has no octets.
+    #[error("the record has no length of its packet")]
+    NoSize,
+    /// A field that is taken has another length than its element may have.
+    #[error("a field of the record has a length that its element can't have")]
+    FieldLength,
+    /// The time is before 1970, or 2^48 milliseconds or more after it.
+    #[error("the observation time is before 1970, or not below 2^48 milliseconds from it")]
+    BadTime,
+    /// The packet has no octet, or more than 65,575.
+    #[error("the packet doesn't have 1 to 65575 octets")]
+    BadSize,
+    /// The DSCP has more than six bits.
+    #[error("the DSCP is above 63")]
+    BadDscp,
+}
+
+impl NotReport {
+    /// The number that stands for the reason in notes and in a program's messages.
+    pub fn number(&self) -> u8
+        ensures { result ≡ reason_number self.now }
+    {
+        match self {
+            NotReport::Options => 1,
+            NotReport::NoTime => 2,
+            NotReport::NoSize => 3,
+            NotReport::FieldLength => 7,
+            NotReport::BadTime => 4,
+            NotReport::BadSize => 5,
+            NotReport::BadDscp => 6,
+        }
+    }
+}
+
+fn pick_unsigned(most: usize, value: &[u8]) -> Result<u64, NotReport>
+    requires { most ≤ 8 }
+    ensures value { result ≡ unsigned most value.now }
+    ensures small { most ≤ 4 → IfOk result (λ n. n < 2 ^ 32) }
+{
+    if value.is_empty() || value.len() > most {
+        return Err(NotReport::FieldLength);
+    }
+    Ok(BigEndian::read_uint(value, value.len()))
+}
+
+fn after_1970(seconds: u32, fraction: u32) -> Option<u64>
+    ensures { result ≡ since_1970 seconds fraction }
+{
+    if seconds < 2_208_988_800 {
+        return None;
+    }
+    let seconds = u64::from(seconds - 2_208_988_800);
+    Some(seconds * 1000 + u64::from(fraction) * 1000 / 4_294_967_296)
+}
+
+fn pick_milliseconds(value: &[u8]) -> Result<Option<u64>, NotReport>
+    ensures { result ≡ date_time_milliseconds value.now }
+{
+    if value.len() != 8 {
+        return Err(NotReport::FieldLength);
+    }
+    Ok(Some(BigEndian::read_u64(value)))
+}
+
+fn pick_microseconds(value: &[u8]) -> Result<Option<u64>, NotReport>
+    ensures { result ≡ date_time_microseconds value.now }
+{
+    if value.len() != 8 {
+        return Err(NotReport::FieldLength);
+    }
+    let fraction = BigEndian::read_u32(&value[4..]) / 2048 * 2048;
+    Ok(after_1970(BigEndian::read_u32(value), fraction))
+}
+
+fn pick_nanoseconds(value: &[u8]) -> Result<Option<u64>, NotReport>
+    ensures { result ≡ date_time_nanoseconds value.now }
+{
+    if value.len() != 8 {
+        return Err(NotReport::FieldLength);
+    }
+    let fraction = BigEndian::read_u32(&value[4..]);
+    Ok(after_1970(BigEndian::read_u32(value), fraction))
+}
+
+fn pick_seconds(value: &[u8]) -> Result<Option<u64>, NotReport>
+    ensures { result ≡ date_time_seconds value.now }
+{
+    if value.len() != 4 {
+        return Err(NotReport::FieldLength);
+    }
+    Ok(Some(u64::from(BigEndian::read_u32(value)) * 1000))
+}
+
+/// The time of a record, of the first of the four elements that is there: its milliseconds, or none before 1970.
+#[tactic(auto, unfolding(crate::specs::input::Extract::time_in))]
+fn pick_time<F: DataField>(fields: &[F]) -> Option<Result<Option<u64>, NotReport>>
+    ensures { result ≡ time_in (map F.plain fields.now) }
+{
+    if let Some(value) = find(fields, OBSERVATION_TIME_MILLISECONDS) {
+        return Some(pick_milliseconds(value));
+    }
+    if let Some(value) = find(fields, OBSERVATION_TIME_MICROSECONDS) {
+        return Some(pick_microseconds(value));
+    }
+    if let Some(value) = find(fields, OBSERVATION_TIME_NANOSECONDS) {
+        return Some(pick_nanoseconds(value));
+    }
+    if let Some(value) = find(fields, OBSERVATION_TIME_SECONDS) {
+        return Some(pick_seconds(value));
+    }
+    None
+}
+
+/// The octets and the code point that the header of an IP packet gives.
+fn read_section(value: &[u8]) -> Option<(u32, u8)>
+    ensures { result ≡ header_in value.now }
+{
+    if value.len() < 4 {
+        return None;
+    }
+    if value[0] / 16 == 4 {
+        return Some((u32::from(BigEndian::read_u16(&value[2..])), value[1] / 4));
+    }
+    if value[0] / 16 == 6 && value.len() >= 6 {
+        let octets = 40 + u32::from(BigEndian::read_u16(&value[4..]));
+        let class = BigEndian::read_u16(value) / 16 % 256;
+        return Some((octets, (class / 4) as u8));
+    }
+    None
+}
+
+fn pick_section<F: DataField>(fields: &[F]) -> Option<(u32, u8)>
+    ensures { result ≡ section_in (map F.plain fields.now) }
+{
+    match find(fields, IP_HEADER_PACKET_SECTION) {
+        None => None,
+        Some(value) => read_section(value),
+    }
+}
+
+#[tactic(auto, unfolding(crate::specs::input::Extract::octets_in))]
+fn pick_octets<F: DataField>(
+    fields: &[F],
+    section: Option<(u32, u8)>,
+) -> Option<Result<u64, NotReport>>
+    ensures { result ≡ octets_in (map F.plain fields.now) section }
+{
+    if let Some(value) = find(fields, IP_TOTAL_LENGTH) {
+        return Some(pick_unsigned(8, value));
+    }
+    if let Some(value) = find(fields, TOTAL_LENGTH_IPV4) {
+        return Some(pick_unsigned(2, value));
+    }
+    if let Some(value) = find(fields, OCTET_DELTA_COUNT) {
+        return Some(pick_unsigned(8, value));
+    }
+    match section {
+        None => None,
+        Some((octets, _)) => Some(Ok(u64::from(octets))),
+    }
+}
+
+#[tactic(auto, unfolding(crate::specs::input::Extract::code_point_in))]
+fn pick_code_point<F: DataField>(fields: &[F], section: Option<(u32, u8)>) -> Result<u64, NotReport>
+    ensures { result ≡ code_point_in (map F.plain fields.now) section }
+{
+    if let Some(value) = find(fields, IP_DIFF_SERV_CODE_POINT) {
+        return pick_unsigned(1, value);
+    }
+    if let Some(value) = find(fields, IP_CLASS_OF_SERVICE) {
+        return Ok(pick_unsigned(1, value)? / 4);
+    }
+    match section {
+        None => Ok(0),
+        Some((_, point)) => Ok(u64::from(point)),
+    }
+}
+
+#[tactic(auto, unfolding(crate::specs::input::Extract::interface_in))]
+fn pick_interface<F: DataField>(fields: &[F]) -> Result<u64, NotReport>
+    ensures value { result ≡ interface_in (map F.plain fields.now) }
+    ensures small { IfOk result (λ n. n < 2 ^ 32) }
+{
+    match find(fields, INGRESS_INTERFACE) {
+        None => Ok(0),
+        Some(value) => pick_unsigned(4, value),
+    }
+}
+
+/// Judges what was taken: first whether each has a length that it may have, then what it says.
+fn judge(
+    time: Result<Option<u64>, NotReport>,
+    octets: Result<u64, NotReport>,
+    point: Result<u64, NotReport>,
+    interface: Result<u64, NotReport>,
+    identity: Identity,
+) -> Result<Report, NotReport>
+    requires { IfOk interface (λ n. n < 2 ^ 32) }
+    ensures { result ≡ judged time octets point interface identity.domain identity.place }
+{
+    let time = time?;
+    let octets = octets?;
+    let point = point?;
+    let interface = interface?;
+    let Some(time) = time else {
+        return Err(NotReport::BadTime);
+    };
+    if time >= 1 << 48 {
+        return Err(NotReport::BadTime);
+    }
+    if octets < 1 || octets > 65_575 {
+        return Err(NotReport::BadSize);
+    }
+    if point > 63 {
+        return Err(NotReport::BadDscp);
+    }
+    let content = Content {
+        time,
+        octets: octets as u32,
+        dscp: point as u8,
+        iface: interface as u32,
+    };
+    match Report::new(identity, content) {
+        Some(report) => Ok(report),
+        None => unreachable!(),
+    }
+}
+
+/// The report that these fields make, or why they make none.
+#[tactic(auto, unfolding(crate::specs::input::Extract::extract_of))]
+fn extract_from<F: DataField>(
+    options: bool,
+    identity: Identity,
+    fields: &[F],
+) -> Result<Report, NotReport>
+    ensures { result ≡ extract_of (record { domain = identity.domain; place = identity.place; options = options; fields = map F.plain fields.now }) }
+{
+    if options {
+        return Err(NotReport::Options);
+    }
+    let Some(time) = pick_time(fields) else {
+        return Err(NotReport::NoTime);
+    };
+    let section = pick_section(fields);
+    let Some(octets) = pick_octets(fields, section) else {
+        return Err(NotReport::NoSize);
+    };
+    judge(
+        time,
+        octets,
+        pick_code_point(fields, section),
+        pick_interface(fields),
+        identity,
+    )
+}
+
+/// What `extract` gives, of fields that stand in the octets of their message.
+pub(crate) fn extract_fields(
+    options: bool,
+    identity: Identity,
+    fields: &[Field<'_>],
+) -> Result<Report, NotReport>
+    ensures { result ≡ extract_of (record { domain = identity.domain; place = identity.place; options = options; fields = map field_view fields.now }) }
+{
+    extract_from(options, identity, fields)
+}
+
+/// The report that a data record makes, or why it makes none. It takes no memory.
+///
+/// Of each element the first field counts that no enterprise has, and of these are taken
+/// - as time the first that is there of observationTimeMilliseconds, observationTimeMicroseconds,
+///   observationTimeNanoseconds and observationTimeSeconds (RFC 5477), cut to milliseconds. The low 11
+///   bits of a fraction of microseconds count as zero (RFC 7011, section 6.1.9), and no time is in a later NTP era
+///   than the first;
+/// - as octets the first of ipTotalLength, totalLengthIPv4, octetDeltaCount and what ipHeaderPacketSection gives;
+/// - as DSCP the first of ipDiffServCodePoint, ipClassOfService without its low 2 bits, and what
+///   ipHeaderPacketSection gives, or else 0;
+/// - as interface ingressInterface, or else 0.
+///
+/// Where one that is taken is of no use, none behind it is. A section gives octets and DSCP where it begins with at
+/// least 4 octets of an IPv4 header or 6 of an IPv6 header, and else counts as if it weren't there.
+///
+/// The first reason is answered, in this order: `Options`, `NoTime`, `NoSize`, `FieldLength` where a time hasn't
+/// exactly the octets of its type, or another number has none or more of them, `BadTime`, `BadSize`, `BadDscp`.
+pub fn extract(placed: &PlacedFields) -> Result<Report, NotReport>
+    ensures { result ≡ extract_of (placed_view placed.now) }
+{
+    let identity = Identity {
+        domain: placed.domain,
+        place: placed.place,
+    };
+    extract_from(placed.options, identity, placed.fields.as_slice())
+}
