@@ -15,13 +15,13 @@ use Rattle.tca_report.proofs.lemmas.report.Identities.{identity_total, identity_
 use Rattle.tca_report.specs.declared.report.Identity.{Identity}
 use Rattle.tca_log.specs.declared.answer.Added.{Added}
 use Rattle.tca_log.specs.declared.answer.Added.TheVariants.{Fresh, Repeat, NewDispute, MoreDispute}
-use Rattle.tca_log.specs.Ordered.{without}
+use Rattle.tca_log.specs.Rows.Ordered.{without}
 use Rattle.tca_log.specs.Disputes.{has_identity, contents, undisputed, disputed, added, added_to}
 use Rattle.tca_log.specs.Logs.{count_at}
 use Rattle.tca_log.proofs.Contents.{count_put, has-disputed, disputed_rises, disputed_is, has_identity_is, has-filter}
 use Rattle.tca_log.proofs.Logs.{same_count, first_one, second_one, further_one}
-use Rattle.tca_log.proofs.Places.{length_put, length_without}
-use Rattle.tca_log.proofs.Search.{put_there}
+use Rattle.tca_log.proofs.OrderedRows.Positions.{length_put, length_without}
+use Rattle.tca_log.proofs.OrderedRows.Search.{put_there}
 use Rattle.tca_log.proofs.Undisputed.{member_counts, undisputed_rises}
 use Rattle.tca_log.specs.Next.{reports_after, disputed_after, undisputed_after, kept_after, count_after}
 use Rattle.tca_log.proofs.Filters.{alike, has-without, rises_without, filter_put, filter_without}

@@ -10,7 +10,7 @@ use Rattle.tca_report.specs.report.Identities.{identity_of, identity_cmp}
 use Rattle.tca_meters.specs.declared.any_meter.AnyMeter.{AnyMeter}
 use Rattle.std.specs.declared.cmp.Ordering.TheVariants.{Less, Equal, Greater}
 use Rattle.tca_report.specs.declared.report.Identity.{Identity}
-use Rattle.tca_log.specs.Ordered.{without}
+use Rattle.tca_log.specs.Rows.Ordered.{without}
 use Rattle.tca_log.specs.Disputes.{added, undisputed, disputed, contents}
 use Rattle.tca_log.specs.declared.answer.Added.{Added}
 use Rattle.tca_log.specs.declared.answer.Added.TheVariants.{Fresh, Repeat, NewDispute, MoreDispute}

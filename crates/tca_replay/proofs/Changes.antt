@@ -6,7 +6,7 @@ use Rattle.tca_report.specs.report.Reports.{PacketReport, report_cmp}
 use Rattle.tca_report.proofs.lemmas.report.Order.{report_total, report_exact}
 use Rattle.tca_join.specs.Sets.{has, put}
 use Rattle.tca_join.proofs.Sets.{has-put, rises_put, only_one}
-use Rattle.tca_log.specs.Ordered.{without}
+use Rattle.tca_log.specs.Rows.Ordered.{without}
 use Rattle.tca_log.proofs.Filters.{has-without, rises_without}
 use Rattle.tca_meters.specs.Packets.{Rule}
 use Rattle.tca_accounts.specs.Bills.{coloured_by, tally_of}

@@ -12,7 +12,7 @@ use Rattle.tca_join.specs.Sets.{put, has}
 use Rattle.tca_report.specs.report.Reports.{PacketReport, report_cmp}
 use Rattle.tca_report.proofs.lemmas.report.Order.{report_total, report_exact}
 use Rattle.tca_meters.specs.declared.any_meter.AnyMeter.{AnyMeter}
-use Rattle.tca_log.proofs.Parts.{below_since, has_below, put_past, rises_front}
+use Rattle.tca_log.proofs.OrderedRows.Parts.{below_since, has_below, put_past, rises_front}
 use Rattle.tca_accounts.specs.Plans.{AccountPlan, account_of}
 use Rattle.tca_accounts.specs.Bills.{is_number}
 use Rattle.tca_log.specs.Disputes.{undisputed, disputed}

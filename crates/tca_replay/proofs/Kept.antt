@@ -6,8 +6,8 @@ use Rattle.std.specs.Cmp.{tied_itself}
 use Rattle.tca_report.specs.report.Reports.{PacketReport, report_cmp}
 use Rattle.tca_report.proofs.lemmas.report.Order.{report_total}
 use Rattle.tca_join.specs.Sets.{put}
-use Rattle.tca_log.specs.Ordered.{rank, without}
-use Rattle.tca_log.proofs.Ranks.{after_less, rank-le, rank_mono, rank_put_low, rank_without_low}
+use Rattle.tca_log.specs.Rows.Ordered.{rank, without}
+use Rattle.tca_log.proofs.OrderedRows.Ranks.{after_less, rank-le, rank_mono, rank_put_low, rank_without_low}
 use Rattle.tca_replay.specs.Lanes.{least, lower_of, kept, row_of}
 
 -- the rows that stay, once r came or went: news is the list then, in which no lower report has another rank

@@ -4,8 +4,8 @@ use Rattle.std.specs.List.Sorted.{IsStrictlySortedBy}
 use Rattle.tca_report.specs.report.Reports.{PacketReport, report_cmp}
 use Rattle.tca_report.proofs.lemmas.report.Order.{report_total}
 use Rattle.tca_join.specs.Sets.{put, has}
-use Rattle.tca_log.specs.Ordered.{rank, without, Ordered}
-use Rattle.tca_log.proofs.Places.{length_put, length_without}
+use Rattle.tca_log.specs.Rows.Ordered.{rank, without, Ordered}
+use Rattle.tca_log.proofs.OrderedRows.Positions.{length_put, length_without}
 use Rattle.tca_accounts.specs.declared.span.Span.{Span}
 use Rattle.tca_meters.specs.declared.colour.Colour.{Colour}
 use Rattle.tca_replay.specs.declared.run.Run.{Run}
@@ -13,7 +13,7 @@ use Rattle.tca_replay.specs.declared.run.Mark.{Mark}
 use Rattle.tca_replay.specs.Course.{Metering}
 use Rattle.tca_replay.specs.Marks.{IsMark}
 use Rattle.tca_replay.specs.Lanes.{LaneView, IsLane, lane_put, lane_less, lower_of, row_of}
-use Rattle.tca_log.proofs.Ranks.{take_put, take_without}
+use Rattle.tca_log.proofs.OrderedRows.Ranks.{take_put, take_without}
 use Rattle.tca_replay.proofs.Kept.{stays_put, stays_less}
 
 module _ {S : Type 0} (w : Metering S) where

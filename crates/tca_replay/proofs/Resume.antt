@@ -9,8 +9,8 @@ use Rattle.tca_replay.specs.declared.run.Mark.{Mark}
 use Rattle.tca_replay.specs.Course.{Metering, Course, course, start, one}
 use Rattle.tca_replay.specs.Runs.{course_at}
 use Rattle.tca_replay.specs.Marks.{IsMark, AreMarks}
-use Rattle.tca_log.specs.Ordered.{rank, Ordered}
-use Rattle.tca_log.proofs.Ranks.{rank-le}
+use Rattle.tca_log.specs.Rows.Ordered.{rank, Ordered}
+use Rattle.tca_log.proofs.OrderedRows.Ranks.{rank-le}
 use Rattle.tca_report.proofs.lemmas.report.Order.{report_total}
 use Rattle.std.specs.Prelude.{IfSome}
 use Rattle.tca_replay.specs.Lanes.{IsLane, row_of}

@@ -12,7 +12,7 @@ use Rattle.std.proofs.Math.ListN.{get_or-append}
 use Rattle.std.proofs.lemmas.List.{length-take-le, take_all, take-append-le, length-drop}
 use Rattle.tca_report.specs.report.Reports.{PacketReport, report_cmp}
 use Rattle.tca_report.proofs.lemmas.report.Order.{report_total}
-use Rattle.tca_log.proofs.Parts.{below_since, rises_front}
+use Rattle.tca_log.proofs.OrderedRows.Parts.{below_since, rises_front}
 use Rattle.tca_accounts.specs.declared.span.Span.{Span}
 use Rattle.tca_replay.specs.declared.run.Run.{Run}
 use Rattle.tca_replay.specs.declared.run.Mark.{Mark}

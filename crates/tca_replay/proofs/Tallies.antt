@@ -8,7 +8,7 @@ use Rattle.tca_accounts.specs.Bills.{coloured_by, tally_of}
 use Rattle.tca_accounts.specs.Metering.{tally_at, with_last}
 use Rattle.tca_accounts.specs.declared.span.Span.{Span}
 use Rattle.tca_accounts.proofs.Bills as bills
-use Rattle.tca_log.specs.Ordered.{Ordered}
+use Rattle.tca_log.specs.Rows.Ordered.{Ordered}
 use Rattle.tca_replay.specs.declared.run.Run.{Run}
 use Rattle.tca_replay.specs.declared.run.Mark.{Mark}
 use Rattle.tca_replay.specs.Course.{Metering}

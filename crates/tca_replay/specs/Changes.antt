@@ -3,7 +3,7 @@ use Rattle.std.specs.Prelude.{Bool, not, ◌&&◌, ◌||◌, List, [], ◌∷◌
 use Rattle.std.specs.Ordering.{eq_by_cmp}
 use Rattle.tca_report.specs.report.Reports.{PacketReport, report_cmp}
 use Rattle.tca_join.specs.Sets.{put}
-use Rattle.tca_log.specs.Ordered.{without}
+use Rattle.tca_log.specs.Rows.Ordered.{without}
 use Rattle.tca_replay.specs.Lanes.{LaneView, lane_put, lane_less, lane_ready}
 
 -- a row that comes, or one that goes

@@ -3,7 +3,7 @@ use Rattle.std.specs.Prelude.{◌≡◌, ℕ, ◌+◌, ◌*◌, ◌<◌, ◌≤�
 use Rattle.std.specs.Ordering.{is_lt}
 use Rattle.tca_report.specs.report.Reports.{PacketReport, report_cmp}
 use Rattle.tca_join.specs.Sets.{put}
-use Rattle.tca_log.specs.Ordered.{rank, without, Ordered}
+use Rattle.tca_log.specs.Rows.Ordered.{rank, without, Ordered}
 use Rattle.tca_accounts.specs.declared.span.Span.{Span}
 use Rattle.tca_meters.specs.declared.colour.Colour.{Colour}
 use Rattle.tca_replay.specs.declared.run.Run.{Run}

@@ -2,7 +2,7 @@
 ghost use Rattle.std.specs.Prelude.{◌≡◌, ℕ, ◌^◌, true, false, ◌+◌, ◌-◌, ◌*◌, ◌<◌, ◌≤◌, [], length, take, get_or, IfOk, OnOk, OnErr, None, Some, IfSome, vec_len, vec_capacity};
 ghost use Rattle.tca_report.specs.report.Reports.{report_cmp};
 ghost use Rattle.tca_join.specs.Sets.{has, put};
-ghost use Rattle.tca_log.specs.Ordered.{without, rank};
+ghost use Rattle.tca_log.specs.Rows.Ordered.{without, rank};
 ghost use Rattle.tca_replay.specs.Lanes.{lane_put, lane_less, lane_ready, lane_resumed, lower_of};
 ghost use Rattle.tca_replay.specs.Course.{start};
 ghost use Rattle.tca_accounts.specs.Bills.{coloured_by, tally_of};
