@@ -5,9 +5,9 @@ ghost use Rattle.tca_report.specs.report.Reports.{report_cmp};
 ghost use Rattle.tca_report.specs.declared.report.Identity.{Identity};
 ghost use Rattle.tca_log.specs.Logs.{first_of, is_disputed, answered, index_after, disputed_after, index_rows, IsKept, IsLog};
 
+use crate::additions::additions_of;
 use crate::answer::Added;
 use crate::by_identity::ByIdentity;
-use crate::additions::additions_of;
 use crate::rows::Rows;
 use std::alloc::{AllocError, Allocator};
 use tca_report::{Identity, Report};

@@ -12,9 +12,8 @@ mod chunk;
 mod iter;
 mod locate;
 
-pub use iter::RowsIter;
-
 use chunk::{CHUNK, Chunk};
+pub use iter::RowsIter;
 use locate::{count_of, from_row, position};
 use std::alloc::{AllocError, Allocator, Global};
 use std::marker::Model;

@@ -10,12 +10,12 @@ ghost use Rattle.tca_log.specs.Faults.{IsUnionRefused, IsRefusedBy};
 ghost use Rattle.tca_log.specs.LogJoin.{log_full};
 ghost use Rattle.tca_log.specs.Logs.{index_cmp, index_rows, IsKept, IsLog};
 
+use crate::additions::{Additions, additions_of};
 use crate::ascending::places_ascend;
 use crate::by_identity::ByIdentity;
 use crate::fault::LogFault;
 use crate::index::index_of;
 use crate::log::Log;
-use crate::additions::{Additions, additions_of};
 use crate::rows::{LIMIT, Rows};
 use std::alloc::{AllocError, Allocator};
 use tca_report::{Identity, Report};
@@ -216,7 +216,10 @@ fn put_additions<A: Allocator + Copy>(
     ensures err { OnErr result (index.new.rows ≡ index.old.rows) }
     ensures err_disputed { OnErr result (disputed.new.rows ≡ disputed.old.rows) }
 {
-    let Additions { fresh, newly_disputed } = additions;
+    let Additions {
+        fresh,
+        newly_disputed,
+    } = additions;
     disputed.put_all(&newly_disputed)?;
     if let Err(refused) = index.take_all(fresh) {
         disputed.withdraw_all(&newly_disputed);

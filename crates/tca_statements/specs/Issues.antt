@@ -11,13 +11,7 @@ use Rattle.tca_accounts.specs.declared.span.Span.{Span}
 use Rattle.tca_accounts.specs.declared.tally.Tally.{Tally}
 use Rattle.tca_statements.specs.declared.amount.Amount.{Amount}
 use Rattle.tca_statements.specs.declared.fault.IssueFault.{IssueFault}
-use Rattle.tca_statements.specs.declared.fault.IssueFault.TheVariants.{NoAccount, Period, Memory}
-
--- the number of each fault
-abbrev pub issue_number : IssueFault → ℕ
-issue_number NoAccount = 1
-issue_number Period = 2
-issue_number Memory = 3
+use Rattle.tca_statements.specs.declared.fault.IssueFault.TheVariants.{NoAccount, Period}
 
 -- no octets
 abbrev pub nothing : Amount

@@ -1,6 +1,6 @@
 //! Why no amount was issued.
 ghost use Rattle.std.specs.Prelude.{◌≡◌};
-ghost use Rattle.tca_statements.specs.Issues.{issue_number};
+ghost use Rattle.tca_statements.specs.Faults.{issue_number};
 
 use std::alloc::{AllocError, AllocFailed};
 use thiserror::Error;

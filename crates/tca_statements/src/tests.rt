@@ -34,33 +34,37 @@ const LATE: [Row; 4] = [
     (1, 100, 1000, 1),
 ];
 
+fn report((place, late, octets, iface): &Row) -> Result<Report, Fail> {
+    let identity = Identity {
+        domain: 7,
+        place: *place,
+    };
+    let content = Content {
+        time: START.wrapping_add(*late),
+        octets: *octets,
+        dscp: 0,
+        iface: *iface,
+    };
+    Ok(Report::new(identity, content).ok_or("a report within its ranges")?)
+}
+
 fn billed(alloc: Global, plan: &Plan, rows: &[Row]) -> Result<Bill, Fail> {
     let mut log = Log::new(alloc);
-    for (place, late, octets, iface) in rows {
-        let identity = Identity {
-            domain: 7,
-            place: *place,
-        };
-        let content = Content {
-            time: START.wrapping_add(*late),
-            octets: *octets,
-            dscp: 0,
-            iface: *iface,
-        };
-        if let Some(report) = Report::new(identity, content) {
-            log.add(report)?;
-        }
+    for row in rows {
+        log.add(report(row)?)?;
     }
     Ok(bill_all(alloc, plan, &log)?)
 }
 
 fn text(alloc: Global, plan: &Plan, bill: &Bill) -> Result<Vec<u8>, Fail> {
     if bill.accounts.as_slice().len() != plan.accounts() as usize {
-        return Ok(Vec::new(alloc));
+        return Err(Fail::from("a tally of each account"));
     }
     let statement = Statement::of(alloc, plan, bill)?;
     let mut out = Host::new(Vec::new(alloc));
-    let _ = render(&statement, &mut out);
+    if render(&statement, &mut out).is_err() {
+        return Err(Fail::from("a list takes all octets"));
+    }
     Ok(out.into_inner())
 }
 
@@ -125,6 +129,59 @@ fn states_late_and_disputed_reports(rt: HostRuntime) -> Result<(), Fail> {
     Ok(())
 }
 
+// Adds reports one after another, each of them twice, and once more by the union with a log that has it alone.
+fn collected(alloc: Global, rows: &[Row]) -> Result<Log, Fail> {
+    let mut log = Log::new(alloc);
+    for row in rows {
+        let mut one = Log::new(alloc);
+        one.add(report(row)?)?;
+        log.add(report(row)?)?;
+        log.add(report(row)?)?;
+        log.union(&one)?;
+    }
+    Ok(log)
+}
+
+#[test]
+fn states_one_set_alike_in_each_order(rt: HostRuntime) -> Result<(), Fail> {
+    let alloc = rt.alloc();
+    let plan = Plan::from_text(alloc, PLAN)?;
+    let [first, second, third] = FIRST;
+    for order in [
+        [first, second, third],
+        [first, third, second],
+        [second, first, third],
+        [second, third, first],
+        [third, first, second],
+        [third, second, first],
+    ] {
+        let bill = bill_all(alloc, &plan, &collected(alloc, &order)?)?;
+        assert_eq!(rt; text(alloc, &plan, &bill)?.as_slice(), THREE.as_bytes());
+    }
+    Ok(())
+}
+
+#[test]
+fn faults_have_their_numbers_and_texts(rt: HostRuntime) -> Result<(), Fail> {
+    for (fault, number, text) in [
+        (
+            IssueFault::NoAccount,
+            1,
+            "the plan has no account of this number",
+        ),
+        (
+            IssueFault::Period,
+            2,
+            "no time is in this period: expected one up to (2^48 - 1) divided by the length of a period",
+        ),
+        (IssueFault::Memory, 3, "out of memory"),
+    ] {
+        assert_eq!(rt; fault.number(), number);
+        assert_eq!(rt; format!(in rt.alloc(); "{fault}")?.as_str(), text);
+    }
+    Ok(())
+}
+
 // A writer with room for some octets, which takes one at a time.
 #[derive(Drop)]
 struct Narrow {
@@ -162,7 +219,7 @@ fn says_how_much_of_a_statement_went_out(rt: HostRuntime) -> Result<(), Fail> {
             .map(|fault| fault.written);
         assert_eq!(rt; written, Some(room as u64));
         let taken = out.into_inner().taken;
-        assert!(rt; THREE.as_bytes().starts_with(taken.as_slice()));
+        assert_eq!(rt; taken.as_slice(), &THREE.as_bytes()[..room]);
     }
     Ok(())
 }
@@ -193,11 +250,8 @@ fn issues_what_has_changed(rt: HostRuntime) -> Result<(), Fail> {
         Err(IssueFault::Period)
     );
     assert_eq!(rt; issuer.issue(&after, 0, 78_187_493), Ok(amount(0, 0, 0)));
-    assert_eq!(rt; issuer.issued(0, SPAN).len(), 3);
-    assert_eq!(rt;
-        issuer.issued(0, SPAN).first().copied(),
-        Some(amount(1500, 1000, 800))
-    );
+    let amounts = [amount(1500, 1000, 800), amount(0, -400, 1000), amount(0, 0, 0)];
+    assert_eq!(rt; issuer.issued(0, SPAN), amounts.as_slice());
     assert_eq!(rt; issuer.issued(1, SPAN).len(), 0);
     Ok(())
 }
