@@ -11,7 +11,7 @@ pub use reading::read_export;
 use thiserror::Error;
 pub use writing::write_export;
 
-/// How many reports one export may have.
+// How many reports one export may have.
 pub(crate) const MOST_REPORTS: u32 = 4_194_304;
 
 /// What is wrong with an export: the first fault from the left.

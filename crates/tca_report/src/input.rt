@@ -88,7 +88,7 @@ impl InputFault {
 }
 
 impl Notes {
-    /// The notes of an input that held its reports alone.
+    // The notes of an input that held its reports alone.
     pub(crate) fn none() -> Notes
         ensures { result ≡ notes_of nothing }
     {
@@ -101,7 +101,7 @@ impl Notes {
     }
 }
 
-/// Whether the first four octets are `TCAX`.
+// Whether the first four octets are `TCAX`.
 fn has_magic(octets: &[u8]) -> bool
     ensures exact { result ≡ is_export octets.now }
     ensures long { IsTrue result → 4 ≤ length octets.now }

@@ -31,6 +31,15 @@ pub struct Content {
     pub iface: u32,
 }
 
+// Times are below this, in milliseconds from 1970 UTC.
+pub(crate) const TIME_END: u64 = 1 << 48;
+
+// The most octets of a packet: 40 of an IPv6 header, and 65,535 behind it.
+pub(crate) const MOST_OCTETS: u32 = 65_575;
+
+// The highest code point (RFC 2474).
+pub(crate) const MOST_DSCP: u8 = 63;
+
 /// A report of one packet. Reports are ordered by time, domain, place, octets, code point and
 /// interface, each ascending.
 #[derive(Clone, Copy, Debug, PartialEq, Eq, PartialOrd, Ord)]
@@ -60,10 +69,10 @@ impl Report {
     pub fn new(identity: Identity, content: Content) -> Option<Report>
         ensures { result ≡ ranged (reported identity content) }
     {
-        if content.time < 1 << 48
+        if content.time < TIME_END
             && content.octets >= 1
-            && content.octets <= 65_575
-            && content.dscp <= 63
+            && content.octets <= MOST_OCTETS
+            && content.dscp <= MOST_DSCP
         {
             Some(Report {
                 time: content.time,

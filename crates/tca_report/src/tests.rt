@@ -1,6 +1,6 @@
 use crate::{
-    Content, ExportFault, Host, Identity, ReadFault, Report, WriteFault, order_is_total, put_all,
-    read_export, read_octets, spelling_is_unique, write_export,
+    Content, ExportFault, Host, Identity, Read, ReadFault, Report, Write, WriteFault,
+    order_is_total, put_all, read_export, read_octets, spelling_is_unique, write_export,
 };
 use std::test::Fail;
 use std::{env, fs, io};
@@ -414,5 +414,90 @@ fn faults_have_texts_and_numbers(rt: HostRuntime) -> Result<(), Fail> {
         format!(in rt.alloc(); "{fault}")?.as_str(),
         "the writer failed after 7 octets"
     );
+    Ok(())
+}
+
+// A device that takes or gives at most 700 octets a call. Each third call fails, and each fifth write takes nothing.
+// It counts its own failures.
+#[derive(Drop)]
+struct Faulty {
+    calls: u64,
+    failures: u64,
+}
+
+impl Faulty {
+    fn call(&mut self) -> io::Result<bool> {
+        self.calls = self.calls.saturating_add(1);
+        if self.calls % 3 == 0 {
+            self.failures = self.failures.saturating_add(1);
+            return Err(io::Error::from(io::ErrorKind::Other));
+        }
+        Ok(self.calls % 5 == 0)
+    }
+}
+
+impl io::Write for Faulty {
+    fn write(&mut self, buf: &[u8]) -> io::Result<usize> {
+        let takes_nothing = self.call()?;
+        if takes_nothing {
+            self.failures = self.failures.saturating_add(1);
+            return Ok(0);
+        }
+        Ok(buf.len().min(700))
+    }
+
+    fn flush(&mut self) -> io::Result<()> {
+        Ok(())
+    }
+}
+
+impl io::Read for Faulty {
+    fn read(&mut self, buf: &mut [u8]) -> io::Result<usize> {
+        self.call()?;
+        let n = buf.len().min(700);
+        buf[..n].fill(b'a');
+        Ok(n)
+    }
+}
+
+#[test]
+fn a_host_counts_the_writes_that_fail(rt: HostRuntime) -> Result<(), Fail> {
+    let octets = vec![in rt.alloc(); b'a'; 3000]?;
+    let mut out = Host::new(Faulty {
+        calls: 0,
+        failures: 0,
+    });
+    let mut failed: u64 = 0;
+    for length in 0..=3000 {
+        match out.write(part(octets.as_slice(), 0, length)) {
+            Ok(n) => assert_eq!(rt; n, length.min(700)),
+            Err(_) => failed = failed.saturating_add(1),
+        }
+        assert_eq!(rt; out.failures(), failed, "{length}");
+    }
+    // A write of nothing isn't given to the device: 1,000 of its 3,000 calls failed, and 400 others took nothing.
+    let device = out.into_inner();
+    assert_eq!(rt; (device.calls, device.failures, failed), (3000, 1400, 1400));
+    Ok(())
+}
+
+#[test]
+fn a_host_counts_the_reads_that_fail(rt: HostRuntime) -> Result<(), Fail> {
+    let mut input = Host::new(Faulty {
+        calls: 0,
+        failures: 0,
+    });
+    let mut failed: u64 = 0;
+    for length in 0..=3000 {
+        let mut buffer = vec![in rt.alloc(); 0u8; length]?;
+        match input.read(buffer.as_mut_slice()) {
+            Ok(n) => assert_eq!(rt; n, length.min(700)),
+            Err(_) => failed = failed.saturating_add(1),
+        }
+        assert_eq!(rt; input.failures(), failed, "{length}");
+    }
+    // 3,001 calls, each third of which failed.
+    let device = input.into_inner();
+    assert_eq!(rt; (device.calls, device.failures, failed), (3001, 1000, 1000));
     Ok(())
 }

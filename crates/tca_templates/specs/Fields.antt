@@ -1,4 +1,4 @@
--- Fields that were read, as the definitions see them.
+-- What the code holds of templates and records, as the definitions see it. Cited by the code and its proofs.
 use Rattle.std.specs.Prelude.{Bool, ℕ, ◌+◌, ◌==◌, ◌||◌, nat_le, List, [], ◌∷◌, map, take, drop, Option, Some, None, Result, Ok, Err, ⊤}
 use Rattle.tca_wire.specs.Walks.{Front, Ends, Bad, Next}
 use Rattle.tca_templates.specs.declared.template.Template.{Template}

@@ -7,7 +7,7 @@ use crate::template::{FieldSpec, Template};
 use indexmap::IndexMap;
 use std::alloc::{AllocError, Global};
 
-/// The same specifiers.
+// The same specifiers.
 fn copied_specs(alloc: Global, specs: &[FieldSpec]) -> Result<Vec<FieldSpec>, AllocError>
     ensures { IfOk result (λ v. v.items ≡ specs.now) }
 {
@@ -18,7 +18,7 @@ fn copied_specs(alloc: Global, specs: &[FieldSpec]) -> Result<Vec<FieldSpec>, Al
     Ok(copy)
 }
 
-/// The same template.
+// The same template.
 fn copied_template(alloc: Global, template: &Template) -> Result<Template, AllocError>
     ensures options { IfOk result (λ t. t.options ≡ template.now.options) }
     ensures specs { IfOk result (λ t. t.specs.items ≡ template.now.specs.items) }
@@ -31,7 +31,7 @@ fn copied_template(alloc: Global, template: &Template) -> Result<Template, Alloc
     })
 }
 
-/// The same templates in the same order.
+// The same templates in the same order.
 pub(crate) fn copied(alloc: Global, templates: &Store) -> Result<Store, AllocError>
     ensures { IfOk result (λ m. templates_of m.entries ≡ templates_of templates.now.entries) }
 {

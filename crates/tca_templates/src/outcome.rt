@@ -49,7 +49,7 @@ pub struct Outcome {
     pub skipped: u32,
 }
 
-/// The same octets.
+// The same octets.
 fn copied_octets(alloc: Global, octets: &[u8]) -> Result<Vec<u8>, AllocError>
     ensures { IfOk result (λ v. v.items ≡ octets.now) }
 {
@@ -58,7 +58,7 @@ fn copied_octets(alloc: Global, octets: &[u8]) -> Result<Vec<u8>, AllocError>
     Ok(copy)
 }
 
-/// The same fields, with values of their own.
+// The same fields, with values of their own.
 fn values(alloc: Global, fields: &[Field<'_>]) -> Result<Vec<FieldValue>, AllocError>
     ensures { IfOk result (λ v. map value_view v.items ≡ map field_view fields.now) }
 {
@@ -74,7 +74,7 @@ fn values(alloc: Global, fields: &[Field<'_>]) -> Result<Vec<FieldValue>, AllocE
     Ok(copy)
 }
 
-/// The records, each with its fields.
+// The records, each with its fields.
 fn copied_records(
     alloc: Global,
     domain: u32,
@@ -102,14 +102,14 @@ fn copied_records(
     Ok(placed)
 }
 
-/// Whether a set defines or withdraws templates.
+// Whether a set defines or withdraws templates.
 fn has_template_set(sets: &[SetSpan]) -> bool
     ensures { result ≡ list_any is_template_set sets.now }
 {
     sets.iter().any(|s| s.id == 2 || s.id == 3)
 }
 
-/// Reads a message into values of its own. An `Err` leaves the templates half changed where a template set is there.
+// Reads a message into values of its own. An `Err` leaves the templates half changed where a template set is there.
 fn read_values(
     alloc: Global,
     templates: &mut Store,
@@ -132,8 +132,8 @@ fn read_values(
     })
 }
 
-/// Reads a message. A refused message leaves the templates as they were: where it has a template set it is read
-/// onto a copy of them.
+// Reads a message. A refused message leaves the templates as they were: where it has a template set it is read
+// onto a copy of them.
 pub(crate) fn read_message(
     alloc: Global,
     templates: &mut Store,

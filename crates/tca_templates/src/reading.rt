@@ -19,7 +19,7 @@ use crate::store::{Store, find, read_templates};
 use std::alloc::Global;
 use tca_wire::{Message, SetSpan};
 
-/// What has come of a message beside its records.
+// What has come of a message beside its records.
 #[derive(Clone, Copy)]
 struct Aside {
     /// The first set of an unknown template.
@@ -28,7 +28,7 @@ struct Aside {
     skipped: u32,
 }
 
-/// The octets of a set, behind its header.
+// The octets of a set, behind its header.
 fn set_body<'a>(octets: &'a [u8], set: SetSpan) -> &'a [u8]
     requires least { 4 ≤ set.length }
     requires within { set.at + set.length ≤ length octets.now }
@@ -39,7 +39,7 @@ fn set_body<'a>(octets: &'a [u8], set: SetSpan) -> &'a [u8]
     body
 }
 
-/// Goes over one set.
+// Goes over one set.
 fn read_set<'a>(
     alloc: Global,
     templates: &mut Store,
@@ -96,8 +96,8 @@ fn read_set<'a>(
     Ok(aside)
 }
 
-/// Goes over the sets of a message, adds its records, and answers the first set of an unknown template and how
-/// many sets were skipped. An `Err` leaves the templates half changed where a template set is there.
+// Goes over the sets of a message, adds its records, and answers the first set of an unknown template and how
+// many sets were skipped. An `Err` leaves the templates half changed where a template set is there.
 pub(crate) fn read_sets<'a>(
     alloc: Global,
     templates: &mut Store,

@@ -34,8 +34,8 @@ pub struct Row {
     pub count: usize,
 }
 
-/// How many octets stand before the value of a field of this length, and how many it has: none and the length,
-/// or where it is variable what stands at the front (RFC 7011, section 7). `None` where there aren't so many.
+// How many octets stand before the value of a field of this length, and how many it has: none and the length,
+// or where it is variable what stands at the front (RFC 7011, section 7). `None` where there aren't so many.
 fn measure(size: u16, octets: &[u8]) -> Option<(usize, usize)>
     ensures { result ≡ field_at size octets.now }
 {
@@ -56,7 +56,7 @@ fn measure(size: u16, octets: &[u8]) -> Option<(usize, usize)>
     Some((skip, size))
 }
 
-/// Whether the fields of the record at the front are all there.
+// Whether the fields of the record at the front are all there.
 fn is_whole(specs: &[FieldSpec], octets: &[u8]) -> bool
     ensures { result ≡ is_some (fields_on [] 0 specs.now octets.now) }
 {
@@ -71,8 +71,8 @@ fn is_whole(specs: &[FieldSpec], octets: &[u8]) -> bool
     true
 }
 
-/// Why the record at the front is refused when there is no memory for its fields: it may go on past the octets all
-/// the same. Only then is a record gone over a second time.
+// Why the record at the front is refused when there is no memory for its fields: it may go on past the octets all
+// the same. Only then is a record gone over a second time.
 #[cold]
 fn refused(at: u16, specs: &[FieldSpec], octets: &[u8]) -> DecodeFault
     ensures cut { result ≢ DecodeFault.Memory → fields_on [] 0 specs.now octets.now ≡ None }
@@ -86,8 +86,8 @@ fn refused(at: u16, specs: &[FieldSpec], octets: &[u8]) -> DecodeFault
     }
 }
 
-/// Adds the fields of the record at the front, which begins at `at` in the message, and says how many octets they
-/// have. Where there is no memory for them the record isn't cut.
+// Adds the fields of the record at the front, which begins at `at` in the message, and says how many octets they
+// have. Where there is no memory for them the record isn't cut.
 #[tactic(auto, using(crate::proofs::Records::still_cut))]
 fn read_fields<'a>(
     at: u16,
@@ -123,7 +123,7 @@ fn read_fields<'a>(
     Ok(used)
 }
 
-/// Adds the record at the front, which begins at `at` in the message, and says how many octets it has.
+// Adds the record at the front, which begins at `at` in the message, and says how many octets it has.
 fn read_record<'a>(
     header: Header,
     template: &Template,
@@ -155,8 +155,8 @@ fn read_record<'a>(
     Ok(size)
 }
 
-/// Adds the records of a data set; `at` is where its octets begin in the message. Fewer octets than the shortest
-/// record are padding.
+// Adds the records of a data set; `at` is where its octets begin in the message. Fewer octets than the shortest
+// record are padding.
 pub(crate) fn read_records<'a>(
     header: Header,
     template: &Template,

@@ -10,13 +10,13 @@ use crate::template::{Definition, FieldSpec, Template};
 use byteorder::{BigEndian, ByteOrder};
 use std::alloc::{AllocError, Global};
 
-/// The most fields of a template.
+// The most fields of a template.
 const MOST_FIELDS: u16 = 512;
 
-/// The highest bit of an element says that an enterprise number follows (RFC 7011, section 3.2).
+// The highest bit of an element says that an enterprise number follows (RFC 7011, section 3.2).
 const ENTERPRISE: u16 = 32_768;
 
-/// The field specifier at the front, and how many octets it has.
+// The field specifier at the front, and how many octets it has.
 fn specifier(octets: &[u8]) -> Option<(FieldSpec, usize)>
     ensures { result ≡ spec_at octets.now }
 {
@@ -45,8 +45,8 @@ fn specifier(octets: &[u8]) -> Option<(FieldSpec, usize)>
     Some((spec, 8))
 }
 
-/// The octets that a record of so many specifiers has at least, and how many octets there are up to their end;
-/// `head` octets stand before them, and their template record begins at `at`. It takes no memory.
+// The octets that a record of so many specifiers has at least, and how many octets there are up to their end;
+// `head` octets stand before them, and their template record begins at `at`. It takes no memory.
 fn measure_specifiers(
     at: u16,
     head: usize,
@@ -75,8 +75,8 @@ fn measure_specifiers(
     Ok((shortest, used))
 }
 
-/// The octets before the specifiers of a template record: four, or six in an options template, whose last two
-/// count the scope fields (RFC 7011, section 3.4.2.2).
+// The octets before the specifiers of a template record: four, or six in an options template, whose last two
+// count the scope fields (RFC 7011, section 3.4.2.2).
 fn measure_head(options: bool, at: u16, count: u16, octets: &[u8]) -> Result<usize, DecodeFault>
     requires { 4 ≤ length octets.now }
     ensures value { result ≡ head_of options at count octets.now }
@@ -98,7 +98,7 @@ fn measure_head(options: bool, at: u16, count: u16, octets: &[u8]) -> Result<usi
     Ok(6)
 }
 
-/// What a template record does.
+// What a template record does.
 #[derive(Clone, Copy)]
 pub(crate) enum Change<'a> {
     /// It withdraws all templates of the domain and the set's kind.
@@ -109,9 +109,9 @@ pub(crate) enum Change<'a> {
     New(u16, Definition<'a>),
 }
 
-/// The template record at the front, and how many octets it has. `options` says in which kind of set it stands, and
-/// `at` where in the message. It takes no memory, so that all that is wrong with a record is known before any is
-/// wanted.
+// The template record at the front, and how many octets it has. `options` says in which kind of set it stands, and
+// `at` where in the message. It takes no memory, so that all that is wrong with a record is known before any is
+// wanted.
 #[tactic(auto, unfolding(crate::specs::Specifiers::change_at))]
 pub(crate) fn read_change<'a>(
     options: bool,
@@ -152,7 +152,7 @@ pub(crate) fn read_change<'a>(
     Ok((Change::New(id, definition), size))
 }
 
-/// The template of a definition, with specifiers of its own.
+// The template of a definition, with specifiers of its own.
 pub(crate) fn stored(
     alloc: Global,
     options: bool,

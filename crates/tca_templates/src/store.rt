@@ -14,20 +14,20 @@ use crate::template::Template;
 use indexmap::IndexMap;
 use std::alloc::Global;
 
-/// The templates of a session by observation domain and ID, in the order in which they were first seen.
+// The templates of a session by observation domain and ID, in the order in which they were first seen.
 pub(crate) type Store = IndexMap<(u32, u16), Template>;
 
-/// The most templates of a session, over all domains.
+// The most templates of a session, over all domains.
 const MOST_TEMPLATES: usize = 4096;
 
-/// The template of an ID.
+// The template of an ID.
 pub(crate) fn find(templates: &Store, domain: u32, id: u16) -> Option<&Template>
     ensures { option_map (λ t. template_of t.now) result ≡ known (domain, id) (templates_of templates.now.entries) }
 {
     templates.get(&(domain, id))
 }
 
-/// Defines an ID. A known one keeps its place, and a new one goes last.
+// Defines an ID. A known one keeps its place, and a new one goes last.
 fn define(
     templates: &mut Store,
     domain: u32,
@@ -41,21 +41,21 @@ fn define(
     Ok(())
 }
 
-/// Withdraws an ID of whichever kind; nothing happens where it isn't known.
+// Withdraws an ID of whichever kind; nothing happens where it isn't known.
 fn withdraw(templates: &mut Store, domain: u32, id: u16)
     ensures { templates_of templates.new.entries ≡ withdraw (domain, id) (templates_of templates.old.entries) }
 {
     templates.shift_remove(&(domain, id));
 }
 
-/// Withdraws all templates of a domain and kind.
+// Withdraws all templates of a domain and kind.
 fn withdraw_all(templates: &mut Store, domain: u32, options: bool)
     ensures { templates_of templates.new.entries ≡ withdraw_all domain options (templates_of templates.old.entries) }
 {
     templates.retain(|key, template| !(key.0 == domain && template.options == options));
 }
 
-/// Does what a template record of a set of this kind says. Memory is wanted only where nothing refuses the record.
+// Does what a template record of a set of this kind says. Memory is wanted only where nothing refuses the record.
 fn apply(
     alloc: Global,
     templates: &mut Store,
@@ -81,8 +81,8 @@ fn apply(
     Ok(())
 }
 
-/// Does what the template record at the front says, and answers how many octets it has; `at` is where it begins in
-/// the message.
+// Does what the template record at the front says, and answers how many octets it has; `at` is where it begins in
+// the message.
 fn read_template(
     alloc: Global,
     templates: &mut Store,
@@ -102,8 +102,8 @@ fn read_template(
     Ok(size)
 }
 
-/// Goes over the records of a template set; `at` is where its octets begin in the message. Fewer than four octets
-/// are padding.
+// Goes over the records of a template set; `at` is where its octets begin in the message. Fewer than four octets
+// are padding.
 pub(crate) fn read_templates(
     alloc: Global,
     templates: &mut Store,

@@ -3,10 +3,10 @@ ghost use Rattle.std.specs.Prelude.{◌≡◌, ◌<◌, ◌≤◌, ◌*◌, leng
 ghost use Rattle.tca_templates.specs.Templates.{least_of, shortest_of};
 ghost use Rattle.tca_templates.specs.Specifiers.{specs_in};
 
-/// The length of a field specifier that says that the length stands before each value (RFC 7011, section 7).
+// The length of a field specifier that says that the length stands before each value (RFC 7011, section 7).
 pub(crate) const VARIABLE: u16 = 65_535;
 
-/// A field of a template (RFC 7011, section 3.2).
+// A field of a template (RFC 7011, section 3.2).
 #[derive(Clone, Copy)]
 pub(crate) struct FieldSpec {
     /// The information element, without the enterprise bit.
@@ -17,7 +17,7 @@ pub(crate) struct FieldSpec {
     pub length: u16,
 }
 
-/// A template: the fields of its records, and whether they are options. No record is empty.
+// A template: the fields of its records, and whether they are options. No record is empty.
 #[derive(Drop)]
 pub(crate) struct Template {
     pub options: bool,
@@ -28,7 +28,7 @@ pub(crate) struct Template {
     pub ghost some: { 0 < shortest },
 }
 
-/// The specifiers of a template in the octets of the record that defines it. All of them are there.
+// The specifiers of a template in the octets of the record that defines it. All of them are there.
 #[derive(Clone, Copy)]
 pub(crate) struct Definition<'a> {
     /// How many specifiers it has.
@@ -43,7 +43,7 @@ pub(crate) struct Definition<'a> {
 }
 
 impl FieldSpec {
-    /// The octets that the field takes at least.
+    // The octets that the field takes at least.
     pub(crate) fn least(&self) -> u32
         ensures least { result ≡ least_of self.now }
         ensures small { result ≤ 65535 }

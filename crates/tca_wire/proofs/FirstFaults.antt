@@ -1,6 +1,7 @@
 -- The fault that is found is the first from the left, and the first from the left is found.
 use Rattle.std.proofs.Common.{◌≡◌, ℕ, zero, suc, ◌+◌, ◌<◌, ◌≤◌, Bool, true, false, cond, List, [], ◌∷◌, ◌++◌, length, take, drop, Result, Ok, Err, refl, sym, ap, subst, ◌∙◌, arith, inl, inr}
-use Rattle.std.specs.Prelude.{◌≢◌, ◌⊎◌, ◌==◌, nat_lt, not}
+use Rattle.std.specs.Prelude.{◌≢◌, ◌⊎◌, ◌==◌, nat_lt, not, IsOk}
+use Rattle.tca_wire.specs.Results.{Gives}
 use Rattle.std.proofs.lemmas.Bool.Decides.{nat_tests}
 use Rattle.std.proofs.lemmas.List.{length-drop}
 use Rattle.byteorder.specs.Endian.{big_number}
@@ -185,3 +186,22 @@ fault_only octets fault h =
         | inr sets ↦ sets_only octets fault sets
       ]
     ]
+
+-- a call that gives what is found, and wants memory for a message alone, answers the first fault
+pub answers_fault : {X : Type 0} (view : X → Header × List SetSpan) (result : Result X WireFault) (octets : List ℕ) → Gives Memory view result (message_of octets)
+    → (result ≡ Err Memory → IsOk (message_of octets)) → (fault : WireFault) → IsFirstFault octets fault → result ≡ Err fault
+answers_fault {X = X} view result octets gives memory fault wrong = go result gives memory (fault_only octets fault wrong)
+  where
+    no_message : (r : Result (Header × List SetSpan) WireFault) → r ≡ Err fault → IsOk r → ⊥
+    no_message (Ok x) e ok = absurd cc
+    no_message (Err f) e ok = absurd cc
+
+    go : (r : Result X WireFault) → Gives Memory view r (message_of octets) → (r ≡ Err Memory → IsOk (message_of octets)) → message_of octets ≡ Err fault → r ≡ Err fault
+    go (Ok x) gives memory e = absurd cc
+    go (Err Memory) gives memory e = absurd (no_message (message_of octets) e (memory refl))
+    go (Err Short) gives memory e = let p : message_of octets ≡ Err Short = gives (λ x. cc) in cc
+    go (Err (BadVersion v)) gives memory e = let p : message_of octets ≡ Err (BadVersion v) = gives (λ x. cc) in cc
+    go (Err (BadLength n)) gives memory e = let p : message_of octets ≡ Err (BadLength n) = gives (λ x. cc) in cc
+    go (Err (SetLength at)) gives memory e = let p : message_of octets ≡ Err (SetLength at) = gives (λ x. cc) in cc
+    go (Err (SetPastEnd at)) gives memory e = let p : message_of octets ≡ Err (SetPastEnd at) = gives (λ x. cc) in cc
+    go (Err (Trailing at)) gives memory e = let p : message_of octets ≡ Err (Trailing at) = gives (λ x. cc) in cc

@@ -36,7 +36,7 @@ impl Model for Framer {
     ghost invariant = { λ f. IfNone f.fault (IsPart f.held.items) × IfSome f.fault (λ _. f.held.items ≡ []) };
 }
 
-/// The length of the message at the front, None where it isn't there whole.
+// The length of the message at the front, None where it isn't there whole.
 fn frame_length(octets: &[u8]) -> Result<Option<usize>, WireFault>
     ensures within { IfOk result (λ found. IfSome found (λ n. n ≤ length octets.now)) }
     ensures some { IfOk result (λ found. IfSome found (λ n. 16 ≤ n)) }
@@ -54,7 +54,7 @@ fn frame_length(octets: &[u8]) -> Result<Option<usize>, WireFault>
     Ok(Some(length))
 }
 
-/// The messages at the front, the fault behind them, and how many octets the messages take.
+// The messages at the front, the fault behind them, and how many octets the messages take.
 fn frames_in(alloc: Global, octets: &[u8]) -> Result<(Framed, usize), WireFault>
     ensures stream { IfOk result (λ found. IsStream octets.now (octets_of found.0.messages.items)
         (framing (drop found.1 octets.now) found.0.fault)) }

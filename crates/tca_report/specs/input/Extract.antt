@@ -3,7 +3,7 @@ use Rattle.std.specs.Prelude.{ℕ, ◌+◌, ◌-◌, ◌*◌, ◌/◌, ◌%◌, 
 use Rattle.std.specs.Option.{is_none, option_or}
 use Rattle.tca_wire.specs.Results.{◌>>=◌}
 use Rattle.byteorder.specs.Endian.{big_number}
-use Rattle.tca_report.specs.report.Reports.{PacketReport}
+use Rattle.tca_report.specs.report.Reports.{PacketReport, time_end, most_octets, most_dscp}
 use Rattle.tca_templates.specs.Records.{FieldView, PlacedView}
 use Rattle.tca_report.specs.declared.input.extraction.NotReport.{NotReport}
 use Rattle.tca_report.specs.declared.input.extraction.NotReport.TheVariants.{Options, NoTime, NoSize, BadTime, BadSize, BadDscp, FieldLength}
@@ -169,9 +169,9 @@ judged time octets point interface domain place = do
   dscp ← point
   iface ← interface
   milliseconds ← ok_or moment BadTime
-  early ← only_if (nat_lt milliseconds (2 ^ 48)) BadTime
-  sized ← only_if (nat_le 1 size && nat_le size 65575) BadSize
-  short ← only_if (nat_le dscp 63) BadDscp
+  early ← only_if (nat_lt milliseconds time_end) BadTime
+  sized ← only_if (nat_le 1 size && nat_le size most_octets) BadSize
+  short ← only_if (nat_le dscp most_dscp) BadDscp
   Ok (record { time = milliseconds; domain = domain; place = place; octets = size; dscp = dscp; iface = iface })
 
 -- the report that a data record makes, or the first reason why it makes none

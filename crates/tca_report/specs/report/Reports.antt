@@ -14,19 +14,31 @@ pub record PacketReport : Type 0 where
   pub dscp : ℕ
   pub iface : ℕ
 
+-- times are below it, in milliseconds from 1970
+abbrev pub time_end : ℕ
+time_end = 2 ^ 48
+
+-- the most octets of a packet: 40 of an IPv6 header, and 65,535 behind it
+abbrev pub most_octets : ℕ
+most_octets = 65575
+
+-- the highest code point, of six bits
+abbrev pub most_dscp : ℕ
+most_dscp = 63
+
 -- times are below 2^48 ms; a packet has 1 to 65,575 octets and a code point of six bits
 pub record InRange (r : PacketReport) : Type 0 where
-  pub time : r.time < 2 ^ 48
+  pub time : r.time < time_end
   pub some : 1 ≤ r.octets
-  pub octets : r.octets ≤ 65575
-  pub dscp : r.dscp ≤ 63
+  pub octets : r.octets ≤ most_octets
+  pub dscp : r.dscp ≤ most_dscp
   pub domain : r.domain < 2 ^ 32
   pub place : r.place < 2 ^ 32
   pub iface : r.iface < 2 ^ 32
 
 -- the same range as a test, of numbers that have their types: domain, place and interface have 32 bits
 abbrev pub in_range : PacketReport → Bool
-in_range r = nat_lt r.time (2 ^ 48) && (nat_le 1 r.octets && (nat_le r.octets 65575 && nat_le r.dscp 63))
+in_range r = nat_lt r.time time_end && (nat_le 1 r.octets && (nat_le r.octets most_octets && nat_le r.dscp most_dscp))
 
 -- the report that tells this content of this identity
 abbrev pub reported : Identity → Content → PacketReport

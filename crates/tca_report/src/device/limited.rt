@@ -7,7 +7,7 @@ ghost use Rattle.tca_report.specs.device.Devices.{CountsFailure, Rises};
 use crate::device::Read;
 use std::io;
 
-/// The only way to a reader, with the reads that are left.
+// The only way to a reader, with the reads that are left.
 #[derive(Drop)]
 pub(crate) struct Limited<'r, R> {
     reader: &'r mut R,
@@ -15,7 +15,7 @@ pub(crate) struct Limited<'r, R> {
 }
 
 impl<'r, R: Read> Limited<'r, R> {
-    /// The reader, to be read at most so many times.
+    // The reader, to be read at most so many times.
     pub(crate) fn new(reader: &'r mut R, reads: u32) -> Limited<'r, R>
         ensures same_reader { result.reader.ghost_name ≡ reader.entry.ghost_name }
         ensures reader { result.reader.now ≡ reader.old }
@@ -27,13 +27,14 @@ impl<'r, R: Read> Limited<'r, R> {
         }
     }
 
+    // How many reads are left.
     pub(crate) fn reads_left(&self) -> u32
         ensures { result ≡ self.now.reads_left }
     {
         self.reads_left
     }
 
-    /// One read, of those that are left.
+    // One read, of those that are left.
     pub(crate) fn read(&mut self, into: &mut [u8]) -> io::Result<usize>
         requires { 0 < self.old.reads_left }
         ensures spent { self.new.reads_left + 1 ≡ self.old.reads_left }

@@ -75,10 +75,10 @@ pub fn put_all<W: Write>(octets: &[u8], out: &mut W) -> Result<(), WriteFault>
     Ok(())
 }
 
-/// Octets of one read.
+// Octets of one read.
 const READ_SIZE: usize = 65_536;
 
-/// Reads of one input.
+// Reads of one input.
 const MOST_READS: u32 = 4_194_304;
 
 // The length is a parameter, since a proof would write out a list of a known length.
@@ -88,7 +88,7 @@ fn new_buffer(alloc: Global, size: usize) -> Result<Vec<u8>, AllocError>
     vec![in alloc; 0u8; size]
 }
 
-/// Reads to the end, or until no read is left.
+// Reads to the end, or until no read is left.
 fn read_all<R: Read>(
     alloc: Global,
     buffer: &mut [u8],
@@ -111,6 +111,8 @@ fn read_all<R: Read>(
         × (R.reads from.new.reader.now ≡ R.reads from.old.reader.now + from.old.reads_left)
         × ConsumesWithin from.old.reads_left (length buffer.old * from.old.reads_left)
         (R.left from.old.reader.now) (R.left from.new.reader.now) }
+    ensures memory { IsErrOf result ReadFault.Memory
+        → R.reads from.new.reader.now < R.reads from.old.reader.now + from.old.reads_left }
     ensures failed { IsErrOf result ReadFault.Read
         → Rises (R.failures from.old.reader.now) (R.failures from.new.reader.now) }
     ensures quiet { result ≢ Err ReadFault.Read
@@ -120,6 +122,7 @@ fn read_all<R: Read>(
     while from.reads_left() > 0 {
         match from.read(buffer) {
             Ok(0) => return Ok(octets),
+            Ok(_) if from.reads_left() == 0 => return Err(ReadFault::Turns),
             Ok(n) => {
                 if octets.extend_from_slice(&buffer[..n]).is_err() {
                     return Err(ReadFault::Memory);
@@ -135,7 +138,8 @@ fn read_all<R: Read>(
 ///
 /// `Read` where a read failed, at once; `Turns` where the last of those reads took octets too, so
 /// that the end was not seen; `Memory` for the buffer, before the first read, or for the octets of
-/// a read. What was read before a fault is consumed and not given back.
+/// a read, but never for those of the last of these reads. What was read before a fault is
+/// consumed and not given back.
 pub fn read_octets<R: Read>(alloc: Global, reader: &mut R) -> Result<Vec<u8>, ReadFault>
     ensures octets { IfOk result (λ v. Consumes (R.left reader.old) (R.left reader.new) v.items) }
     ensures all { OnOk result (IsAtEnd (R.left reader.new)) }
@@ -146,6 +150,8 @@ pub fn read_octets<R: Read>(alloc: Global, reader: &mut R) -> Result<Vec<u8>, Re
     ensures most { ConsumesWithin 0 (read_size * most_reads) (R.left reader.old) (R.left reader.new) }
     ensures turns { IsErrOf result ReadFault.Turns → (R.reads reader.new ≡ R.reads reader.old + most_reads)
         × ConsumesWithin most_reads (read_size * most_reads) (R.left reader.old) (R.left reader.new) }
+    // Memory is wanted only while reads are left.
+    ensures memory { IsErrOf result ReadFault.Memory → R.reads reader.new < R.reads reader.old + most_reads }
     ensures failed { IsErrOf result ReadFault.Read
         → Rises (R.failures reader.old) (R.failures reader.new) }
     ensures quiet { result ≢ Err ReadFault.Read

@@ -13,6 +13,7 @@ use crate::export::{ExportFault, MOST_REPORTS};
 use crate::report::{Content, Identity, Report};
 use std::alloc::Global;
 
+// The number of the first four octets, and the octets after them.
 fn u32_at(octets: &[u8]) -> (u32, &[u8])
     requires { 4 ≤ length octets.now }
     ensures value { result.0 ≡ from_be_bytes w32 (take 4 octets.now) }
@@ -23,6 +24,7 @@ fn u32_at(octets: &[u8]) -> (u32, &[u8])
     (number, rest)
 }
 
+// The number of the first eight octets, and the octets after them.
 fn u64_at(octets: &[u8]) -> (u64, &[u8])
     requires { 8 ≤ length octets.now }
     ensures value { result.0 ≡ from_be_bytes w64 (take 8 octets.now) }
@@ -35,7 +37,7 @@ fn u64_at(octets: &[u8]) -> (u64, &[u8])
     (number, rest)
 }
 
-/// What the first 25 octets say, and the octets after them.
+// What the first 25 octets say, and the octets after them.
 fn fields_at(octets: &[u8]) -> (Identity, Content, &[u8])
     requires { 25 ≤ length octets.now }
     ensures { (reported result.0 result.1, result.2.now) ≡ record_at octets.now }
@@ -58,7 +60,7 @@ fn fields_at(octets: &[u8]) -> (Identity, Content, &[u8])
     )
 }
 
-/// The report of the first 25 octets, where they are in range, and the octets after them.
+// The report of the first 25 octets, where they are in range, and the octets after them.
 fn report_at(octets: &[u8]) -> (Option<Report>, &[u8])
     requires { 25 ≤ length octets.now }
     ensures report { result.0 ≡ ranged (record_at octets.now).0 }
@@ -68,7 +70,7 @@ fn report_at(octets: &[u8]) -> (Option<Report>, &[u8])
     (Report::new(identity, content), rest)
 }
 
-/// Whether a report is above the last one before it.
+// Whether a report is above the last one before it.
 fn follows(last: Option<Report>, report: &Report) -> bool
     ensures { result ≡ above last report.now }
 {
@@ -78,7 +80,7 @@ fn follows(last: Option<Report>, report: &Report) -> bool
     }
 }
 
-/// Reads so many reports into the room that was made for them.
+// Reads so many reports into the room that was made for them.
 fn read_records(count: u32, octets: &[u8], into: &mut Vec<Report>) -> Result<(), ExportFault>
     requires whole { 25 * count ≤ length octets.now }
     requires empty { into.old.items ≡ [] }
@@ -105,8 +107,8 @@ fn read_records(count: u32, octets: &[u8], into: &mut Vec<Report>) -> Result<(),
     Ok(())
 }
 
-/// The first fault among so many records, or want of memory where they have none. It takes no
-/// memory, and is asked only where memory lacks.
+// The first fault among so many records, or want of memory where they have none. It takes no
+// memory, and is asked only where memory lacks.
 #[cold]
 fn refused(count: u32, octets: &[u8]) -> ExportFault
     requires whole { 25 * count ≤ length octets.now }
@@ -130,7 +132,7 @@ fn refused(count: u32, octets: &[u8]) -> ExportFault
     ExportFault::Memory
 }
 
-/// How many reports follow the header, or the first thing that is wrong before them.
+// How many reports follow the header, or the first thing that is wrong before them.
 #[tactic(auto, unfolding(crate::specs::export::Reading::count_of))]
 fn header_count(octets: &[u8]) -> Result<u32, ExportFault>
     ensures exact { result ≡ count_of octets.now }
@@ -164,7 +166,7 @@ fn header_count(octets: &[u8]) -> Result<u32, ExportFault>
     Ok(count)
 }
 
-/// The reports of an export, or its first fault.
+// The reports of an export, or its first fault.
 fn read_whole(alloc: Global, octets: &[u8]) -> Result<Vec<Report>, ExportFault>
     ensures exact { Gives Memory (λ v. v.items) result (reading octets.now) }
     ensures memory { IsErrOf result Memory → IsOkAnd (reading octets.now) (λ rs. 0 < length rs) }

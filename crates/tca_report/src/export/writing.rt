@@ -11,15 +11,15 @@ use crate::device::{Write, WriteFault, put_all};
 use crate::report::Report;
 use arrayvec::ArrayVec;
 
-/// Octets that wait on the stack until they go out: those of 1,310 reports.
+// Octets that wait on the stack until they go out: those of 1,310 reports.
 const BUFFER: usize = 32_750;
 
-/// Octets of one report.
+// Octets of one report.
 const RECORD_SIZE: usize = 25;
 
 type Buffer = ArrayVec<u8, BUFFER>;
 
-/// Appends to a buffer with room.
+// Appends to a buffer with room.
 fn append(octets: &[u8], buffer: &mut Buffer)
     requires { array_vec_len buffer.old + length octets.now ≤ 32750 }
     ensures { buffer.new.items ≡ buffer.old.items ++ octets.now }
@@ -27,7 +27,7 @@ fn append(octets: &[u8], buffer: &mut Buffer)
     buffer.try_extend_from_slice(octets).unwrap();
 }
 
-/// A buffer with the header of an export of so many reports.
+// A buffer with the header of an export of so many reports.
 fn with_header(count: u32) -> Buffer
     ensures { result.items ≡ header_octets count }
 {
@@ -37,7 +37,7 @@ fn with_header(count: u32) -> Buffer
     buffer
 }
 
-/// Appends the 25 octets of a report.
+// Appends the 25 octets of a report.
 fn append_record(report: &Report, buffer: &mut Buffer)
     requires { array_vec_len buffer.old + 25 ≤ 32750 }
     ensures { buffer.new.items ≡ buffer.old.items ++ record_octets report.now }
@@ -52,7 +52,7 @@ fn append_record(report: &Report, buffer: &mut Buffer)
     append(&content.iface.to_be_bytes(), buffer);
 }
 
-/// Writes the octets after so many others, and gives the number of all.
+// Writes the octets after so many others, and gives the number of all.
 fn put_after<W: Write>(written: u64, octets: &[u8], out: &mut W) -> Result<u64, WriteFault>
     requires { written + length octets.now < 2 ^ 64 }
     ensures ok { OnOk result (Appends (W.written out.old) (W.written out.new) octets.now) }
@@ -71,7 +71,7 @@ fn put_after<W: Write>(written: u64, octets: &[u8], out: &mut W) -> Result<u64, 
     }
 }
 
-/// Where the buffer has no room for one more record, writes what it has and empties it.
+// Where the buffer has no room for one more record, writes what it has and empties it.
 fn make_room<W: Write>(written: u64, buffer: &mut Buffer, out: &mut W) -> Result<u64, WriteFault>
     requires { written + array_vec_len buffer.old < 2 ^ 64 }
     ensures room { OnOk result (array_vec_len buffer.new + 25 ≤ 32750) }

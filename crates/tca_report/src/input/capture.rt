@@ -17,10 +17,10 @@ use std::alloc::Global;
 use tca_templates::{DecodeFault, Decoder, Field, Row};
 use tca_wire::{Framer, WireFault, split_message};
 
-/// Octets of a capture that are looked at together.
+// Octets of a capture that are looked at together.
 const PIECE: usize = 65_536;
 
-/// Reads a capture message by message, and holds what has come of it so far.
+// Reads a capture message by message, and holds what has come of it so far.
 #[derive(Drop)]
 struct CaptureReader {
     decoder: Decoder,
@@ -30,7 +30,7 @@ struct CaptureReader {
     at: u64,
 }
 
-/// The fault of a message, or want of memory.
+// The fault of a message, or want of memory.
 fn wire_fault(at: u64, fault: WireFault) -> InputFault
     ensures fault { result ≢ InputFault.Memory → (fault ≢ WireFault.Memory) × (result ≡ faults.Wire at fault) }
     ensures memory { fault ≢ WireFault.Memory → result ≢ InputFault.Memory }
@@ -41,7 +41,7 @@ fn wire_fault(at: u64, fault: WireFault) -> InputFault
     }
 }
 
-/// The fault of a message's sets, or want of memory.
+// The fault of a message's sets, or want of memory.
 fn decode_fault(at: u64, fault: DecodeFault) -> InputFault
     ensures fault { result ≢ InputFault.Memory → (fault ≢ DecodeFault.Memory) × (result ≡ faults.Decode at fault) }
     ensures memory { fault ≢ DecodeFault.Memory → result ≢ InputFault.Memory }
@@ -52,7 +52,7 @@ fn decode_fault(at: u64, fault: DecodeFault) -> InputFault
     }
 }
 
-/// Counts a record that is no report.
+// Counts a record that is no report.
 fn count_reason(counts: &mut [u64; 7], reason: NotReport)
     requires { (reasons : List NotReport) × (counts.old ≡ counts_of reasons) × (length reasons + 1 < 2 ^ 64) }
     ensures { (reasons : List NotReport) → counts.old ≡ counts_of reasons → counts.new ≡ counts_of (reasons ++ reason ∷ []) }
@@ -61,7 +61,7 @@ fn count_reason(counts: &mut [u64; 7], reason: NotReport)
     counts[index] += 1;
 }
 
-/// Takes the report of a record, or counts why it makes none.
+// Takes the report of a record, or counts why it makes none.
 fn take_record(
     found: Result<Report, NotReport>,
     reports: &mut Vec<Report>,
@@ -80,7 +80,7 @@ fn take_record(
     Ok(())
 }
 
-/// Takes the records of a message: their reports, and why the others make none.
+// Takes the records of a message: their reports, and why the others make none.
 fn take_records(
     domain: u32,
     rows: &[Row],
@@ -111,7 +111,7 @@ fn take_records(
 }
 
 impl CaptureReader {
-    /// Nothing yet.
+    // Nothing yet.
     fn new(alloc: Global) -> CaptureReader
         ensures { HasRead [] (Holds []) result }
     {
@@ -123,7 +123,7 @@ impl CaptureReader {
         }
     }
 
-    /// Takes the message that these octets are.
+    // Takes the message that these octets are.
     fn take_message<'a>(
         &mut self,
         alloc: Global,
@@ -155,7 +155,7 @@ impl CaptureReader {
         Ok(())
     }
 
-    /// Takes messages in their order.
+    // Takes messages in their order.
     fn take_messages(&mut self, alloc: Global, messages: &[Vec<u8>]) -> Result<(), InputFault>
         requires held { (so_far : CaptureSoFar) × Agrees self.old so_far }
         requires within { self.old.at + length (concat (octets_of messages.now)) < 2 ^ 64 }
@@ -170,7 +170,7 @@ impl CaptureReader {
         Ok(())
     }
 
-    /// Takes the next piece of the capture.
+    // Takes the next piece of the capture.
     fn take_piece(
         &mut self,
         alloc: Global,
@@ -194,7 +194,7 @@ impl CaptureReader {
     }
 }
 
-/// Reads a capture piece by piece.
+// Reads a capture piece by piece.
 pub(crate) fn read_capture(alloc: Global, octets: &[u8]) -> Result<Gathered, InputFault>
     ensures exact { Gives InputFault.Memory gathered_view result (gathered_of (capture_of octets.now)) }
     ensures memory { IsErrOf result InputFault.Memory → 0 < length octets.now }

@@ -13,7 +13,7 @@ use crate::input::fields::{
     OBSERVATION_TIME_MILLISECONDS, OBSERVATION_TIME_NANOSECONDS, OBSERVATION_TIME_SECONDS,
     OCTET_DELTA_COUNT, TOTAL_LENGTH_IPV4, find,
 };
-use crate::report::{Content, Identity, Report};
+use crate::report::{Content, Identity, MOST_DSCP, MOST_OCTETS, Report, TIME_END};
 use byteorder::{BigEndian, ByteOrder};
 use tca_templates::{Field, PlacedFields};
 use thiserror::Error;
@@ -61,6 +61,7 @@ impl NotReport {
     }
 }
 
+// A number of one octet to so many.
 fn pick_unsigned(most: usize, value: &[u8]) -> Result<u64, NotReport>
     requires { most ≤ 8 }
     ensures value { result ≡ unsigned most value.now }
@@ -72,6 +73,7 @@ fn pick_unsigned(most: usize, value: &[u8]) -> Result<u64, NotReport>
     Ok(BigEndian::read_uint(value, value.len()))
 }
 
+// Milliseconds from 1970 of seconds from 1900 and a fraction of one, None before 1970.
 fn after_1970(seconds: u32, fraction: u32) -> Option<u64>
     ensures { result ≡ since_1970 seconds fraction }
 {
@@ -82,6 +84,7 @@ fn after_1970(seconds: u32, fraction: u32) -> Option<u64>
     Some(seconds * 1000 + u64::from(fraction) * 1000 / 4_294_967_296)
 }
 
+// The milliseconds of a dateTimeMilliseconds (RFC 7011, section 6.1.8).
 fn pick_milliseconds(value: &[u8]) -> Result<Option<u64>, NotReport>
     ensures { result ≡ date_time_milliseconds value.now }
 {
@@ -91,6 +94,7 @@ fn pick_milliseconds(value: &[u8]) -> Result<Option<u64>, NotReport>
     Ok(Some(BigEndian::read_u64(value)))
 }
 
+// The milliseconds of a dateTimeMicroseconds (section 6.1.9), None before 1970.
 fn pick_microseconds(value: &[u8]) -> Result<Option<u64>, NotReport>
     ensures { result ≡ date_time_microseconds value.now }
 {
@@ -101,6 +105,7 @@ fn pick_microseconds(value: &[u8]) -> Result<Option<u64>, NotReport>
     Ok(after_1970(BigEndian::read_u32(value), fraction))
 }
 
+// The milliseconds of a dateTimeNanoseconds (section 6.1.10), None before 1970.
 fn pick_nanoseconds(value: &[u8]) -> Result<Option<u64>, NotReport>
     ensures { result ≡ date_time_nanoseconds value.now }
 {
@@ -111,6 +116,7 @@ fn pick_nanoseconds(value: &[u8]) -> Result<Option<u64>, NotReport>
     Ok(after_1970(BigEndian::read_u32(value), fraction))
 }
 
+// The milliseconds of a dateTimeSeconds (section 6.1.7).
 fn pick_seconds(value: &[u8]) -> Result<Option<u64>, NotReport>
     ensures { result ≡ date_time_seconds value.now }
 {
@@ -120,7 +126,7 @@ fn pick_seconds(value: &[u8]) -> Result<Option<u64>, NotReport>
     Ok(Some(u64::from(BigEndian::read_u32(value)) * 1000))
 }
 
-/// The time of a record, of the first of the four elements that is there: its milliseconds, or none before 1970.
+// The time of a record, of the first of the four elements that is there: its milliseconds, or none before 1970.
 #[tactic(auto, unfolding(crate::specs::input::Extract::time_in))]
 fn pick_time<F: DataField>(fields: &[F]) -> Option<Result<Option<u64>, NotReport>>
     ensures { result ≡ time_in (map F.plain fields.now) }
@@ -140,7 +146,7 @@ fn pick_time<F: DataField>(fields: &[F]) -> Option<Result<Option<u64>, NotReport
     None
 }
 
-/// The octets and the code point that the header of an IP packet gives.
+// The octets and the code point that the header of an IP packet gives.
 fn read_section(value: &[u8]) -> Option<(u32, u8)>
     ensures { result ≡ header_in value.now }
 {
@@ -158,6 +164,7 @@ fn read_section(value: &[u8]) -> Option<(u32, u8)>
     None
 }
 
+// The octets and the code point of the packet's section, where it gives them.
 fn pick_section<F: DataField>(fields: &[F]) -> Option<(u32, u8)>
     ensures { result ≡ section_in (map F.plain fields.now) }
 {
@@ -167,6 +174,7 @@ fn pick_section<F: DataField>(fields: &[F]) -> Option<(u32, u8)>
     }
 }
 
+// The octets of the packet: of the first of the three elements that is there, or else of the section.
 #[tactic(auto, unfolding(crate::specs::input::Extract::octets_in))]
 fn pick_octets<F: DataField>(
     fields: &[F],
@@ -189,6 +197,7 @@ fn pick_octets<F: DataField>(
     }
 }
 
+// The code point: of the first of the two elements that is there, or else of the section, or else 0.
 #[tactic(auto, unfolding(crate::specs::input::Extract::code_point_in))]
 fn pick_code_point<F: DataField>(fields: &[F], section: Option<(u32, u8)>) -> Result<u64, NotReport>
     ensures { result ≡ code_point_in (map F.plain fields.now) section }
@@ -205,6 +214,7 @@ fn pick_code_point<F: DataField>(fields: &[F], section: Option<(u32, u8)>) -> Re
     }
 }
 
+// The interface, or else 0.
 #[tactic(auto, unfolding(crate::specs::input::Extract::interface_in))]
 fn pick_interface<F: DataField>(fields: &[F]) -> Result<u64, NotReport>
     ensures value { result ≡ interface_in (map F.plain fields.now) }
@@ -216,7 +226,7 @@ fn pick_interface<F: DataField>(fields: &[F]) -> Result<u64, NotReport>
     }
 }
 
-/// Judges what was taken: first whether each has a length that it may have, then what it says.
+// Judges what was taken: first whether each has a length that it may have, then what it says.
 fn judge(
     time: Result<Option<u64>, NotReport>,
     octets: Result<u64, NotReport>,
@@ -234,13 +244,13 @@ fn judge(
     let Some(time) = time else {
         return Err(NotReport::BadTime);
     };
-    if time >= 1 << 48 {
+    if time >= TIME_END {
         return Err(NotReport::BadTime);
     }
-    if octets < 1 || octets > 65_575 {
+    if octets < 1 || octets > u64::from(MOST_OCTETS) {
         return Err(NotReport::BadSize);
     }
-    if point > 63 {
+    if point > u64::from(MOST_DSCP) {
         return Err(NotReport::BadDscp);
     }
     let content = Content {
@@ -255,7 +265,7 @@ fn judge(
     }
 }
 
-/// The report that these fields make, or why they make none.
+// The report that these fields make, or why they make none.
 #[tactic(auto, unfolding(crate::specs::input::Extract::extract_of))]
 fn extract_from<F: DataField>(
     options: bool,
@@ -283,7 +293,7 @@ fn extract_from<F: DataField>(
     )
 }
 
-/// What `extract` gives, of fields that stand in the octets of their message.
+// What `extract` gives, of fields that stand in the octets of their message.
 pub(crate) fn extract_fields(
     options: bool,
     identity: Identity,

@@ -9,7 +9,7 @@ use Rattle.tca_wire.specs.declared.fault.WireFault.TheVariants.{Memory}
 use Rattle.tca_wire.specs.FirstFaults.{IsFirstFault}
 use Rattle.tca_wire.proofs.Walking.{gives_ok, gives_err}
 use Rattle.tca_wire.proofs.Tiles.{message_found, message_only}
-use Rattle.tca_wire.proofs.FirstFaults.{fault_found}
+use Rattle.tca_wire.proofs.FirstFaults.{fault_found, answers_fault}
 use Rattle.tca_wire.proofs.split.split_message.Goals as goal
 
 pub returns-clause-found : goal.returns-clause-found
@@ -25,3 +25,6 @@ pub returns-clause-first : goal.returns-clause-first
 returns-clause-first c =
     gives_err Memory (λ m. (m.header, m.sets.items)) (λ (f : WireFault). IsFirstFault c.args.octets.now f) c.split.result (message_of c.args.octets.now)
     (fault_found c.args.octets.now) c.split.ensures.exact
+
+pub returns-clause-refused : goal.returns-clause-refused
+returns-clause-refused c = answers_fault (λ m. (m.header, m.sets.items)) c.split.result c.args.octets.now c.split.ensures.exact c.split.ensures.last
