@@ -1,4 +1,5 @@
 use crate::line::{Line, LineFault, read_line};
+use std::alloc::Global;
 use std::test::*;
 
 #[test]
@@ -37,6 +38,22 @@ fn reads_lines(rt: HostRuntime) -> Result<(), Fail> {
     Ok(())
 }
 
+// The text of a wrong command line.
+fn usage(alloc: Global, words: &[&str]) -> Option<String> {
+    match read_line(alloc, words) {
+        Err(LineFault::Usage { text }) => Some(text),
+        _ => None,
+    }
+}
+
+// The text of a command line that asks for help.
+fn help(alloc: Global, words: &[&str]) -> Option<String> {
+    match read_line(alloc, words) {
+        Err(LineFault::Help { text }) => Some(text),
+        _ => None,
+    }
+}
+
 #[test]
 fn refuses_wrong_lines(rt: HostRuntime) -> Result<(), Fail> {
     let lines: [(&[&str], &str); 10] = [
@@ -61,12 +78,8 @@ fn refuses_wrong_lines(rt: HostRuntime) -> Result<(), Fail> {
         ),
     ];
     for (words, part) in lines {
-        match read_line(rt.alloc(), words) {
-            Err(LineFault::Usage { text }) => {
-                assert!(rt; text.as_str().contains(part), "{words:?}: {text}");
-            }
-            _ => return Err("no usage".into()),
-        }
+        let text = usage(rt.alloc(), words).ok_or("no usage")?;
+        assert!(rt; text.as_str().contains(part), "{words:?}: {text}");
     }
     Ok(())
 }
@@ -91,12 +104,8 @@ fn gives_help(rt: HostRuntime) -> Result<(), Fail> {
         ),
     ];
     for (words, part) in lines {
-        match read_line(rt.alloc(), words) {
-            Err(LineFault::Help { text }) => {
-                assert!(rt; text.as_str().contains(part), "{words:?}: {text}");
-            }
-            _ => return Err("no help".into()),
-        }
+        let text = help(rt.alloc(), words).ok_or("no help")?;
+        assert!(rt; text.as_str().contains(part), "{words:?}: {text}");
     }
     Ok(())
 }

@@ -7,6 +7,7 @@ use crate::tests::commands::{
 };
 use std::alloc::{AllocError, Global};
 use std::env::{Env, FillError};
+use std::path::PathBuf;
 use std::test::*;
 use std::{env, fs, process};
 use tca_report::Host;
@@ -14,7 +15,7 @@ use tca_report::Host;
 // Makes a new folder the current one, each test being a process of its own, with three reports in two
 // files, a file that is cut short, captures with a set of an unknown template and with a set that is
 // skipped too, a plan, and a text that is none.
-fn enter(rt: &HostRuntime, name: &str) -> Result<(), Fail> {
+fn enter(rt: &HostRuntime, name: &str) -> Result<PathBuf, Fail> {
     let id = process::id(rt.process());
     let folder = format!(in rt.alloc(); "tcacct_{name}_{id}")?;
     let path = env::temp_dir(rt)?.join(rt.alloc(), folder.as_str())?;
@@ -32,7 +33,7 @@ fn enter(rt: &HostRuntime, name: &str) -> Result<(), Fail> {
     fs::write(rt, "plan", PLAN)?;
     fs::write(rt, "other plan", OTHER_PLAN)?;
     fs::write(rt, "bad", "period = 0\n")?;
-    Ok(())
+    Ok(path)
 }
 
 // Runs these words behind the program's name. Gives the exit status, what is printed, and what goes to
@@ -51,7 +52,7 @@ fn ran(rt: &HostRuntime, words: &[&str]) -> Result<String, Fail> {
 
 #[test]
 fn reads_all_files_before_it_judges(rt: HostRuntime) -> Result<(), Fail> {
-    enter(&rt, "order")?;
+    let folder = enter(&rt, "order")?;
     let lines: [(&[&str], &str); 13] = [
         (
             &["meter", "bad spec", "one", "none"],
@@ -97,12 +98,13 @@ fn reads_all_files_before_it_judges(rt: HostRuntime) -> Result<(), Fail> {
     for (words, ending) in lines {
         assert_eq!(rt; ran(&rt, words)?.as_str(), ending, "{words:?}");
     }
+    fs::remove_dir_all(&rt, folder.as_path())?;
     Ok(())
 }
 
 #[test]
 fn runs_commands(rt: HostRuntime) -> Result<(), Fail> {
-    enter(&rt, "commands")?;
+    let folder = enter(&rt, "commands")?;
     let metered = format!(in rt.alloc(); "0|{THREE_LINES}|")?;
     assert_eq!(rt;
         ran(&rt, &["meter", SPEC, "two", "one"])?.as_str(),
@@ -117,12 +119,13 @@ fn runs_commands(rt: HostRuntime) -> Result<(), Fail> {
         ran(&rt, &["bill", "plan", "two", "one"])?.as_str(),
         statement.as_str()
     );
+    fs::remove_dir_all(&rt, folder.as_path())?;
     Ok(())
 }
 
 #[test]
 fn makes_out_once_all_is_read(rt: HostRuntime) -> Result<(), Fail> {
-    enter(&rt, "out")?;
+    let folder = enter(&rt, "out")?;
     let lines: [(&[&str], &str, &[u8]); 6] = [
         (
             &["combine", "out", "one", "none"],
@@ -160,12 +163,13 @@ fn makes_out_once_all_is_read(rt: HostRuntime) -> Result<(), Fail> {
         assert_eq!(rt; ran(&rt, words)?.as_str(), ending, "{words:?}");
         assert_eq!(rt; fs::read(&rt, "out")?.as_slice(), octets, "{words:?}");
     }
+    fs::remove_dir_all(&rt, folder.as_path())?;
     Ok(())
 }
 
 #[test]
 fn writes_to_an_input(rt: HostRuntime) -> Result<(), Fail> {
-    enter(&rt, "same")?;
+    let folder = enter(&rt, "same")?;
     let three = export(rt.alloc(), &[FIRST, SECOND, THIRD])?;
     assert_eq!(rt;
         ran(&rt, &["combine", "one", "one", "two"])?.as_str(),
@@ -176,6 +180,7 @@ fn writes_to_an_input(rt: HostRuntime) -> Result<(), Fail> {
     let words = ["bill", "plan", "two", "one", "--export", "two"];
     assert_eq!(rt; ran(&rt, &words)?.as_str(), statement.as_str());
     assert_eq!(rt; fs::read(&rt, "two")?.as_slice(), three.as_slice());
+    fs::remove_dir_all(&rt, folder.as_path())?;
     Ok(())
 }
 
@@ -192,7 +197,7 @@ fn large_export(alloc: Global) -> Result<Vec<u8>, AllocError> {
 
 #[test]
 fn reads_large_files(rt: HostRuntime) -> Result<(), Fail> {
-    enter(&rt, "large")?;
+    let folder = enter(&rt, "large")?;
     let octets = large_export(rt.alloc())?;
     assert_eq!(rt; octets.len(), 1_000_035);
     fs::write(&rt, "large", octets.as_slice())?;
@@ -201,12 +206,13 @@ fn reads_large_files(rt: HostRuntime) -> Result<(), Fail> {
         "0|reports 40001\n|"
     );
     assert!(rt; fs::read(&rt, "out")?.as_slice() == octets.as_slice());
+    fs::remove_dir_all(&rt, folder.as_path())?;
     Ok(())
 }
 
 #[test]
 fn prints_notes_in_the_inputs_order(rt: HostRuntime) -> Result<(), Fail> {
-    enter(&rt, "notes")?;
+    let folder = enter(&rt, "notes")?;
     let words = ["meter", SPEC, "skipped"];
     assert_eq!(rt;
         ran(&rt, &words)?.as_str(),
@@ -214,6 +220,7 @@ fn prints_notes_in_the_inputs_order(rt: HostRuntime) -> Result<(), Fail> {
     );
     let words = ["bill", "other plan", "skipped", "one", "unknown", "skipped"];
     assert_eq!(rt; ran(&rt, &words)?.as_str(), NOTED);
+    fs::remove_dir_all(&rt, folder.as_path())?;
     Ok(())
 }
 
@@ -226,7 +233,7 @@ const NOTED: &str =
 
 #[test]
 fn keeps_the_status_where_writes_fail(rt: HostRuntime) -> Result<(), Fail> {
-    enter(&rt, "full")?;
+    let folder = enter(&rt, "full")?;
     let lines: [(&[&str], u8); 4] = [
         (&["tcacct", "bill", "plan", "skipped"], 0),
         (&["tcacct", "meter", SPEC, "none"], 1),
@@ -241,6 +248,7 @@ fn keeps_the_status_where_writes_fail(rt: HostRuntime) -> Result<(), Fail> {
     let words = ["tcacct", "meter", SPEC, "one"];
     assert_eq!(rt; run(&rt, &words, &mut Host::new(Full), &mut errors), 1);
     assert_eq!(rt; errors.as_slice(), b"tcacct: meter: write 1\n".as_slice());
+    fs::remove_dir_all(&rt, folder.as_path())?;
     Ok(())
 }
 
