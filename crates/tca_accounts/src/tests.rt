@@ -336,10 +336,11 @@ fn has_one_tally(bill: &Bill, octets: [u64; 3], packets: [u64; 3], rows: &[Row])
     tally.total.octets() == octets
         && tally.total.packets() == packets
         && spans.len() == rows.len()
-        && spans
-            .iter()
-            .zip(rows)
-            .all(|(span, row)| (span.index, span.sums.octets(), span.sums.packets()) == *row)
+        && spans.iter().zip(rows).all(|(span, row)| (
+            span.index,
+            span.sums.octets(),
+            span.sums.packets(),
+        ) == *row)
 }
 
 #[test]
@@ -395,14 +396,26 @@ fn faults_have_their_numbers_and_texts(rt: HostRuntime) -> Result<(), Fail> {
     let key = Key::ExactFit;
     let (account, fault) = (2, MeterFault::NoBurst);
     for (fault, number, text) in [
-        (PlanFault::Syntax, 1, "the plan is no TOML document in UTF-8"),
-        (PlanFault::Missing { key }, 2, "the key `exact_fit` is missing"),
+        (
+            PlanFault::Syntax,
+            1,
+            "the plan is no TOML document in UTF-8",
+        ),
+        (
+            PlanFault::Missing { key },
+            2,
+            "the key `exact_fit` is missing",
+        ),
         (
             PlanFault::Wrong { key },
             3,
             "the value of `exact_fit` has the wrong type or is out of range",
         ),
-        (PlanFault::UnknownKey, 4, "a key stands where no such key is known"),
+        (
+            PlanFault::UnknownKey,
+            4,
+            "a key stands where no such key is known",
+        ),
         (
             PlanFault::Meter { account, fault },
             5,

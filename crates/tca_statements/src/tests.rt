@@ -250,7 +250,11 @@ fn issues_what_has_changed(rt: HostRuntime) -> Result<(), Fail> {
         Err(IssueFault::Period)
     );
     assert_eq!(rt; issuer.issue(&after, 0, 78_187_493), Ok(amount(0, 0, 0)));
-    let amounts = [amount(1500, 1000, 800), amount(0, -400, 1000), amount(0, 0, 0)];
+    let amounts = [
+        amount(1500, 1000, 800),
+        amount(0, -400, 1000),
+        amount(0, 0, 0),
+    ];
     assert_eq!(rt; issuer.issued(0, SPAN), amounts.as_slice());
     assert_eq!(rt; issuer.issued(1, SPAN).len(), 0);
     Ok(())
