@@ -40,6 +40,17 @@ fn kept(alloc: Global, steps: &[Step]) -> Result<Vec<usize>, AllocError> {
     Ok(kept)
 }
 
+// How many heaps refused a growth.
+fn refusals(steps: &[Step]) -> usize {
+    let mut count: usize = 0;
+    for step in steps {
+        if matches!(step, Step::Refused(_)) {
+            count = count.saturating_add(1);
+        }
+    }
+    count
+}
+
 // A report each 20 minutes, so that every third begins a period.
 fn hourly(number: u32) -> Option<Report> {
     report(number % 100, number % 100 * 1_200_000, 1500, 0)
@@ -177,31 +188,37 @@ fn a_report_without_room_leaves_the_totals(rt: HostRuntime) -> Result<(), Fail> 
     Ok(())
 }
 
+// A log of the first reports of a list.
+fn log_of(alloc: Global, list: &[Report], count: usize) -> Result<Log, Fail> {
+    let mut log = Log::new(alloc);
+    for report in list.iter().take(count) {
+        log.add(*report)?;
+    }
+    Ok(log)
+}
+
 // A book in a small heap that fits the first three reports, and then is to fit all.
 fn refit_step(alloc: Global, small: &LocalHeap, list: &[Report]) -> Result<Step, Fail> {
     let plan = Plan::from_text(alloc, PLAN.as_bytes())?;
-    let (mut first, mut whole) = (Log::new(alloc), Log::new(alloc));
-    for (n, report) in list.iter().enumerate() {
-        if n < 3 {
-            first.add(*report)?;
-        }
-        whole.add(*report)?;
-    }
+    let first = log_of(alloc, list, 3)?;
+    let whole = log_of(alloc, list, 5)?;
     let Ok(mut book) = Book::new(small, plan, 1) else {
         return Ok(Step::Before);
     };
     if book.refit(small, &first).is_err() {
         return Ok(Step::Before);
     }
-    let (fits, done) = match book.refit(small, &whole) {
-        Ok(_) => (&whole, Step::Done),
-        Err(_) => (&first, Step::Refused(small.used())),
-    };
-    Ok(if bills_alike(alloc, fits, &mut book)? {
-        done
-    } else {
-        Step::Wrong
-    })
+    if book.refit(small, &whole).is_err() {
+        let octets = small.used();
+        let same = bills_alike(alloc, &first, &mut book)?;
+        return Ok(if same {
+            Step::Refused(octets)
+        } else {
+            Step::Wrong
+        });
+    }
+    let same = bills_alike(alloc, &whole, &mut book)?;
+    Ok(if same { Step::Done } else { Step::Wrong })
 }
 
 #[test]
@@ -217,11 +234,7 @@ fn a_refused_refit_leaves_the_totals(rt: HostRuntime) -> Result<(), Fail> {
             break;
         }
     }
-    let refused = met
-        .iter()
-        .filter(|step| matches!(step, Step::Refused(_)))
-        .count();
-    assert!(rt; refused > 4);
+    assert!(rt; refusals(&met) > 4);
     assert!(rt; met.contains(&Step::Before) && met.contains(&Step::Done));
     assert!(rt; !met.contains(&Step::Wrong));
     Ok(())

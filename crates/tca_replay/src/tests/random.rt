@@ -11,16 +11,16 @@ use tca_report::Report;
 // Numbers that look random, from 0 up to a bound.
 #[derive(Drop)]
 struct Numbers {
-    seed: u64,
+    seed: u32,
 }
 
 impl Numbers {
     fn below(&mut self, bound: u32) -> u32 {
         self.seed = self
             .seed
-            .wrapping_mul(6_364_136_223_846_793_005)
-            .wrapping_add(1_442_695_040_888_963_407);
-        ((self.seed >> 33) as u32).checked_rem(bound).unwrap_or(0)
+            .wrapping_mul(1_664_525)
+            .wrapping_add(1_013_904_223);
+        (self.seed >> 8).checked_rem(bound).unwrap_or(0)
     }
 }
 
@@ -38,7 +38,13 @@ fn one_of(number: u32) -> Option<Report> {
 
 // How many rows come before a report.
 fn rank(lane: &Lane<SrTcm>, report: &Report) -> usize {
-    lane.rows().filter(|row| **row < *report).count()
+    let mut count: usize = 0;
+    for row in lane.rows() {
+        if *row < *report {
+            count = count.saturating_add(1);
+        }
+    }
+    count
 }
 
 // Puts a report that is not there, or withdraws it. The answer is the least row that changed.
