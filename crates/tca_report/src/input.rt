@@ -153,7 +153,7 @@ pub fn gather(alloc: Global, octets: &[u8]) -> Result<Gathered, InputFault>
 pub fn input_words()
     ensures found { (octets : List ℕ) (after : CaptureSoFar) → AllByRecursion (λ (b : ℕ). b < 256) octets → input_of octets ≡ Ok after → IsInput octets after }
     ensures only { (octets : List ℕ) (after : CaptureSoFar) → IsInput octets after → input_of octets ≡ Ok after }
-    ensures fault { (octets : List ℕ) (f : InputFault) → AllByRecursion (λ (b : ℕ). b < 256) octets → input_of octets ≡ Err f → IsFirstFault octets f }
+    ensures fault { (octets : List ℕ) (f : InputFault) → (is_export octets ≡ true → AllByRecursion (λ (b : ℕ). b < 256) octets) → input_of octets ≡ Err f → IsFirstFault octets f }
     ensures no_other { (octets : List ℕ) (f : InputFault) → IsFirstFault octets f → input_of octets ≡ Err f }
 {}
 

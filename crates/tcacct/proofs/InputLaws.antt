@@ -1,8 +1,10 @@
 -- What an input holds, as it is added to a set.
-use Rattle.std.proofs.Common.{◌≡◌, ◌≢◌, ◌∙◌, ℕ, true, false, List, Result, Ok, Err, refl, sym, ap}
+use Rattle.std.proofs.Common.{◌≡◌, ◌≢◌, ◌∙◌, ℕ, true, false, List, Result, Ok, Err, refl, sym, ap, subst}
 use Rattle.tca_report.specs.report.Reports.{PacketReport}
-use Rattle.std.specs.Prelude.{IsOk, IsOkAnd, Bool, if◌then◌else◌, ◌<◌, length}
+use Rattle.std.specs.Prelude.{IsOk, Bool, if◌then◌else◌, ◌<◌, length}
 use Rattle.tca_report.specs.export.Reading.{reading}
+use Rattle.tca_report.specs.export.Spelling.{IsExportable, export}
+use Rattle.tca_report.proofs.lemmas.export.Spelling.{reading-export}
 use Rattle.tca_report.specs.input.Inputs.{CaptureSoFar, capture_of, exported, input_of, is_export}
 use Rattle.tca_report.specs.declared.export.ExportFault.{ExportFault}
 use Rattle.tca_report.specs.input.Gathered.{notes_of, gathered_of, reports_and_notes}
@@ -39,15 +41,12 @@ memory_alone n (Wire at fault) e = absurd cc
 memory_alone n (Decode at fault) e = absurd cc
 memory_alone n Memory e = refl
 
-still_ok : {A E : Type 0} (P : A → Type 0) (r : Result A E) → IsOkAnd r P → IsOk r
-still_ok P (Ok a) h = refl
-still_ok P (Err e) h = absurd h
-
 -- want of memory of an input is that of gathering it, which comes last
 pub memory_of_gather : (n : ℕ) (input : List ℕ) (fault : InputFault) (e : RunFault) → e ≡ input_refusal n fault
-    → (fault ≡ Memory → is_export input ≡ true → IsOkAnd (reading input) (λ rs. 0 < length rs)) → is_memory e ≡ true → IsSoundExport input
+    → (fault ≡ Memory → is_export input ≡ true → (rs : List PacketReport) × IsExportable rs × (input ≡ export rs) × (0 < length rs)) → is_memory e ≡ true → IsSoundExport input
 memory_of_gather n input fault e is last short whole =
-    still_ok _ (reading input) (last (memory_alone n fault (sym (ap is_memory is) ∙ short)) whole)
+    let spelled = last (memory_alone n fault (sym (ap is_memory is) ∙ short)) whole in
+    subst (λ (r : Result (List PacketReport) ExportFault). IsOk r) (sym (ap reading spelled.2 ∙ reading-export spelled.0 spelled.1)) refl
 
 no_fault : (r : Result (List PacketReport) ExportFault) (h : CaptureSoFar) → exported r ≡ Ok h → IsOk r
 no_fault (Ok rs) h e = refl

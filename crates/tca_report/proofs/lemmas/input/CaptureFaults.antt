@@ -257,12 +257,12 @@ capture_fault octets fault e = go (capture_after 0 nothing (frames_of octets).0)
           wrong = ended_wrong (length (concat (frames_of octets).0)) s.rest (frames_of octets).1 now fault s.ends e;
         }
 
-pub input_fault : (octets : List ℕ) (fault : InputFault) → AllByRecursion (λ (b : ℕ). b < 256) octets → input_of octets ≡ Err fault → IsFirstFault octets fault
+pub input_fault : (octets : List ℕ) (fault : InputFault) → (is_export octets ≡ true → AllByRecursion (λ (b : ℕ). b < 256) octets) → input_of octets ≡ Err fault → IsFirstFault octets fault
 input_fault octets fault all e = go (is_export octets) refl e
   where
     read : is_export octets ≡ true → (r : Result (List PacketReport) ExportFault) → reading octets ≡ r → exported r ≡ Err fault → IsFirstFault octets fault
     read k (Ok rs) j e = absurd cc
-    read k (Err f) j e = AnExport k f (export_fault octets f (bytes octets all) j) (sym (same_fault (Export f) fault e))
+    read k (Err f) j e = AnExport k f (export_fault octets f (bytes octets (all k)) j) (sym (same_fault (Export f) fault e))
 
     go : (b : Bool) → is_export octets ≡ b → cond b (exported (reading octets)) (capture_of octets) ≡ Err fault → IsFirstFault octets fault
     go true k e = read k (reading octets) refl e
