@@ -357,8 +357,9 @@ fn bills_what_no_other_report_disputes(rt: HostRuntime) -> Result<(), Fail> {
     assert!(rt; has_one_tally(&bill, octets, packets, &rows));
     let bill = billed(alloc, &[late, third, second, first])?;
     assert_eq!(rt; (bill.reports, bill.disputed, bill.unassigned), (4, 0, 0));
-    let later = ([1500, 600, 1800], [1, 1, 2]);
-    assert!(rt; has_one_tally(&bill, later.0, later.1, &[(472_222, later.0, later.1)]));
+    let (late_octets, late_packets) = ([1500, 600, 1800], [1, 1, 2]);
+    let late_rows = [(472_222, late_octets, late_packets)];
+    assert!(rt; has_one_tally(&bill, late_octets, late_packets, &late_rows));
     let other = (3, START + 60, 601, 1);
     let bill = billed(alloc, &[first, second, late, third, other])?;
     assert_eq!(rt; (bill.reports, bill.disputed, bill.unassigned), (5, 1, 0));
@@ -385,8 +386,8 @@ fn bills_by_period_and_leaves_out_what_no_account_owns(rt: HostRuntime) -> Resul
         ],
     )?;
     assert_eq!(rt; (bill.reports, bill.disputed, bill.unassigned), (3, 0, 1));
-    let one = ([100, 0, 0], [1, 0, 0]);
-    let rows = [(472_222, one.0, one.1), (472_223, one.0, one.1)];
+    let (octets, packets) = ([100, 0, 0], [1, 0, 0]);
+    let rows = [(472_222, octets, packets), (472_223, octets, packets)];
     assert!(rt; has_one_tally(&bill, [200, 0, 0], [2, 0, 0], &rows));
     Ok(())
 }

@@ -192,25 +192,25 @@ fn a_push_into_reserved_room_takes_no_memory(rt: HostRuntime) -> Result<(), Fail
     Ok(())
 }
 
-// Two maps in one heap: they clash at 5 where the items there differ, and else have a join.
-fn two_maps<'a>(
+// A map with these items at 3 and this one at 5.
+fn map_of<'a>(
     heap: &'a LocalHeap,
+    items: &[u32],
     item: u32,
-) -> Result<[ByKey<Chain<u32, &'a LocalHeap>, &'a LocalHeap>; 2], AllocError> {
-    let mut first = ByKey::new(heap);
-    first.set(3, chain_of(heap, &[1])?)?;
-    first.set(5, chain_of(heap, &[7])?)?;
-    let mut second = ByKey::new(heap);
-    second.set(3, chain_of(heap, &[1, 2])?)?;
-    second.set(5, chain_of(heap, &[item])?)?;
-    Ok([first, second])
+) -> Result<ByKey<Chain<u32, &'a LocalHeap>, &'a LocalHeap>, AllocError> {
+    let mut map = ByKey::new(heap);
+    map.set(3, chain_of(heap, items)?)?;
+    map.set(5, chain_of(heap, &[item])?)?;
+    Ok(map)
 }
 
 #[test]
 fn a_clash_is_named_where_memory_lacks(rt: HostRuntime) -> Result<(), Fail> {
     let heap = LocalHeap::new(rt.alloc(), 1 << 12)?;
-    let [mut first, second] = two_maps(&heap, 8)?;
-    let [mut third, fourth] = two_maps(&heap, 7)?;
+    let mut first = map_of(&heap, &[1], 7)?;
+    let second = map_of(&heap, &[1, 2], 8)?;
+    let mut third = map_of(&heap, &[1], 7)?;
+    let fourth = map_of(&heap, &[1, 2], 7)?;
     let none = ByKey::new(&heap);
     let taken = exhausted(rt.alloc(), &heap)?;
     let used = heap.used();

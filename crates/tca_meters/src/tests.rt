@@ -76,18 +76,33 @@ fn three_packets_get_three_colours(rt: HostRuntime) -> Result<(), Fail> {
 #[test]
 fn a_late_packet_changes_the_colours_after_it(rt: HostRuntime) -> Result<(), Fail> {
     let meter = SrTcm::new(1000, 2000, 1000, false).ok().ok_or("a meter")?;
-    let mut state = meter.start();
-    let mut time = 0;
-    for (next, octets, want) in [
-        (T, 1500, (Colour::Green, (500, 1000))),
-        (T + 50, 600, (Colour::Yellow, (550, 400))),
-        (T + 100, 1000, (Colour::Red, (600, 400))),
-        (T + 200, 800, (Colour::Red, (700, 400))),
-    ] {
-        let (colour, after) = step(&rt, &meter, state, time, next, octets, Colour::Green);
-        assert_eq!(rt; (colour, levels(after)), want);
-        (state, time) = (after, next);
-    }
+    let meter: AnyMeter = meter.into();
+    let state = meter.start();
+    let state = state_after(&rt, &meter, state, (0, T), 1500, (Colour::Green, 500, 1000));
+    let state = state_after(
+        &rt,
+        &meter,
+        state,
+        (T, T + 50),
+        600,
+        (Colour::Yellow, 550, 400),
+    );
+    let state = state_after(
+        &rt,
+        &meter,
+        state,
+        (T + 50, T + 100),
+        1000,
+        (Colour::Red, 600, 400),
+    );
+    state_after(
+        &rt,
+        &meter,
+        state,
+        (T + 100, T + 200),
+        800,
+        (Colour::Red, 700, 400),
+    );
     Ok(())
 }
 
