@@ -3,8 +3,9 @@ use Rattle.std.proofs.Common.{◌≡◌, ◌<◌, ◌+◌, ℕ, List, [], ◌∷
 use Rattle.toml.specs.View.{items_view, view}
 use Rattle.toml.specs.declared.value.Value.{Value}
 use Rattle.toml.proofs.Views.{items_view-drop}
+use Rattle.tca_wire.specs.Results.{◌>>=◌}
 use Rattle.tca_accounts.specs.Plans.{PlannedAccount}
-use Rattle.tca_accounts.specs.Documents.{◌>>=◌, account_in, accounts_from}
+use Rattle.tca_accounts.specs.Documents.{account_in, accounts_from}
 use Rattle.tca_accounts.specs.declared.fault.PlanFault.{PlanFault}
 
 next : {A : Type 0} (done : List A) (a : A) (s : Result (List A) PlanFault) → ((Ok a >>= λ x. s >>= λ others. Ok (x ∷ others)) >>= λ rest. Ok (done ++ rest)) ≡ (s >>= λ rest. Ok ((done ++ a ∷ []) ++ rest))

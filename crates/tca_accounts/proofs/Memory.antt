@@ -3,6 +3,7 @@ use Rattle.std.proofs.Common.{◌≢◌, ◌^◌, ◌-◌, ℕ, suc, pos, Bool, 
 use Rattle.std.specs.Result.{IfErr}
 use Rattle.std.specs.Str.{bytes_eq}
 use Rattle.toml.specs.Data.{Data, Items, Members, array, boolean, integer, item, no_items, string, table}
+use Rattle.tca_wire.specs.Results.{◌>>=◌}
 use Rattle.tca_meters.specs.declared.any_meter.AnyMeter.{AnyMeter}
 use Rattle.tca_meters.specs.declared.fault.MeterFault.{MeterFault}
 use Rattle.tca_accounts.specs.declared.key.Key.{Key}
@@ -13,7 +14,6 @@ use Rattle.tca_accounts.specs.declared.fault.PlanFault.{PlanFault}
 use Rattle.tca_accounts.specs.declared.fault.PlanFault.TheVariants as fault
 use Rattle.tca_accounts.specs.Plans.{is_name}
 use Rattle.tca_accounts.specs.Documents as doc
-use Rattle.tca_accounts.specs.Documents.{◌>>=◌}
 use Rattle.tca_accounts.specs.Readings.{are_accounts, are_few, together}
 
 abbrev pub Suffices : {A : Type 0} → Result A PlanFault → Type 0

@@ -3,6 +3,7 @@ use Rattle.std.specs.Prelude.{ℕ, ◌^◌, ◌-◌, suc, pos, Bool, true, false
 use Rattle.std.specs.List.{list_any}
 use Rattle.std.specs.Str.{bytes_eq}
 use Rattle.toml.specs.Data.{Data, Items, Members, array, boolean, get_member, integer, item, member, no_items, no_members, string, table}
+use Rattle.tca_wire.specs.Results.{◌>>=◌}
 use Rattle.tca_meters.specs.declared.any_meter.AnyMeter.{AnyMeter}
 use Rattle.tca_meters.specs.declared.any_meter.AnyMeter.TheVariants.{SrTcm, TrTcm, Rfc4115}
 use Rattle.tca_meters.specs.declared.colour.Colour.{Colour}
@@ -19,12 +20,7 @@ use Rattle.tca_accounts.specs.declared.kind.Kind.{Kind}
 use Rattle.tca_accounts.specs.declared.kind.Kind.TheVariants as kind
 use Rattle.tca_accounts.specs.declared.fault.PlanFault.{PlanFault}
 use Rattle.tca_accounts.specs.declared.fault.PlanFault.TheVariants as fault
-
--- the next step, unless there was a fault
-infixl 10 ◌>>=◌
-abbrev pub ◌>>=◌ : {A B : Type 0} → Result A PlanFault → (A → Result B PlanFault) → Result B PlanFault
-Ok a >>= next = next a
-Err e >>= next = Err e
+use Rattle.tca_report.specs.report.Reports.{time_end}
 
 -- what has to hold, else there is this fault
 abbrev pub only_if : Bool → PlanFault → Result Unit PlanFault
@@ -235,7 +231,7 @@ plan_with period accounts = do
 abbrev pub plan_of : Members → Result AccountPlan PlanFault
 plan_of ms = do
   known ← only_if (has_only (key.Period ∷ key.Account ∷ []) ms) fault.UnknownKey
-  period ← whole_of key.Period 1 (2 ^ 48 - 1) (at key.Period ms)
+  period ← whole_of key.Period 1 (time_end - 1) (at key.Period ms)
   items ← items_of key.Account (at key.Account ms)
   few ← only_if (nat_le 1 (count_items items) && nat_le (count_items items) 256) fault.Limits
   accounts ← accounts_from 0 items

@@ -1,5 +1,5 @@
--- The faults of plans by number, and what a call that may lack memory gives.
-use Rattle.std.specs.Prelude.{◌≡◌, ◌≢◌, ℕ, Result, Ok, Err}
+-- The faults of plans by number.
+use Rattle.std.specs.Prelude.{ℕ}
 use Rattle.tca_accounts.specs.declared.fault.PlanFault.{PlanFault}
 use Rattle.tca_accounts.specs.declared.fault.PlanFault.TheVariants.{Syntax, Missing, Wrong, UnknownKey, Meter, KeyTwice, Limits, Memory}
 
@@ -13,8 +13,3 @@ plan_number (Meter n e) = 5
 plan_number KeyTwice = 6
 plan_number Limits = 7
 plan_number Memory = 8
-
--- what a call returned, seen by view, is what the definition gives, unless memory ran out
-abbrev pub Gives : {X Y : Type 0} → (X → Y) → Result X PlanFault → Result Y PlanFault → Type 0
-Gives view (Ok x) given = given ≡ Ok (view x)
-Gives view (Err e) given = e ≢ Memory → given ≡ Err e

@@ -1,4 +1,5 @@
--- What is kept of the accounts while their reports are metered one after another.
+-- What is kept of the accounts while their reports are metered one after another. Public contracts cite the step of one report,
+-- `metered_with`, and what it is made of; the rest serves private functions and their proofs alone.
 use Rattle.std.specs.Prelude.{◌≡◌, ℕ, ◌/◌, ◌==◌, if◌then◌else◌, ◌<◌, ◌≤◌, List, [], ◌∷◌, ◌++◌, length, filter, get_or, slice_index, Option, Some, None, IfSome, MatchOption}
 use Rattle.std.specs.List.{AllByRecursion}
 use Rattle.tca_report.specs.report.Reports.{PacketReport}
@@ -14,6 +15,7 @@ use Rattle.tca_accounts.specs.declared.metered.Metered.{Metered}
 use Rattle.tca_accounts.specs.declared.running.Running.{Running}
 use Rattle.tca_accounts.specs.declared.span.Span.{Span}
 use Rattle.tca_accounts.specs.declared.tally.Tally.{Tally}
+use Rattle.tca_report.specs.export.Spelling.{most_reports}
 
 -- the sums of no packets
 abbrev pub no_sums : ColourSums
@@ -61,7 +63,7 @@ tally_so_far r = tally_at r.metered.total r.ended.items r.current
 
 -- each colour has room for one more packet
 abbrev pub HasRoom : ColourSums → Type 0
-HasRoom s = (c : Colour) → slice_index s.packets (colour_number c) < 4194304
+HasRoom s = (c : Colour) → slice_index s.packets (colour_number c) < most_reports
 
 -- there is room for one more report, in all and in the period that goes on
 pub record CanAdd (all : ColourSums) (going : Option Span) : Type 0 where

@@ -4,7 +4,7 @@ use Rattle.std.specs.List.{AllByRecursion, list_all, list_any, flat_map, positio
 use Rattle.std.specs.Str.{bytes_eq}
 use Rattle.tca_meters.specs.declared.any_meter.AnyMeter.{AnyMeter}
 use Rattle.tca_meters.specs.declared.colour.Colour.{Colour}
-use Rattle.tca_report.specs.report.Reports.{PacketReport}
+use Rattle.tca_report.specs.report.Reports.{PacketReport, time_end}
 
 -- an account: its name, its meter, the colour that a code point without a colour of its own has, and the pairs of an
 -- observation domain and an interface whose reports it owns
@@ -64,7 +64,7 @@ is_name s = nat_le 1 (length s) && (nat_le (length s) 32 && list_all is_name_oct
 -- pair and no name stands twice
 pub record IsPlan (plan : AccountPlan) : Type 0 where
   pub some_time : 0 < plan.period
-  pub time : plan.period < 2 ^ 48
+  pub time : plan.period < time_end
   pub some : 0 < length plan.accounts
   pub few : length plan.accounts ≤ 256
   pub pairs : length (all_pairs plan.accounts) ≤ most_pairs

@@ -1,11 +1,12 @@
 -- The octets and the packets of each colour.
 use Rattle.std.specs.Prelude.{ℕ, ◌+◌, ◌≤◌, ◌*◌, ◌==◌, ◌≡◌, List, [], ◌∷◌, length, sum_by, count_by, slice_index, set, if◌then◌else◌}
-use Rattle.tca_report.specs.report.Reports.{PacketReport}
+use Rattle.tca_report.specs.report.Reports.{PacketReport, most_octets}
 use Rattle.tca_meters.specs.declared.colour.Colour.{Colour}
 use Rattle.tca_meters.specs.declared.colour.Colour.TheVariants.{Green, Yellow, Red}
 use Rattle.tca_meters.specs.Colours.{colour_number}
 use Rattle.tca_meters.specs.CodePoints.{precolour}
 use Rattle.tca_meters.specs.Packets.{Packet}
+use Rattle.tca_report.specs.export.Spelling.{most_reports}
 
 -- what a meter sees of a report: its time, its octets, and as the colour that it had the one of its code point, or `other` where
 -- that has none
@@ -36,8 +37,8 @@ sums_of pairs = record {
 pub record AreInRange (s : ColourSums) : Type 0 where
   pub octets_length : length s.octets ≡ 3
   pub packets_length : length s.packets ≡ 3
-  pub packets : (c : Colour) → slice_index s.packets (colour_number c) ≤ 4194304
-  pub octets : (c : Colour) → slice_index s.octets (colour_number c) ≤ 65575 * slice_index s.packets (colour_number c)
+  pub packets : (c : Colour) → slice_index s.packets (colour_number c) ≤ most_reports
+  pub octets : (c : Colour) → slice_index s.octets (colour_number c) ≤ most_octets * slice_index s.packets (colour_number c)
 
 -- an entry that is greater by some amount
 abbrev pub added_at : ℕ → ℕ → List ℕ → List ℕ

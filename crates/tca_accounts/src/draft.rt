@@ -2,10 +2,11 @@
 ghost use Rattle.std.specs.Prelude.{◌≡◌, IfOk, IsOk};
 ghost use Rattle.std.specs.List.{list_all};
 ghost use Rattle.toml.specs.View.{table_view, view};
+ghost use Rattle.tca_wire.specs.Results.{Gives};
 ghost use Rattle.tca_accounts.specs.Documents.{account_in, colour_named, name_in, other_of};
 ghost use Rattle.tca_accounts.specs.Plans.{is_name, is_name_octet};
-ghost use Rattle.tca_accounts.specs.Faults.{Gives};
 ghost use Rattle.tca_accounts.specs.Readings.{account_read, drafted, found, mapped};
+ghost use Rattle.tca_accounts.specs.declared.fault.PlanFault.TheVariants.{Memory};
 
 use crate::account::Account;
 use crate::document::{at, has_only, text, truth_or_false};
@@ -116,7 +117,7 @@ pub(crate) fn read_account(account: u32, value: &Value) -> Result<Draft<'_>, Pla
 impl Draft<'_> {
     /// The account that it becomes.
     pub(crate) fn account(&self, alloc: Global) -> Result<Account, PlanFault>
-        ensures { Gives (λ a. a) result (drafted self.now) }
+        ensures { Gives Memory (λ a. a) result (drafted self.now) }
     {
         Ok(Account {
             name: String::from_str(alloc, self.name)?,

@@ -1,9 +1,10 @@
 //! The pairs of an observation domain and an interface that an account owns.
 ghost use Rattle.std.specs.Prelude.{◌≡◌, IfOk, IsOk};
 ghost use Rattle.toml.specs.View.{items_view, table_view, view};
+ghost use Rattle.tca_wire.specs.Results.{Gives};
 ghost use Rattle.tca_accounts.specs.Documents.{pair_in, pairs_in, pairs_of, part_of};
-ghost use Rattle.tca_accounts.specs.Faults.{Gives};
 ghost use Rattle.tca_accounts.specs.Readings.{each_is_pair, pairs_read};
+ghost use Rattle.tca_accounts.specs.declared.fault.PlanFault.TheVariants.{Memory};
 
 use crate::document::{at, items, whole};
 use crate::fault::PlanFault;
@@ -58,7 +59,7 @@ pub(crate) fn judged(table: &Table) -> Result<&[Value], PlanFault>
 
 /// The pairs that values are.
 pub(crate) fn pairs(alloc: Global, values: &[Value]) -> Result<Vec<(u32, u32)>, PlanFault>
-    ensures { Gives (λ list. list.items) result (pairs_of (items_view values.now)) }
+    ensures { Gives Memory (λ list. list.items) result (pairs_of (items_view values.now)) }
 {
     let mut list = Vec::new(alloc);
     for value in values {

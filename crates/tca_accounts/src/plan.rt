@@ -1,9 +1,11 @@
 //! A plan.
-ghost use Rattle.std.specs.Prelude.{◌≡◌, ℕ, ◌<◌, ◌≤◌, ◌^◌, IfOk, IfSome, Some, slice_get, length, map, true};
+ghost use Rattle.std.specs.Prelude.{◌≡◌, ℕ, ◌<◌, ◌≤◌, IfOk, IfSome, Some, slice_get, length, map, true};
 ghost use Rattle.std.specs.List.{AllByRecursion};
+ghost use Rattle.tca_wire.specs.Results.{Gives};
 ghost use Rattle.tca_accounts.specs.Plans.{IsPlan, PlannedAccount, account_of, is_name, owns, pair_of};
 ghost use Rattle.tca_accounts.specs.Documents.{plan_with};
-ghost use Rattle.tca_accounts.specs.Faults.{Gives};
+ghost use Rattle.tca_report.specs.report.Reports.{time_end};
+ghost use Rattle.tca_accounts.specs.declared.fault.PlanFault.TheVariants.{Memory};
 
 use crate::account::{Account, are_few, copied, names_differ};
 use crate::fault::PlanFault;
@@ -39,12 +41,12 @@ impl Plan {
     /// stands twice.
     pub(crate) fn new(alloc: Global, period: u64, accounts: Vec<Account>) -> Result<Plan, PlanFault>
         requires some_time { 0 < period }
-        requires time { period < 2 ^ 48 }
+        requires time { period < time_end }
         requires some { 0 < length accounts.items }
         requires few { length accounts.items ≤ 256 }
         requires named { AllByRecursion (λ a. is_name a.name ≡ true) accounts.items }
         requires owning { AllByRecursion (λ a. 0 < length a.pairs) accounts.items }
-        ensures { Gives (λ p. p) result (plan_with period accounts.items) }
+        ensures { Gives Memory (λ p. p) result (plan_with period accounts.items) }
     {
         if !are_few(&accounts) {
             return Err(PlanFault::Limits);

@@ -2,9 +2,11 @@
 ghost use Rattle.std.specs.Prelude.{◌≡◌, ◌≢◌, ◌<◌, ◌≤◌, ◌^◌, IfOk, IfErr, IsOk, IsUtf8, length};
 ghost use Rattle.toml.specs.Parse.{parse_document};
 ghost use Rattle.toml.specs.View.{items_view, table_view};
+ghost use Rattle.tca_wire.specs.Results.{Gives};
 ghost use Rattle.tca_accounts.specs.Documents.{accounts_from, plan_in, plan_of};
-ghost use Rattle.tca_accounts.specs.Faults.{Gives};
 ghost use Rattle.tca_accounts.specs.Readings.{plan_from};
+ghost use Rattle.tca_report.specs.report.Reports.{time_end};
+ghost use Rattle.tca_accounts.specs.declared.fault.PlanFault.TheVariants.{Memory};
 
 use crate::account::Account;
 use crate::document::{at, has_only, items, whole};
@@ -25,7 +27,7 @@ const LONGEST_PERIOD: u64 = 0xFFFF_FFFF_FFFF;
 // The accounts that values are.
 fn accounts(alloc: Global, values: &[Value]) -> Result<Vec<Account>, PlanFault>
     requires { length values.now ≤ 256 }
-    ensures exact { Gives (λ list. list.items) result (accounts_from 0 (items_view values.now)) }
+    ensures exact { Gives Memory (λ list. list.items) result (accounts_from 0 (items_view values.now)) }
     ensures count { IfOk result (λ list. length list.items ≡ length values.now) }
 {
     let mut list = Vec::new(alloc);
@@ -41,10 +43,10 @@ fn accounts(alloc: Global, values: &[Value]) -> Result<Vec<Account>, PlanFault>
 // The plan of the accounts that values are.
 fn plan_from(alloc: Global, period: u64, values: &[Value]) -> Result<Plan, PlanFault>
     requires some_time { 0 < period }
-    requires time { period < 2 ^ 48 }
+    requires time { period < time_end }
     requires some { 0 < length values.now }
     requires few { length values.now ≤ 256 }
-    ensures { Gives (λ p. p) result (plan_from period (items_view values.now)) }
+    ensures { Gives Memory (λ p. p) result (plan_from period (items_view values.now)) }
 {
     let accounts = accounts(alloc, values)?;
     Plan::new(alloc, period, accounts)
@@ -53,10 +55,10 @@ fn plan_from(alloc: Global, period: u64, values: &[Value]) -> Result<Plan, PlanF
 // The plan of the accounts that values are. That memory lacks is answered only where nothing else is wrong.
 fn judged_plan(alloc: Global, period: u64, values: &[Value]) -> Result<Plan, PlanFault>
     requires some_time { 0 < period }
-    requires time { period < 2 ^ 48 }
+    requires time { period < time_end }
     requires some { 0 < length values.now }
     requires few { length values.now ≤ 256 }
-    ensures exact { Gives (λ p. p) result (plan_from period (items_view values.now)) }
+    ensures exact { Gives Memory (λ p. p) result (plan_from period (items_view values.now)) }
     ensures last { IfErr result (λ e. e ≡ PlanFault.Memory → IsOk (plan_from period (items_view values.now))) }
 {
     match plan_from(alloc, period, values) {
@@ -108,7 +110,7 @@ impl Plan {
     /// these parameters. Then `Limits` for more than 4,096 pairs in all, and `KeyTwice` for a pair or a name that
     /// stands twice. `Memory` is answered only where the document is a plan.
     pub fn from_table(alloc: Global, table: &Table) -> Result<Plan, PlanFault>
-        ensures exact { Gives (λ p. p) result (plan_of (table_view table.now)) }
+        ensures exact { Gives Memory (λ p. p) result (plan_of (table_view table.now)) }
         ensures last { IfErr result (λ e. e ≡ PlanFault.Memory → IsOk (plan_of (table_view table.now))) }
     {
         if !has_only(table, &[Key::Period, Key::Account]) {

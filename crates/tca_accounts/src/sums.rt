@@ -3,6 +3,8 @@ ghost use Rattle.std.specs.Prelude.{◌≡◌, ◌<◌, ◌≤◌, ◌∷◌, []
 ghost use Rattle.tca_meters.specs.declared.colour.Colour.{Colour};
 ghost use Rattle.tca_meters.specs.Colours.{colour_number};
 ghost use Rattle.tca_accounts.specs.Sums.{AreInRange, with_packet};
+ghost use Rattle.tca_report.specs.export.Spelling.{most_reports};
+ghost use Rattle.tca_report.specs.report.Reports.{most_octets};
 
 use std::marker::Model;
 use tca_meters::Colour;
@@ -56,8 +58,8 @@ impl Sums {
 
     /// Counts a packet of a colour.
     pub fn count(&mut self, colour: Colour, octets: u32)
-        requires few { slice_index self.old.packets (colour_number colour) < 4194304 }
-        requires size { octets ≤ 65575 }
+        requires few { slice_index self.old.packets (colour_number colour) < most_reports }
+        requires size { octets ≤ most_octets }
         ensures { self.new ≡ with_packet colour octets self.old }
     {
         let at = colour.number();

@@ -1,6 +1,10 @@
 -- When the tokens of a rate arrive. A rate is in tokens per second, a time in milliseconds.
-use Rattle.std.specs.Prelude.{ℕ, zero, suc, ◌+◌, ◌-◌, ◌*◌, Bool, ◌&&◌, not, nat_le, List, [], ◌∷◌, length, filter}
+use Rattle.std.specs.Prelude.{ℕ, zero, suc, ◌+◌, ◌-◌, ◌*◌, ◌^◌, Bool, ◌&&◌, not, nat_le, List, [], ◌∷◌, length, filter}
 use Rattle.std.specs.List.{list_all, list_any}
+
+-- the first time, in milliseconds, that is too late for a packet
+abbrev pub time_end : ℕ
+time_end = 2 ^ 48
 
 -- the most tokens per second of a rate, and the most tokens of a burst
 abbrev pub most_rate : ℕ

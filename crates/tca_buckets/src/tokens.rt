@@ -1,6 +1,6 @@
 //! The tokens of a rate that arrive in an interval.
-ghost use Rattle.std.specs.Prelude.{◌≡◌, ◌<◌, ◌≤◌, ◌^◌};
-ghost use Rattle.tca_buckets.specs.Tokens.{due, most_rate};
+ghost use Rattle.std.specs.Prelude.{◌≡◌, ◌<◌, ◌≤◌};
+ghost use Rattle.tca_buckets.specs.Tokens.{due, most_rate, time_end};
 
 /// The tokens of a rate of `rate` tokens per second that arrive after `from` and at or before `to`,
 /// both in milliseconds. Token `k`, counted from 1, arrives at the least millisecond `t` at which
@@ -8,7 +8,7 @@ ghost use Rattle.tca_buckets.specs.Tokens.{due, most_rate};
 pub fn ticks(rate: u64, from: u64, to: u64) -> u128
     requires rate { rate ≤ most_rate }
     requires order { from ≤ to }
-    requires time { to < 2 ^ 48 }
+    requires time { to < time_end }
     ensures { result ≡ due rate from to }
 {
     // Divisions of 128 bits are slow, so only the part of the rate below a token per millisecond

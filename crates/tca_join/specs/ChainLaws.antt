@@ -3,7 +3,7 @@ use Rattle.std.specs.Prelude.{◌≡◌, ℕ, suc, zero, Option, None, Some, Boo
 use Rattle.std.proofs.Common.{refl, ◌∙◌, arith}
 use Rattle.std.specs.Cmp.{IsEquivalence}
 use Rattle.tca_join.specs.Joins.{IsJoin}
-use Rattle.tca_join.specs.Chains.{IsChain, next, differ_at, longer, AreEqual, chain_clash, chain_full, IsSameChain, chain_joined}
+use Rattle.tca_join.specs.Chains.{IsChain, next, differ_at, longer, AreEqual, chain_clash, chain_full, IsSameChain, chain_joined, most_items}
 
 -- they agree where both have items
 abbrev Agree : {T : Type 0} → (T → T → Bool) → List T → List T → Type 0
@@ -93,7 +93,7 @@ module _ {T : Type 0} (eq : T → T → Bool) (equiv : IsEquivalence eq) where
     itself = λ a. equal_itself a.items;
     back = λ a b h. equal_back a.items b.items h;
     through = λ a b c h k. equal_through a.items b.items c.items h k;
-    stays = λ a b p q e. longer_within 4194304 a.items b.items p q;
+    stays = λ a b p q e. longer_within most_items a.items b.items p q;
     alike = λ a b x y p q r s h k e. let all = alike a.items b.items x.items y.items h k (agree a.items b.items e.0) in ((agreed x.items y.items all.0, refl), all.1);
     again = λ a p. let all = again a.items in ((agreed a.items a.items all.0, refl), all.1);
     commutes = λ a b p q e. let all = commutes a.items b.items (agree a.items b.items e.0) in ((agreed b.items a.items all.0, refl), all.1);

@@ -15,13 +15,17 @@ chain items room = record { items = items; room = room }
 abbrev pub chain_code : {T : Type 0} → Coded T → Coded (ChainView T)
 chain_code {T} t = code_by (List T × Bool) (coded× (coded_list t) coded_bool) (λ c. (c.items, c.room)) (λ p. chain p.0 p.1) (λ _. refl)
 
--- a chain has at most 4,194,304 items
+-- the most items of a chain
+abbrev pub most_items : ℕ
+most_items = 4194304
+
+-- a chain has no more
 abbrev pub IsChain : {T : Type 0} → ChainView T → Type 0
-IsChain c = length c.items ≤ 4194304
+IsChain c = length c.items ≤ most_items
 
 -- what holds of a chain's fields: it is within the limit, and room that was reserved is there
 pub record IsKept (count capacity : ℕ) (ready : Bool) : Type 0 where
-  pub within : count ≤ 4194304
+  pub within : count ≤ most_items
   pub spare : ready ≡ true → count < capacity
 
 -- an index counted from one item further on

@@ -1,6 +1,6 @@
 //! Items in a row, of which the longer chain is kept.
 ghost use Rattle.std.specs.Prelude.{◌≡◌, ◌+◌, ◌<◌, ◌≤◌, None, [], ◌∷◌, ◌++◌, true, false, length, slice_get, OnOk, OnErr, IfErr, IfOk, IsOk, MatchOption};
-ghost use Rattle.tca_join.specs.Chains.{chain, IsChain, differ_at, chain_clash, chain_full, chain_joined, IsSameChain};
+ghost use Rattle.tca_join.specs.Chains.{chain, IsChain, differ_at, chain_clash, chain_full, chain_joined, IsSameChain, most_items};
 ghost use Rattle.tca_join.specs.ChainLaws.{chain_laws};
 ghost use Rattle.tca_join.specs.Joins.{Compatible};
 ghost use Rattle.tca_join.specs.Faults.{IsJoinFault};
@@ -81,7 +81,7 @@ impl<T: Copy + Eq, A: Allocator + Clone> Chain<T, A> {
     /// Adds an item at the end, into the room that was reserved. It takes no memory.
     pub fn push(&mut self, item: T)
         requires room { self.old.room ≡ true }
-        requires limit { length self.old.items < 4194304 }
+        requires limit { length self.old.items < most_items }
         ensures { self.new ≡ chain (self.old.items ++ item ∷ []) false }
     {
         self.items.push(item).unwrap();

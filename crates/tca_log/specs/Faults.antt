@@ -3,6 +3,7 @@ use Rattle.std.specs.Prelude.{◌≡◌, ◌<◌, ◌≤◌, ℕ, List, length}
 use Rattle.tca_report.specs.report.Reports.{PacketReport}
 use Rattle.tca_log.specs.declared.fault.LogFault.{LogFault}
 use Rattle.tca_log.specs.declared.fault.LogFault.TheVariants.{Full, Memory}
+use Rattle.tca_report.specs.export.Spelling.{most_reports}
 
 -- the number of a fault
 abbrev pub fault_number : LogFault → ℕ
@@ -11,13 +12,13 @@ fault_number Memory = 2
 
 -- a set that has room for no further report is full, and memory was asked for only where there was room
 abbrev pub IsAddRefused : LogFault → List PacketReport → Type 0
-IsAddRefused Full rs = length rs ≡ 4194304
-IsAddRefused Memory rs = length rs < 4194304
+IsAddRefused Full rs = length rs ≡ most_reports
+IsAddRefused Memory rs = length rs < most_reports
 
 -- full exactly where so many reports are above the limit
 abbrev pub IsRefusedBy : LogFault → ℕ → Type 0
-IsRefusedBy Full count = 4194304 < count
-IsRefusedBy Memory count = count ≤ 4194304
+IsRefusedBy Full count = most_reports < count
+IsRefusedBy Memory count = count ≤ most_reports
 
 -- full exactly where the union is above the limit
 abbrev pub IsUnionRefused : LogFault → List PacketReport → Type 0

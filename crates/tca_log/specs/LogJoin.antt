@@ -9,11 +9,12 @@ use Rattle.tca_join.proofs.Sets.{rises_in_order}
 use Rattle.tca_join.proofs.Unions.{union_commutes, union_associates, union_again, union_longer}
 use Rattle.tca_report.specs.report.Reports.{PacketReport, report_cmp}
 use Rattle.tca_report.proofs.lemmas.report.Order.{report_total, report_exact}
+use Rattle.tca_report.specs.export.Spelling.{most_reports}
 
 -- a log's set rises strictly and has at most 4,194,304 reports
 pub record IsLogSet (rs : List PacketReport) : Type 0 where
   pub rises : IsStrictlySortedBy report_cmp rs
-  pub limit : length rs ≤ 4194304
+  pub limit : length rs ≤ most_reports
 
 -- no two logs clash
 abbrev pub log_clash : List PacketReport → List PacketReport → Option ℕ
@@ -25,13 +26,13 @@ log_joined a b = in_order report_cmp (a ++ b)
 
 -- whether the union has too many reports
 abbrev pub log_full : List PacketReport → List PacketReport → Bool
-log_full a b = nat_lt 4194304 (length (log_joined a b))
+log_full a b = nat_lt most_reports (length (log_joined a b))
 
-few : (a b : List PacketReport) → log_full a b ≡ false → length (log_joined a b) ≤ 4194304
-few a b h = ltb-false 4194304 (length (log_joined a b)) h
+few : (a b : List PacketReport) → log_full a b ≡ false → length (log_joined a b) ≤ most_reports
+few a b h = ltb-false most_reports (length (log_joined a b)) h
 
-fits : (a b : List PacketReport) → length (log_joined a b) ≤ 4194304 → log_full a b ≡ false
-fits a b h = le-ltb 4194304 (length (log_joined a b)) h
+fits : (a b : List PacketReport) → length (log_joined a b) ≤ most_reports → log_full a b ≡ false
+fits a b h = le-ltb most_reports (length (log_joined a b)) h
 
 commutes : (a b : List PacketReport) → log_joined a b ≡ log_joined b a
 commutes = union_commutes report_cmp report_total report_exact
@@ -56,7 +57,7 @@ log_laws = record {
   again = λ a p.
       let is = union_again report_cmp report_total report_exact a p.rises in
       ((refl, fits a a (omega (arith, ap length is, p.limit))), is);
-  commutes = λ a b p q e. ((refl, ap (λ (z : List PacketReport). nat_lt 4194304 (length z)) (commutes b a) ∙ e.1), commutes a b);
+  commutes = λ a b p q e. ((refl, ap (λ (z : List PacketReport). nat_lt most_reports (length z)) (commutes b a) ∙ e.1), commutes a b);
   associates = λ a b c p q r e f.
       let all = few (log_joined a b) c f.1 in (
         (refl, fits b c (omega (arith, within_all a b c, all))),

@@ -12,6 +12,7 @@ use Rattle.tca_log.specs.declared.answer.Added.TheVariants.{Fresh, NewDispute, M
 use Rattle.tca_log.specs.declared.by_identity.ByIdentity.{ByIdentity}
 use Rattle.tca_log.specs.Rows.Ordered.{tied, Ordered}
 use Rattle.tca_log.specs.Disputes.{by_identity_cmp, contents, disputed}
+use Rattle.tca_report.specs.export.Spelling.{most_reports}
 
 -- the order of the index
 abbrev pub index_cmp : ByIdentity → ByIdentity → Ordering
@@ -28,7 +29,7 @@ count_at rs i = length (contents rs i)
 -- a log's three parts agree
 pub record IsLog (rs : List PacketReport) (index : List ByIdentity) (disputed_identities : List Identity) : Type 0 where
   pub rises : IsStrictlySortedBy report_cmp rs
-  pub limit : length rs ≤ 4194304
+  pub limit : length rs ≤ most_reports
   pub known : (r : PacketReport) → has index_cmp index (indexed r) ≡ nat_lt 0 (count_at rs (identity_of r))
   pub among : AllByRecursion (λ b. has report_cmp rs b.report ≡ true) index
   pub disputed_are : disputed_identities ≡ disputed rs
@@ -42,7 +43,7 @@ index_rows index = option_map (λ o. o.rows) index
 -- a log's set and its disputed identities agree, and its index with both, where it has one
 pub record IsKept (rs : List PacketReport) (index : Option (List ByIdentity)) (disputed_identities : List Identity) : Type 0 where
   pub rises : IsStrictlySortedBy report_cmp rs
-  pub limit : length rs ≤ 4194304
+  pub limit : length rs ≤ most_reports
   pub disputed_are : disputed_identities ≡ disputed rs
   pub fewer_disputed : length disputed_identities ≤ length rs
   pub indexed : IfSome index (λ ix. IsLog rs ix disputed_identities)

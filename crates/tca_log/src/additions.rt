@@ -4,6 +4,7 @@ ghost use Rattle.tca_log.specs.declared.by_identity.ByIdentity.{ByIdentity};
 ghost use Rattle.std.specs.List.Sorted.{IsPermutation};
 ghost use Rattle.tca_log.specs.Logs.{indexed};
 ghost use Rattle.tca_log.specs.Additions.{with_report, with_reports};
+ghost use Rattle.tca_log.specs.Rows.Ordered.{most_rows};
 
 use crate::by_identity::ByIdentity;
 use crate::rows::Rows;
@@ -44,8 +45,8 @@ impl<A: Allocator + Copy> Additions<A> {
         disputed: &Rows<Identity, A>,
         key: ByIdentity,
     ) -> Result<(), AllocError>
-        requires few { length self.old.fresh < 4194304 }
-        requires few_disputed { length self.old.newly_disputed < 4194304 }
+        requires few { length self.old.fresh < most_rows }
+        requires few_disputed { length self.old.newly_disputed < most_rows }
         ensures { OnOk result (self.new ≡ with_report index.now.rows disputed.now.rows key self.old) }
     {
         if !index.contains(&key) && !self.fresh.contains(&key) {
@@ -69,7 +70,7 @@ fn additions_in_order<A: Allocator + Copy>(
     disputed: &Rows<Identity, A>,
     keys: &[ByIdentity],
 ) -> Result<Additions<A>, AllocError>
-    requires { length keys.now ≤ 4194304 }
+    requires { length keys.now ≤ most_rows }
     ensures { IfOk result (λ n. n ≡ with_reports index.now.rows disputed.now.rows keys.now (record { fresh = []; newly_disputed = [] })) }
 {
     let mut additions = Additions::new(alloc);
@@ -100,7 +101,7 @@ pub(crate) fn additions_of<A: Allocator + Copy>(
     disputed: &Rows<Identity, A>,
     news: &Rows<Report, A>,
 ) -> Result<Additions<A>, AllocError>
-    requires few { length news.now.rows ≤ 4194304 }
+    requires few { length news.now.rows ≤ most_rows }
     ensures { IfOk result (λ n. (keys : List ByIdentity) × IsPermutation (map indexed news.now.rows) keys
         × (n ≡ with_reports index.now.rows disputed.now.rows keys (record { fresh = []; newly_disputed = [] }))) }
 {

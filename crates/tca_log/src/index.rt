@@ -4,6 +4,7 @@ ghost use Rattle.std.specs.List.Sorted.{IsStrictlySortedBy};
 ghost use Rattle.tca_report.specs.report.Reports.{report_cmp};
 ghost use Rattle.tca_report.specs.declared.report.Identity.{Identity};
 ghost use Rattle.tca_log.specs.Logs.{first_of, is_disputed, answered, index_after, disputed_after, index_rows, IsKept, IsLog};
+ghost use Rattle.tca_log.specs.Rows.Ordered.{most_rows};
 
 use crate::additions::additions_of;
 use crate::answer::Added;
@@ -19,8 +20,8 @@ pub(crate) fn enter<A: Allocator + Copy>(
     disputed: &mut Rows<Identity, A>,
     report: Report,
 ) -> Result<Added, AllocError>
-    requires few { length index.old.rows < 4194304 }
-    requires few_disputed { length disputed.old.rows < 4194304 }
+    requires few { length index.old.rows < most_rows }
+    requires few_disputed { length disputed.old.rows < most_rows }
     ensures answer { IfOk result (λ a. a ≡ answered (first_of index.old.rows report) (is_disputed disputed.old.rows report)) }
     ensures index { OnOk result (index.new.rows ≡ index_after (first_of index.old.rows report) report index.old.rows) }
     ensures disputed { OnOk result (disputed.new.rows ≡ disputed_after (first_of index.old.rows report) (is_disputed disputed.old.rows report) report disputed.old.rows) }
@@ -50,7 +51,7 @@ pub(crate) fn index_of<A: Allocator + Copy>(
     kept: Option<Rows<ByIdentity, A>>,
 ) -> Result<Rows<ByIdentity, A>, AllocError>
     requires rises { IsStrictlySortedBy report_cmp rows.now.rows }
-    requires few { length rows.now.rows ≤ 4194304 }
+    requires few { length rows.now.rows ≤ most_rows }
     ensures { IfOk result (λ index. (disputed_identities : List Identity) → IsKept rows.now.rows (index_rows kept) disputed_identities → IsLog rows.now.rows index.rows disputed_identities) }
 {
     if let Some(index) = kept {

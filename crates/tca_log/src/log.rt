@@ -6,6 +6,7 @@ ghost use Rattle.tca_report.specs.report.Reports.{PacketReport, report_cmp};
 ghost use Rattle.tca_log.specs.Arrivals.{Arrival, One, after, after_all, all_given};
 ghost use Rattle.tca_log.specs.Disputes.{added, undisputed, disputed};
 ghost use Rattle.tca_log.specs.Faults.{IsAddRefused};
+ghost use Rattle.tca_report.specs.export.Spelling.{most_reports};
 
 use crate::answer::Added;
 use crate::by_identity::ByIdentity;
@@ -57,7 +58,7 @@ impl<A: Allocator + Copy> Log<A> {
     /// How many reports there are.
     pub fn len(&self) -> u32
         ensures length { result ≡ length self.now }
-        ensures limit { length self.now ≤ 4194304 }
+        ensures limit { length self.now ≤ most_reports }
     {
         self.rows.len() as u32
     }
@@ -80,7 +81,7 @@ impl<A: Allocator + Copy> Log<A> {
     pub fn reports(&self) -> RowsIter<'_, Report, A>
         ensures all { result ≡ self.now }
         ensures rises { IsStrictlySortedBy report_cmp self.now }
-        ensures limit { length self.now ≤ 4194304 }
+        ensures limit { length self.now ≤ most_reports }
     {
         self.rows.iter()
     }
@@ -89,7 +90,7 @@ impl<A: Allocator + Copy> Log<A> {
     pub fn settled(&self) -> Settled<'_, A>
         ensures all { result ≡ undisputed self.now }
         ensures rises { IsStrictlySortedBy report_cmp (undisputed self.now) }
-        ensures limit { length (undisputed self.now) ≤ 4194304 }
+        ensures limit { length (undisputed self.now) ≤ most_reports }
     {
         Settled::new(&self.rows, &self.disputed)
     }

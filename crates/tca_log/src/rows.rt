@@ -6,7 +6,7 @@ ghost use Rattle.std.specs.List.{All};
 ghost use Rattle.std.specs.List.Sorted.{IsStrictlySortedBy};
 ghost use Rattle.tca_join.specs.Sets.{has, put};
 ghost use Rattle.tca_log.specs.Rows.Chunks.{joined, AreChunks};
-ghost use Rattle.tca_log.specs.Rows.Ordered.{without, rank, tied, put_each, without_each, AreApart, Ordered};
+ghost use Rattle.tca_log.specs.Rows.Ordered.{without, rank, tied, put_each, without_each, AreApart, Ordered, most_rows};
 
 mod chunk;
 mod iter;
@@ -57,7 +57,7 @@ impl<K: Ord + Copy, A: Allocator + Copy> Rows<K, A> {
     /// A container of rows that ascend. It copies them chunk by chunk.
     pub(crate) fn of_ascending(alloc: A, rows: &[K]) -> Result<Rows<K, A>, AllocError>
         requires rises { IsStrictlySortedBy K.cmp rows.now }
-        requires few { length rows.now ≤ 4194304 }
+        requires few { length rows.now ≤ most_rows }
         ensures { IfOk result (λ all. all.rows ≡ rows.now) }
     {
         Ok(Rows {
@@ -75,7 +75,7 @@ impl<K: Ord + Copy, A: Allocator + Copy> Rows<K, A> {
     /// How many rows there are.
     pub fn len(&self) -> usize
         ensures length { result ≡ length self.now.rows }
-        ensures limit { length self.now.rows ≤ 4194304 }
+        ensures limit { length self.now.rows ≤ most_rows }
         ensures rises { IsStrictlySortedBy K.cmp self.now.rows }
     {
         self.count
@@ -84,7 +84,7 @@ impl<K: Ord + Copy, A: Allocator + Copy> Rows<K, A> {
     /// The rows in order.
     pub fn iter(&self) -> RowsIter<'_, K, A>
         ensures rows { result ≡ self.now.rows }
-        ensures limit { length self.now.rows ≤ 4194304 }
+        ensures limit { length self.now.rows ≤ most_rows }
         ensures rises { IsStrictlySortedBy K.cmp self.now.rows }
     {
         RowsIter::new(&[], &self.chunks)
@@ -146,7 +146,7 @@ impl<K: Ord + Copy, A: Allocator + Copy> Rows<K, A> {
     pub fn put(&mut self, key: K)
         requires ready { self.old.ready ≡ true }
         requires new { has K.cmp self.old.rows key ≡ false }
-        requires few { length self.old.rows < 4194304 }
+        requires few { length self.old.rows < most_rows }
         ensures { self.new.rows ≡ put K.cmp key self.old.rows }
     {
         self.count += 1;
@@ -166,7 +166,7 @@ impl<K: Ord + Copy, A: Allocator + Copy> Rows<K, A> {
     /// Puts all rows of another container, or none where memory is short.
     pub(crate) fn put_all(&mut self, other: &Rows<K, A>) -> Result<(), AllocError>
         requires apart { AreApart K.cmp other.now.rows self.old.rows }
-        requires few { length self.old.rows + length other.now.rows ≤ 4194304 }
+        requires few { length self.old.rows + length other.now.rows ≤ most_rows }
         ensures ok { OnOk result (self.new.rows ≡ put_each K.cmp other.now.rows self.old.rows) }
         ensures err { OnErr result (self.new.rows ≡ self.old.rows) }
     {
@@ -187,7 +187,7 @@ impl<K: Ord + Copy, A: Allocator + Copy> Rows<K, A> {
     /// other, which costs nothing.
     pub(crate) fn take_all(&mut self, other: Rows<K, A>) -> Result<(), AllocError>
         requires apart { AreApart K.cmp other.rows self.old.rows }
-        requires few { length self.old.rows + length other.rows ≤ 4194304 }
+        requires few { length self.old.rows + length other.rows ≤ most_rows }
         ensures ok { OnOk result (self.new.rows ≡ put_each K.cmp other.rows self.old.rows) }
         ensures err { OnErr result (self.new.rows ≡ self.old.rows) }
     {

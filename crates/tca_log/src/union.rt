@@ -5,7 +5,7 @@ ghost use Rattle.tca_join.specs.Sets.{in_order};
 ghost use Rattle.tca_report.specs.report.Reports.{report_cmp};
 ghost use Rattle.tca_report.specs.report.Identities.{identity_cmp};
 ghost use Rattle.tca_log.specs.Arrivals.{Many, after};
-ghost use Rattle.tca_log.specs.Rows.Ordered.{put_each, without_each, AreApart};
+ghost use Rattle.tca_log.specs.Rows.Ordered.{put_each, without_each, AreApart, most_rows};
 ghost use Rattle.tca_log.specs.Faults.{IsUnionRefused, IsRefusedBy};
 ghost use Rattle.tca_log.specs.LogJoin.{log_full};
 ghost use Rattle.tca_log.specs.Logs.{index_cmp, index_rows, IsKept, IsLog};
@@ -88,7 +88,7 @@ fn news_in<A: Allocator + Copy>(
     reports: Vec<Report, A>,
 ) -> Result<Rows<Report, A>, LogFault>
     ensures news { IfOk result (λ news. news.rows ≡ without_each report_cmp rows.now.rows (in_order report_cmp reports.items)) }
-    ensures few { OnOk result (length rows.now.rows + length (without_each report_cmp rows.now.rows (in_order report_cmp reports.items)) ≤ 4194304) }
+    ensures few { OnOk result (length rows.now.rows + length (without_each report_cmp rows.now.rows (in_order report_cmp reports.items)) ≤ most_rows) }
     ensures fault { IfErr result (λ e. IsRefusedBy e (length rows.now.rows + length (without_each report_cmp rows.now.rows (in_order report_cmp reports.items)))) }
     ensures nothing { length (without_each report_cmp rows.now.rows (in_order report_cmp reports.items)) ≡ 0 → IsOk result }
 {
@@ -115,7 +115,7 @@ fn count_new<A: Allocator + Copy>(rows: &Rows<Report, A>, reports: &[Report]) ->
 
 // Whether the rows are too many together with those of a list that are not among them.
 fn is_over<A: Allocator + Copy>(rows: &Rows<Report, A>, reports: &[Report]) -> bool
-    ensures over { result ≡ nat_lt 4194304 (length rows.now.rows + length (without_each report_cmp rows.now.rows reports.now)) }
+    ensures over { result ≡ nat_lt most_rows (length rows.now.rows + length (without_each report_cmp rows.now.rows reports.now)) }
     ensures nothing { length (without_each report_cmp rows.now.rows reports.now) ≡ 0 → result ≡ false }
 {
     let room = LIMIT - rows.len();
@@ -129,7 +129,7 @@ fn news_of<A: Allocator + Copy>(
     set: &[Report],
 ) -> Result<Rows<Report, A>, AllocError>
     requires rises { IsStrictlySortedBy report_cmp set.now }
-    requires few { length (without_each report_cmp rows.now.rows set.now) ≤ 4194304 }
+    requires few { length (without_each report_cmp rows.now.rows set.now) ≤ most_rows }
     ensures news { IfOk result (λ news. news.rows ≡ without_each report_cmp rows.now.rows set.now) }
     ensures nothing { length (without_each report_cmp rows.now.rows set.now) ≡ 0 → IsOk result }
 {
@@ -156,7 +156,7 @@ fn take_in<A: Allocator + Copy>(
     requires log { IsKept rows.old.rows (index_rows index.old) disputed.old.rows }
     requires rises { IsStrictlySortedBy report_cmp news.rows }
     requires apart { AreApart report_cmp news.rows rows.old.rows }
-    requires few { length rows.old.rows + length news.rows ≤ 4194304 }
+    requires few { length rows.old.rows + length news.rows ≤ most_rows }
     ensures ok { OnOk result (rows.new.rows ≡ put_each report_cmp news.rows rows.old.rows) }
     ensures err { OnErr result (rows.new.rows ≡ rows.old.rows) }
     ensures log { IsKept rows.new.rows (index_rows index.new) disputed.new.rows }
@@ -182,7 +182,7 @@ fn take_with_index<A: Allocator + Copy>(
     requires log { IsLog rows.old.rows index.old.rows disputed.old.rows }
     requires rises { IsStrictlySortedBy report_cmp news.rows }
     requires apart { AreApart report_cmp news.rows rows.old.rows }
-    requires few { length rows.old.rows + length news.rows ≤ 4194304 }
+    requires few { length rows.old.rows + length news.rows ≤ most_rows }
     ensures ok { OnOk result (rows.new.rows ≡ put_each report_cmp news.rows rows.old.rows) }
     ensures err { OnErr result (rows.new.rows ≡ rows.old.rows) }
     ensures log { IsLog rows.new.rows index.new.rows disputed.new.rows }
@@ -208,9 +208,9 @@ fn put_additions<A: Allocator + Copy>(
     additions: Additions<A>,
 ) -> Result<(), AllocError>
     requires apart { AreApart index_cmp additions.fresh index.old.rows }
-    requires few { length index.old.rows + length additions.fresh ≤ 4194304 }
+    requires few { length index.old.rows + length additions.fresh ≤ most_rows }
     requires apart_disputed { AreApart identity_cmp additions.newly_disputed disputed.old.rows }
-    requires few_disputed { length disputed.old.rows + length additions.newly_disputed ≤ 4194304 }
+    requires few_disputed { length disputed.old.rows + length additions.newly_disputed ≤ most_rows }
     ensures index { OnOk result (index.new.rows ≡ put_each index_cmp additions.fresh index.old.rows) }
     ensures disputed { OnOk result (disputed.new.rows ≡ put_each identity_cmp additions.newly_disputed disputed.old.rows) }
     ensures err { OnErr result (index.new.rows ≡ index.old.rows) }

@@ -31,9 +31,12 @@ impl MeterFault {
     }
 }
 
+// The most tokens per second of a rate, and the most tokens of a burst.
+const MOST_RATE: u64 = 1_000_000_000_000;
+
 /// Whether a rate or a burst size is in its range.
 pub(crate) fn in_range(value: u64) -> bool
     ensures { result ≡ in_range value }
 {
-    value <= 1_000_000_000_000
+    value <= MOST_RATE
 }

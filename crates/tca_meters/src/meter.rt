@@ -1,7 +1,8 @@
 //! What a meter is: the trait and its laws.
-ghost use Rattle.std.specs.Prelude.{◌≡◌, ◌<◌, ◌≤◌, ◌^◌, Bool};
+ghost use Rattle.std.specs.Prelude.{◌≡◌, ◌<◌, ◌≤◌, Bool};
 ghost use Rattle.tca_meters.specs.Packets.{Rule};
 ghost use Rattle.tca_meters.specs.Laws.{IsAdditive, KeepsSizes, NeverBetters, IgnoresPrecolours, RedKeeps};
+ghost use Rattle.tca_buckets.specs.Tokens.{time_end};
 
 use crate::colour::Colour;
 
@@ -25,7 +26,7 @@ pub trait Meter {
     /// The state after the tokens that arrive after `from` and at or before `to`, in milliseconds.
     fn advance(&self, state: Self::State, from: u64, to: u64) -> Self::State
         requires order { from ≤ to }
-        requires time { to < 2 ^ 48 }
+        requires time { to < time_end }
         ensures { result ≡ (rule self.now).filled from to state };
 
     /// The colour of a packet of so many octets with this precolour, and the state after it.

@@ -1,6 +1,7 @@
 //! One step of metering.
-ghost use Rattle.std.specs.Prelude.{◌≡◌, ◌<◌, ◌≤◌, ◌^◌};
+ghost use Rattle.std.specs.Prelude.{◌≡◌, ◌<◌, ◌≤◌};
 ghost use Rattle.tca_meters.specs.Packets.{answer};
+ghost use Rattle.tca_buckets.specs.Tokens.{time_end};
 
 use crate::colour::Colour;
 use crate::meter::Meter;
@@ -17,7 +18,7 @@ pub fn meter_packet<M: Meter>(
     pre: Colour,
 ) -> (Colour, M::State)
     requires order { last ≤ time }
-    requires limit { time < 2 ^ 48 }
+    requires limit { time < time_end }
     ensures { result ≡ answer (M.rule meter.now) state last (record { time = time; octets = octets; pre = pre }) }
 {
     let filled = meter.advance(state, last, time);

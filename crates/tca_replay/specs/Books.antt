@@ -15,6 +15,8 @@ use Rattle.tca_accounts.specs.Bills.{coloured_by, is_number, reports_of, unassig
 use Rattle.tca_accounts.specs.declared.tally.Tally.{Tally}
 use Rattle.tca_replay.specs.Lanes.{LaneView, lane_put, lane_less, lane_ready, lane_resumed}
 use Rattle.tca_log.specs.Next.{reports_after, disputed_after, count_after}
+use Rattle.tca_report.specs.export.Spelling.{most_reports}
+use Rattle.tca_log.specs.Rows.Ordered.{most_rows}
 
 -- What callers see of a book: a plan, how many rows there are from a mark to the next, a lane for each account, and the counts
 -- of a bill.
@@ -106,7 +108,7 @@ pub record Takes (b : BookView) (r : PacketReport) (a : Added) : Type 0 where
   pub rises : IsStrictlySortedBy report_cmp set
   pub fits : Fits set b
   pub answer : a ≡ added set r
-  pub few : length (put report_cmp r set) ≤ 4194304
+  pub few : length (put report_cmp r set) ≤ most_reports
 
 -- the tally of a lane's rows
 abbrev pub lane_tally : LaneView AnyMeter → Tally
@@ -128,7 +130,7 @@ one_if b = if b then 1 else 0
 pub record CanPut (l : LaneView AnyMeter) (r : PacketReport) : Type 0 where
   pub ready_is : l.ready ≡ true
   pub new : has report_cmp l.rows r ≡ false
-  pub few : length l.rows < 4194304
+  pub few : length l.rows < most_rows
 
 abbrev pub CanEnter : AccountPlan → List (LaneView AnyMeter) → PacketReport → Type 0
 CanEnter plan lanes r = (n : ℕ) (l : LaneView AnyMeter) → n < length lanes → account_of plan r ≡ Some n → CanPut (get_or lanes n l) r

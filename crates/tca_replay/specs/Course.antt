@@ -1,4 +1,4 @@
--- Metering a list of reports from a state on.
+-- Metering a list of reports from a state on. No public contract cites this: it serves the fields of lanes and private functions alone.
 use Rattle.std.specs.Prelude.{ℕ, List, [], ◌∷◌, Option, Some, None}
 use Rattle.tca_report.specs.report.Reports.{PacketReport}
 use Rattle.tca_meters.specs.declared.colour.Colour.{Colour}

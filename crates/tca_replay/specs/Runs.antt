@@ -1,4 +1,4 @@
--- What a run of the code stands for.
+-- What a run of the code stands for. No public contract cites this: it serves the fields of lanes and private functions alone.
 use Rattle.std.specs.Prelude.{List}
 use Rattle.tca_meters.specs.Packets.{Rule}
 use Rattle.tca_accounts.specs.declared.span.Span.{Span}

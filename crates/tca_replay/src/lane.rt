@@ -1,8 +1,8 @@
 //! The rows of one account, metered again from marks.
-ghost use Rattle.std.specs.Prelude.{◌≡◌, ℕ, ◌^◌, true, false, ◌+◌, ◌-◌, ◌*◌, ◌<◌, ◌≤◌, [], length, take, get_or, IfOk, OnOk, OnErr, None, Some, IfSome, vec_len, vec_capacity};
-ghost use Rattle.tca_report.specs.report.Reports.{report_cmp};
+ghost use Rattle.std.specs.Prelude.{◌≡◌, ℕ, true, false, ◌+◌, ◌-◌, ◌*◌, ◌<◌, ◌≤◌, [], length, take, get_or, IfOk, OnOk, OnErr, None, Some, IfSome, vec_len, vec_capacity};
+ghost use Rattle.tca_report.specs.report.Reports.{report_cmp, time_end};
 ghost use Rattle.tca_join.specs.Sets.{has, put};
-ghost use Rattle.tca_log.specs.Rows.Ordered.{without, rank};
+ghost use Rattle.tca_log.specs.Rows.Ordered.{without, rank, most_rows};
 ghost use Rattle.tca_replay.specs.Lanes.{lane_put, lane_less, lane_ready, lane_resumed, lower_of};
 ghost use Rattle.tca_replay.specs.Course.{start};
 ghost use Rattle.tca_accounts.specs.Bills.{coloured_by, tally_of};
@@ -60,7 +60,7 @@ impl<M: Meter, A: Allocator + Copy> Lane<M, A> {
     /// milliseconds, and how many rows there are from a mark to the next. It takes no memory.
     pub fn new(alloc: A, meter: M, other: Colour, period: u64, k: u32) -> Lane<M, A>
         requires some_time { 0 < period }
-        requires time { period < 2 ^ 48 }
+        requires time { period < time_end }
         requires some_rows { 0 < k }
         requires few_rows { k ≤ 65536 }
         ensures { result ≡ record { meter = meter; other = other; period = period; k = k; rows = []; changed = None; ready = false } }
@@ -89,7 +89,7 @@ impl<M: Meter, A: Allocator + Copy> Lane<M, A> {
     /// How many rows there are.
     pub fn len(&self) -> usize
         ensures length { result ≡ length self.now.rows }
-        ensures limit { length self.now.rows ≤ 4194304 }
+        ensures limit { length self.now.rows ≤ most_rows }
     {
         self.rows.len()
     }
@@ -135,7 +135,7 @@ impl<M: Meter, A: Allocator + Copy> Lane<M, A> {
     pub fn put(&mut self, report: Report)
         requires ready { self.old.ready ≡ true }
         requires new { has report_cmp self.old.rows report ≡ false }
-        requires few { length self.old.rows < 4194304 }
+        requires few { length self.old.rows < most_rows }
         ensures { self.new ≡ lane_put self.old report }
     {
         let _all = self.rows.len();

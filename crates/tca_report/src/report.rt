@@ -18,7 +18,7 @@ pub struct Identity {
     pub place: u32,
 }
 
-/// What a report tells of its packet.
+/// What a report holds of its packet.
 #[derive(Clone, Copy, Debug, PartialEq, Eq)]
 pub struct Content {
     /// Milliseconds from 1970 UTC, below 2^48.
@@ -97,7 +97,7 @@ impl Report {
         }
     }
 
-    /// What the report tells of its packet.
+    /// What the report holds of its packet.
     pub fn content(&self) -> Content
         ensures value { result ≡ record { time = self.now.time; octets = self.now.octets; dscp = self.now.dscp; iface = self.now.iface } }
         ensures range { InRange self.now }

@@ -1,5 +1,5 @@
 -- The amounts issued for an account and a period.
-use Rattle.std.specs.Prelude.{ℕ, ℤ, pos, ◌≤ℤ◌, ◌+ℤ◌, ◌-ℤ◌, ◌==◌, ◌/◌, ◌-◌, ◌^◌, List, [], ◌∷◌, nat_lt, slice_get, slice_index, Option, Some, None, if◌then◌else◌}
+use Rattle.std.specs.Prelude.{ℕ, ℤ, pos, ◌≤ℤ◌, ◌+ℤ◌, ◌-ℤ◌, ◌==◌, ◌/◌, ◌-◌, List, [], ◌∷◌, nat_lt, slice_get, slice_index, Option, Some, None, if◌then◌else◌}
 use Rattle.std.specs.List.{find}
 use Rattle.std.specs.Map.{lookup}
 use Rattle.std.specs.BTreeMap.{is_at}
@@ -12,6 +12,8 @@ use Rattle.tca_accounts.specs.declared.tally.Tally.{Tally}
 use Rattle.tca_statements.specs.declared.amount.Amount.{Amount}
 use Rattle.tca_statements.specs.declared.fault.IssueFault.{IssueFault}
 use Rattle.tca_statements.specs.declared.fault.IssueFault.TheVariants.{NoAccount, Period}
+use Rattle.tca_report.specs.report.Reports.{most_octets, time_end}
+use Rattle.tca_report.specs.export.Spelling.{most_reports}
 
 -- no octets
 abbrev pub nothing : Amount
@@ -32,7 +34,7 @@ sum_of (a ∷ others) = plus a (sum_of others)
 
 -- octets of a colour: from 0 to 65,575 for each of 4,194,304 packets
 abbrev pub IsOctets : ℤ → Type 0
-IsOctets octets = (pos 0 ≤ℤ octets) × (octets ≤ℤ pos 275041484800)
+IsOctets octets = (pos 0 ≤ℤ octets) × (octets ≤ℤ pos (most_octets * most_reports))
 
 -- such octets of each colour
 abbrev pub AreOctets : Amount → Type 0
@@ -84,5 +86,5 @@ next_amount bill issued account span = less (due_now bill account span) (sum_of 
 abbrev pub issue_fault : Issued → ℕ → ℕ → Option IssueFault
 issue_fault issued account span =
     if nat_lt account issued.accounts
-    then (if nat_lt ((2 ^ 48 - 1) / issued.period) span then Some Period else None)
+    then (if nat_lt ((time_end - 1) / issued.period) span then Some Period else None)
     else Some NoAccount

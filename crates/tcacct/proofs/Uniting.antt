@@ -5,10 +5,11 @@ use Rattle.std.proofs.lemmas.Option.{slice_get-map, slice_get_read}
 use Rattle.std.proofs.lemmas.List.{length-map, length-take-le, map-append, take-map, take_more}
 use Rattle.std.proofs.Math.Seq.{drop-cons}
 use Rattle.std.proofs.Math.ListN.{drop_of_length-le}
+use Rattle.tca_wire.specs.Results.{◌>>=◌}
 use Rattle.tca_report.specs.report.Reports.{PacketReport}
 use Rattle.tca_report.specs.input.Inputs.{input_of}
 use Rattle.tcacct.specs.declared.fault.RunFault.{RunFault}
-use Rattle.tcacct.specs.Runs.{IsInTurn, IsRefusedAs, IsSoundExport, and_then, is_log_memory, is_memory, united_from, with_input}
+use Rattle.tcacct.specs.Runs.{IsInTurn, IsRefusedAs, IsSoundExport, is_log_memory, is_memory, united_from, with_input}
 
 cut : {X : Type 0} (f : X → List ℕ) (xs : List X) (i : ℕ) (x : X) → i < length xs → x ≡ get_or xs i x → map f (drop i xs) ≡ f x ∷ map f (drop (i + 1) xs)
 cut f xs i x h is = rw add-one (ap (map f) (drop-cons xs i x h) ∙ ap (λ y. f y ∷ map f (drop (suc i) xs)) (sym is))
@@ -16,16 +17,16 @@ cut f xs i x h is = rw add-one (ap (map f) (drop-cons xs i x h) ∙ ap (λ y. f 
 module _ {X : Type 0} (f : X → List ℕ) (inputs : List X) (n : ℕ) (held : List PacketReport) (total : Result (List PacketReport) RunFault)
     (so_far : united_from n held (map f (drop n inputs)) ≡ total) where
   -- what an input makes of the rest
-  one_more : (input : X) → n < length inputs → input ≡ get_or inputs n input → and_then (with_input n held (input_of (f input))) (λ more. united_from (n + 1) more (map f (drop (n + 1) inputs))) ≡ total
+  one_more : (input : X) → n < length inputs → input ≡ get_or inputs n input → (with_input n held (input_of (f input)) >>= (λ more. united_from (n + 1) more (map f (drop (n + 1) inputs)))) ≡ total
   unfolding united_from
   one_more input h is = sym (ap (united_from n held) (cut f inputs n input h is)) ∙ so_far
 
   pub goes_on : (input : X) (more : List PacketReport) → n < length inputs → input ≡ get_or inputs n input → with_input n held (input_of (f input)) ≡ Ok more
       → united_from (n + 1) more (map f (drop (n + 1) inputs)) ≡ total
-  goes_on input more h is taken = sym (ap (λ r. and_then r (λ more. united_from (n + 1) more (map f (drop (n + 1) inputs)))) taken) ∙ one_more input h is
+  goes_on input more h is taken = sym (ap (λ r. r >>= (λ more. united_from (n + 1) more (map f (drop (n + 1) inputs)))) taken) ∙ one_more input h is
 
   pub refused : (input : X) (fault : RunFault) → n < length inputs → input ≡ get_or inputs n input → IsRefusedAs fault (with_input n held (input_of (f input))) → IsRefusedAs fault total
-  refused input fault h is as_said = λ other. sym (one_more input h is) ∙ ap (λ r. and_then r (λ more. united_from (n + 1) more (map f (drop (n + 1) inputs)))) (as_said other)
+  refused input fault h is as_said = λ other. sym (one_more input h is) ∙ ap (λ r. r >>= (λ more. united_from (n + 1) more (map f (drop (n + 1) inputs)))) (as_said other)
 
   pub cut_here : (input : X) → n < length inputs → input ≡ get_or inputs n input → map f (drop n inputs) ≡ f input ∷ map f (drop (n + 1) inputs)
   cut_here input h is = cut f inputs n input h is
@@ -39,7 +40,7 @@ same_held a b r one other = let both : Ok a ≡ Ok b = sym one ∙ other in cc
 
 -- where the one goes on to its end, so does the other
 through : (r : Result (List PacketReport) RunFault) (f g : List PacketReport → Result (List PacketReport) RunFault) (b c : List PacketReport)
-    → and_then r f ≡ Ok b → ((a : List PacketReport) → f a ≡ Ok b → g a ≡ Ok c) → and_then r g ≡ Ok c
+    → (r >>= f) ≡ Ok b → ((a : List PacketReport) → f a ≡ Ok b → g a ≡ Ok c) → (r >>= g) ≡ Ok c
 through (Ok a) f g b c done more = more a done
 through (Err e) f g b c done more = absurd cc
 
@@ -50,7 +51,7 @@ unfolding united_from
 one_behind first n held [] input so_far more count taken next =
     let place : first ≡ n = omega (arith, count) in
     let same : held ≡ so_far = same_held held so_far (united_from first held []) refl taken in
-    ap (λ r. and_then r (λ rs. united_from (first + 1) rs [])) (ap₂ (λ k rs. with_input k rs (input_of input)) place same ∙ next)
+    ap (λ r. r >>= (λ rs. united_from (first + 1) rs [])) (ap₂ (λ k rs. with_input k rs (input_of input)) place same ∙ next)
 one_behind first n held (x ∷ xs) input so_far more count taken next =
     through (with_input first held (input_of x)) (λ rs. united_from (first + 1) rs xs) (λ rs. united_from (first + 1) rs (xs ++ input ∷ [])) so_far more taken
     (λ rs on. one_behind (first + 1) n rs xs input so_far more (omega (arith, count)) on next)

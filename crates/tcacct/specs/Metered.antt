@@ -1,5 +1,6 @@
 -- What the command `meter` prints, and what it is refused for.
 use Rattle.std.specs.Prelude.{◌≡◌, ℕ, true, false, List, Result, Ok, Err, IsOk, None}
+use Rattle.tca_wire.specs.Results.{◌>>=◌}
 use Rattle.tca_report.specs.report.Reports.{PacketReport}
 use Rattle.tca_meters.specs.declared.colour.Colour.TheVariants.{Green}
 use Rattle.tca_meters.specs.declared.spec.SpecFault.{SpecFault}
@@ -14,7 +15,7 @@ use Rattle.tcacct.specs.declared.fault.RunFault.{RunFault}
 use Rattle.tcacct.specs.declared.fault.Family.TheVariants as family
 use Rattle.tcacct.specs.Devices.{Device, IsCutOff, Receives}
 use Rattle.tcacct.specs.Texts.{meter_text}
-use Rattle.tcacct.specs.Runs.{IsInTurn, IsRefusedAs, IsUnion, and_then, is_family, is_write, refusal, united, write_refusal}
+use Rattle.tcacct.specs.Runs.{IsInTurn, IsRefusedAs, IsUnion, is_family, is_write, refusal, united, write_refusal}
 
 -- the lines of a set: the sums of its undisputed reports in order, with the colours that the meter gives them from time 0 on,
 -- where the precolour of a code point that has none is green
@@ -28,7 +29,7 @@ meter_or_refusal (Err fault) = Err (refusal None family.Spec (spec_number fault)
 
 -- the lines for a spec and inputs, or the first refusal: of the spec, then of the inputs in order
 abbrev pub metering : List ℕ → List (List ℕ) → Result (List ℕ) RunFault
-metering spec inputs = and_then (meter_or_refusal (spec_in spec)) (λ meter. and_then (united inputs) (λ rs. Ok (metered_lines meter rs)))
+metering spec inputs = meter_or_refusal (spec_in spec) >>= (λ meter. united inputs >>= (λ rs. Ok (metered_lines meter rs)))
 
 -- These are the lines for a spec and inputs: the spec names a meter, each input is a log export or a capture, and the lines are
 -- those of the union of them all.

@@ -5,6 +5,7 @@ use Rattle.std.specs.declared.vec.Vec.{Vec}
 use Rattle.tca_join.specs.Sets.{in_order}
 use Rattle.tca_report.specs.report.Reports.{PacketReport, report_cmp}
 use Rattle.tca_wire.specs.Faults.{wire_number}
+use Rattle.tca_wire.specs.Results.{◌>>=◌}
 use Rattle.tca_templates.specs.Faults.{decode_number}
 use Rattle.tca_report.specs.export.Spelling.{most_reports}
 use Rattle.tca_report.specs.export.Reading.{reading}
@@ -71,14 +72,10 @@ abbrev pub with_input : ℕ → List PacketReport → Result CaptureSoFar InputF
 with_input n held (Ok h) = with_reports n held h.reports
 with_input n held (Err fault) = Err (input_refusal n fault)
 
-abbrev pub and_then : {A B F : Type 0} → Result A F → (A → Result B F) → Result B F
-and_then (Ok a) f = f a
-and_then (Err e) f = Err e
-
 -- a set with the reports of all inputs, of which the first has number n, or the first refusal of one
 unfoldable pub united_from : ℕ → List PacketReport → List (List ℕ) → Result (List PacketReport) RunFault
 united_from n held [] = Ok held
-united_from n held (input ∷ inputs) = and_then (with_input n held (input_of input)) (λ more. united_from (n + 1) more inputs)
+united_from n held (input ∷ inputs) = with_input n held (input_of input) >>= (λ more. united_from (n + 1) more inputs)
 
 -- the union of all inputs, or the first refusal of one
 abbrev pub united : List (List ℕ) → Result (List PacketReport) RunFault

@@ -6,6 +6,7 @@ ghost use Rattle.tcacct.specs.Combined.{IsCombineDone, IsCombineRefused};
 ghost use Rattle.tcacct.specs.Devices.{device};
 ghost use Rattle.tcacct.specs.Texts.{combine_text};
 ghost use Rattle.tcacct.specs.Runs.{IsUnion, IsUnitingRefused, octets_of, united};
+ghost use Rattle.tca_report.specs.export.Spelling.{most_reports};
 
 use crate::fault::RunFault;
 use crate::inputs::unite;
@@ -18,7 +19,7 @@ use tca_report::{Report, Write, put_all, write_export};
 pub(crate) fn listed(alloc: Global, log: &Log) -> Result<Vec<Report>, AllocError>
     ensures all { IfOk result (λ list. list.items ≡ log.now) }
     ensures rises { OnOk result (IsStrictlySortedBy report_cmp log.now) }
-    ensures limit { OnOk result (length log.now ≤ 4194304) }
+    ensures limit { OnOk result (length log.now ≤ most_reports) }
 {
     let mut list = Vec::with_capacity(alloc, log.len() as usize)?;
     for report in log.reports() {
@@ -34,7 +35,7 @@ fn made(alloc: Global, inputs: &[Vec<u8>]) -> Result<(Vec<Report>, String), RunF
     ensures taken { IfOk result (λ x. united (octets_of inputs.now) ≡ Ok x.0.items) }
     ensures line { IfOk result (λ x. string_bytes x.1 ≡ combine_text (length x.0.items)) }
     ensures rises { IfOk result (λ x. IsStrictlySortedBy report_cmp x.0.items) }
-    ensures limit { IfOk result (λ x. length x.0.items ≤ 4194304) }
+    ensures limit { IfOk result (λ x. length x.0.items ≤ most_reports) }
     ensures unmade { IfErr result (IsUnitingRefused (octets_of inputs.now)) }
 {
     let (log, _notes) = unite(alloc, inputs)?;

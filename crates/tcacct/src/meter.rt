@@ -8,6 +8,7 @@ ghost use Rattle.tca_accounts.specs.Sums.{packet_of, sums_of};
 ghost use Rattle.tcacct.specs.Devices.{device};
 ghost use Rattle.tcacct.specs.Metered.{AreMeterLines, IsMeterDone, IsMeterRefused, IsMeterUnmade, metering};
 ghost use Rattle.tcacct.specs.Runs.{octets_of};
+ghost use Rattle.tca_report.specs.export.Spelling.{most_reports};
 
 use crate::fault::RunFault;
 use crate::inputs::unite;
@@ -22,7 +23,7 @@ use tca_report::{Write, put_all};
 // point, green where that has none.
 fn metered<M: Meter>(meter: &M, reports: Settled<'_>) -> Sums
     requires rises { IsStrictlySortedBy report_cmp reports }
-    requires few { length reports ≤ 4194304 }
+    requires few { length reports ≤ most_reports }
     ensures { result ≡ sums_of (colours (M.rule meter.now) (packet_of Green) reports.entry) }
 {
     let mut metered = no_reports(meter);

@@ -1,7 +1,8 @@
 //! The program over a file system, standard output and standard error that are given: what `main` does,
 //! so that tests can do it too.
-ghost use Rattle.std.specs.Prelude.{◌≡◌};
+ghost use Rattle.std.specs.Prelude.{◌≡◌, ◌≢◌, ◌≤◌, None, map, string_bytes};
 ghost use Rattle.tcacct.specs.Endings.{status_of};
+ghost use Rattle.tcacct.specs.Lines.{order_in};
 
 use crate::bill::run_bill_plain;
 use crate::combine::run_combine;
@@ -31,13 +32,15 @@ pub fn words_of<R: Env + AllocGlobal>(rt: &R) -> Result<Vec<String>, LineFault> 
     }
 }
 
-/// Runs the words of a command line, as `run` does.
+/// Runs the words of a command line, as `run` does, with the same exit status.
 pub fn run_words<R: Files + AllocGlobal, W: Write, V: io::Write>(
     rt: &R,
     words: &[String],
     out: &mut W,
     errors: &mut V,
-) -> u8 {
+) -> u8
+    ensures { order_in (map (λ s. string_bytes s) words.now) ≢ None → result ≤ 1 }
+{
     let mut texts = Vec::new(rt.alloc());
     for word in words {
         if texts.push(word.as_str()).is_err() {
@@ -49,13 +52,16 @@ pub fn run_words<R: Files + AllocGlobal, W: Write, V: io::Write>(
 
 /// Runs the words of a command line, of which the first is the program's own name, and gives the exit
 /// status. All files are read first, in order of the words; then OUT is made, where there is one; then
-/// the command is run. What can't be written to `errors` is left out.
+/// the command is run. What can't be written to `errors` is left out. The exit status is 2 only where the
+/// words ask for no command.
 pub fn run<R: Files + AllocGlobal, W: Write, V: io::Write>(
     rt: &R,
     words: &[&str],
     out: &mut W,
     errors: &mut V,
-) -> u8 {
+) -> u8
+    ensures { order_in (map (λ s. s.now) words.now) ≢ None → result ≤ 1 }
+{
     let line = match read_line(rt.alloc(), words) {
         Ok(line) => line,
         Err(fault) => {

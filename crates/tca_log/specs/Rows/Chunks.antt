@@ -4,6 +4,7 @@ use Rattle.std.specs.List.{flat_map, All}
 use Rattle.std.specs.List.Sorted.{IsStrictlySortedBy}
 use Rattle.std.specs.Ordering.{is_lt}
 use Rattle.std.specs.declared.cmp.Ordering.{Ordering}
+use Rattle.tca_log.specs.Rows.Ordered.{most_rows}
 
 -- whether the first member comes after k
 abbrev pub starts_after : {K : Type 0} → (K → K → Ordering) → K → List K → Bool
@@ -25,10 +26,10 @@ pub record IsPosition {K : Type 0} (R : K → K → Ordering) (cs : List (List K
   pub low : 0 < i → starts_after R k (get_or cs i []) ≡ false
   pub high : i + 1 < length cs → starts_after R k (get_or cs (i + 1) []) ≡ true
 
--- a container of at most 4,194,304 rows, which it counts. Its spare chunk is empty, and there is a place for it
+-- a container of rows within the limit, which it counts. Its spare chunk is empty, and there is a place for it
 pub record AreRows {K : Type 0} (R : K → K → Ordering) (cs : List (List K)) (extra : Option (List K)) (number room : ℕ) : Type 0 where
   pub chunks : AreChunks R cs
   pub count : number ≡ length (joined cs)
-  pub limit : length (joined cs) ≤ 4194304
+  pub limit : length (joined cs) ≤ most_rows
   pub spare : IfSome extra (λ c. c ≡ [])
   pub spare_fits : is_some extra ≡ true → length cs < room

@@ -5,6 +5,10 @@ use Rattle.std.specs.Ordering.{eq_by_cmp, is_lt}
 use Rattle.std.specs.declared.cmp.Ordering.{Ordering}
 use Rattle.tca_join.specs.Sets.{has, put}
 
+-- the most rows of a container
+abbrev pub most_rows : ℕ
+most_rows = 4194304
+
 -- what a container has in order, and whether it has room for one more
 pub record Ordered (K : Type 0) : Type 0 where
   pub rows : List K

@@ -1,6 +1,7 @@
 //! Where a row is among chunks.
 ghost use Rattle.std.specs.Prelude.{◌≡◌, true, false, ◌<◌, ◌≤◌, length, drop};
 ghost use Rattle.tca_log.specs.Rows.Chunks.{IsPosition, joined};
+ghost use Rattle.tca_log.specs.Rows.Ordered.{most_rows};
 
 use crate::rows::chunk::Chunk;
 use crate::rows::iter::RowsIter;
@@ -30,7 +31,7 @@ pub(crate) fn position<K: Ord + Copy, A: Allocator>(chunks: &[Chunk<K, A>], key:
 
 /// How many rows these chunks have.
 pub(crate) fn count_of<K: Ord + Copy, A: Allocator>(chunks: &[Chunk<K, A>]) -> usize
-    requires { length (joined chunks.now) ≤ 4194304 }
+    requires { length (joined chunks.now) ≤ most_rows }
     ensures { result ≡ length (joined chunks.now) }
 {
     let mut count = 0;

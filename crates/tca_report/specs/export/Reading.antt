@@ -1,4 +1,4 @@
--- What octets say as an export, or the first thing from the left that is wrong with them.
+-- The reports that octets spell as an export, or the first thing from the left that is wrong with them.
 use Rattle.std.specs.Prelude.{ℕ, zero, suc, ◌+◌, ◌*◌, List, [], ◌∷◌, length, take, drop, slice_index, Option, Some, None, Result, Ok, Err, Bool, true, not, ◌&&◌, nat_lt, ◌==◌, if◌then◌else◌}
 use Rattle.std.specs.Int.{w16, w32, w64, from_be_bytes}
 use Rattle.std.specs.Ordering.{is_lt}

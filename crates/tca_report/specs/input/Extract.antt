@@ -61,7 +61,7 @@ unfoldable pub first : ℕ → List FieldView → Option (List ℕ)
 first element [] = None
 first element (f ∷ fs) = if is_none f.enterprise && (f.element == element) then Some f.value else first element fs
 
--- what the first of these elements that is there says; each stands with what its octets say
+-- what the first of these elements that is there holds; each stands with what its octets are
 abbrev pub chosen : {X : Type 0} → List (ℕ × (List ℕ → X)) → List FieldView → Option X
 chosen [] fs = None
 chosen (e ∷ es) fs = option_or (option_map e.1 (first e.0 fs)) (chosen es fs)
@@ -106,7 +106,7 @@ high_six_bits v = do
   octet ← unsigned 1 v
   Ok (octet / 4)
 
--- the elements that tell the time, the first choice first
+-- the elements that give the time, the first choice first
 abbrev pub times : List (ℕ × (List ℕ → Result (Option ℕ) NotReport))
 times =
     (observation_time_milliseconds, date_time_milliseconds)
@@ -115,15 +115,15 @@ times =
     ∷ (observation_time_seconds, date_time_seconds)
     ∷ []
 
--- the elements that tell the octets of the packet, the first choice first
+-- the elements that give the octets of the packet, the first choice first
 abbrev pub sizes : List (ℕ × (List ℕ → Result ℕ NotReport))
 sizes = (ip_total_length, unsigned 8) ∷ (total_length_ipv4, unsigned 2) ∷ (octet_delta_count, unsigned 8) ∷ []
 
--- the elements that tell the code point, the first choice first
+-- the elements that give the code point, the first choice first
 abbrev pub code_points : List (ℕ × (List ℕ → Result ℕ NotReport))
 code_points = (ip_diff_serv_code_point, unsigned 1) ∷ (ip_class_of_service, high_six_bits) ∷ []
 
--- the elements that tell the interface
+-- the elements that give the interface
 abbrev pub interfaces : List (ℕ × (List ℕ → Result ℕ NotReport))
 interfaces = (ingress_interface, unsigned 4) ∷ []
 
@@ -140,11 +140,11 @@ header_in v =
     else (if (slice_index v 0 / 16 == 6) && nat_le 6 (length v) then Some (40 + big_number 2 (drop 4 v), traffic_class v / 4)
     else None))
 
--- octets and code point of the packet's section, where there is one that tells them
+-- octets and code point of the packet's section, where there is one that has them
 abbrev pub section_in : List FieldView → Option (ℕ × ℕ)
 section_in fs = option_and_then header_in (first ip_header_packet_section fs)
 
--- the time, where an element tells one: its milliseconds, or none where it is before 1970
+-- the time, where an element gives one: its milliseconds, or none where it is before 1970
 unfoldable pub time_in : List FieldView → Option (Result (Option ℕ) NotReport)
 time_in fs = chosen times fs
 

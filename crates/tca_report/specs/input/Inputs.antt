@@ -1,4 +1,4 @@
--- What an input says: a log export, or a capture, which is IPFIX messages one after the other (the layout of an IPFIX File of
+-- What an input holds: a log export, or a capture, which is IPFIX messages one after the other (the layout of an IPFIX File of
 -- RFC 5655).
 use Rattle.std.specs.Prelude.{ℕ, ◌+◌, ◌==◌, Bool, ◌&&◌, if◌then◌else◌, nat_le, List, [], ◌∷◌, ◌++◌, length, take, map, Option, Some, None, Result, Ok, Err}
 use Rattle.std.specs.List.{concat}

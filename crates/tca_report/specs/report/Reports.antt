@@ -40,7 +40,7 @@ pub record InRange (r : PacketReport) : Type 0 where
 abbrev pub in_range : PacketReport → Bool
 in_range r = nat_lt r.time time_end && (nat_le 1 r.octets && (nat_le r.octets most_octets && nat_le r.dscp most_dscp))
 
--- the report that tells this content of this identity
+-- the report of this identity with this content
 abbrev pub reported : Identity → Content → PacketReport
 reported i c = record { time = c.time; domain = i.domain; place = i.place; octets = c.octets; dscp = c.dscp; iface = c.iface }
 

@@ -226,7 +226,7 @@ fn pick_interface<F: DataField>(fields: &[F]) -> Result<u64, NotReport>
     }
 }
 
-// Judges what was taken: first whether each has a length that it may have, then what it says.
+// Judges what was taken: first whether each has a length that it may have, then its value.
 fn judge(
     time: Result<Option<u64>, NotReport>,
     octets: Result<u64, NotReport>,

@@ -1,6 +1,7 @@
 use Rattle.std.proofs.Common.{◌≡◌, ◌++◌, Ok, drop, length}
 use Rattle.toml.specs.View.{items_view}
-use Rattle.tca_accounts.specs.Documents.{◌>>=◌, accounts_from}
+use Rattle.tca_wire.specs.Results.{◌>>=◌}
+use Rattle.tca_accounts.specs.Documents.{accounts_from}
 use Rattle.tca_accounts.proofs.reading.accounts.Given as goal
 
 -- what is left decides, with the accounts so far in front
