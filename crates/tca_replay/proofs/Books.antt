@@ -20,7 +20,7 @@ use Rattle.tca_accounts.proofs.Bills.{filter_few}
 use Rattle.tca_accounts.specs.Bills.{is_number, reports_of, unassigned}
 use Rattle.tca_replay.specs.Lanes.{LaneView, lane_put, lane_less, lane_ready, lane_resumed}
 use Rattle.tca_log.specs.Next.{kept_after, count_after, reports_after, disputed_after}
-use Rattle.tca_replay.specs.Books.{BookView, Fits, Takes, IsReady, AreLanes, CanEnter, CanLeave, changed_at, lanes_at, lanes_after, book_after, book_ready, book_settled, one_if, terms_of}
+use Rattle.tca_replay.specs.Books.{BookView, Fits, Takes, IsReady, AreLanes, CanEnter, CanLeave, CanPut, changed_at, lanes_at, lanes_after, book_after, book_ready, book_settled, one_if, terms_of}
 use Rattle.tca_log.proofs.Next.{reports_next, disputed_next, kept_next, count_next, fresh_is_new, withdrawn_is_there}
 
 module _ {A : Type 0} (f : A → A) where
@@ -62,6 +62,19 @@ length-lanes_at f (Some n) lanes = length-changed_at f n lanes
 same_cond : {T : Type 0} (b : Bool) (x : T) → cond b x x ≡ x
 same_cond true x = refl
 same_cond false x = refl
+
+-- a member changed twice
+pub changed_twice : {A : Type 0} (f g : A → A) (n : ℕ) (xs : List A) → changed_at g n (changed_at f n xs) ≡ changed_at (λ x. g (f x)) n xs
+changed_twice f g n [] = refl
+changed_twice f g zero (x ∷ xs) = refl
+changed_twice f g (suc n) (x ∷ xs) = ap (λ l. x ∷ l) (changed_twice f g n xs)
+
+-- the lane of a report's account, once it has room, can take the report
+pub lane_free : (plan : AccountPlan) (r : PacketReport) (lanes : List (LaneView AnyMeter)) (n : ℕ) (d old : LaneView AnyMeter) → CanEnter plan (lanes_at lane_ready (account_of plan r) lanes) r → account_of plan r ≡ Some n → n < length lanes → old ≡ get_or lanes n d
+    → CanPut (lane_ready old) r
+lane_free plan r lanes n d old free own h e =
+    let there : CanPut (get_or (lanes_at lane_ready (account_of plan r) lanes) n d) r = free n d (omega (arith, length-lanes_at lane_ready (account_of plan r) lanes)) own in
+    subst (λ l. CanPut l r) (ap (λ o. get_or (lanes_at lane_ready o lanes) n d) own ∙ get_changed lane_ready n lanes d h ∙ ap lane_ready (sym e)) there
 
 -- lanes keep their accounts
 pub lanes_kept : (plan : AccountPlan) (k : ℕ) (f : LaneView AnyMeter → LaneView AnyMeter) → ((l : LaneView AnyMeter) → terms_of (f l) ≡ terms_of l) → (o : Option ℕ) (lanes : List (LaneView AnyMeter)) → AreLanes plan k lanes → AreLanes plan k (lanes_at f o lanes)

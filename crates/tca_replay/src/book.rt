@@ -261,6 +261,27 @@ fn make_room<A: Allocator + Copy>(
     lane.reserve_row(report)
 }
 
+// Makes room in the lane of a report's account and puts the report into it, with one look-up of the account. The answer is 1 where
+// no account owns it, else 0.
+fn fill<A: Allocator + Copy>(
+    plan: &Plan,
+    lanes: &mut Vec<Lane<AnyMeter, A>, A>,
+    report: &Report,
+) -> Result<u32, AllocError>
+    requires lanes { length lanes.old.items ≡ length plan.now.accounts }
+    requires free { CanEnter plan.now (lanes_at lane_ready (account_of plan.now report.now) lanes.old.items) report.now }
+    ensures lanes { OnOk result (lanes.new.items ≡ lanes_at (λ l. lane_put l report.now) (account_of plan.now report.now) (lanes_at lane_ready (account_of plan.now report.now) lanes.old.items)) }
+    ensures none { IfOk result (λ number. number ≡ one_if (is_none (account_of plan.now report.now))) }
+{
+    let Some(n) = plan.account_of(report) else {
+        return Ok(1);
+    };
+    let lane = &mut lanes[n as usize];
+    lane.reserve_row(report)?;
+    lane.put(*report);
+    Ok(0)
+}
+
 // A lane for each account with the settled reports of a log that it owns, and how many none owns.
 fn lanes_with<A: Allocator + Copy>(
     alloc: A,
@@ -275,8 +296,7 @@ fn lanes_with<A: Allocator + Copy>(
     let mut lanes = lanes_of(alloc, plan, k)?;
     let mut unassigned = 0;
     for report in log.settled() {
-        make_room(plan, &mut lanes, report)?;
-        unassigned += enter(plan, &mut lanes, *report);
+        unassigned += fill(plan, &mut lanes, report)?;
     }
     Ok((lanes, unassigned))
 }

@@ -1,6 +1,6 @@
 //! The program over a file system, standard output and standard error that are given: what `main` does,
 //! so that tests can do it too.
-ghost use Rattle.std.specs.Prelude.{◌≡◌, ◌≢◌, ◌≤◌, None, map, string_bytes};
+ghost use Rattle.std.specs.Prelude.{◌≡◌, ◌≢◌, ◌≤◌, IfOk, None, map, string_bytes};
 ghost use Rattle.tcacct.specs.Endings.{status_of};
 ghost use Rattle.tcacct.specs.Lines.{order_in};
 
@@ -12,6 +12,7 @@ use crate::files::{create, read_files, read_plan};
 use crate::line::{Line, LineFault, read_line};
 use crate::meter::run_meter;
 use crate::notes::NotesLine;
+use std::alloc::{AllocError, Global};
 use std::env::Env;
 use std::rt::Files;
 use std::{env, io};
@@ -41,13 +42,21 @@ pub fn run_words<R: Files + AllocGlobal, W: Write, V: io::Write>(
 ) -> u8
     ensures { order_in (map (λ s. string_bytes s) words.now) ≢ None → result ≤ 1 }
 {
-    let mut texts = Vec::new(rt.alloc());
-    for word in words {
-        if texts.push(word.as_str()).is_err() {
-            return end(&Ending::NoCommand(LineFault::Memory), errors);
-        }
-    }
+    let Ok(texts) = texts_of(rt.alloc(), words) else {
+        return end(&Ending::NoCommand(LineFault::Memory), errors);
+    };
     run(rt, &texts, out, errors)
+}
+
+// The words as texts.
+fn texts_of(alloc: Global, words: &[String]) -> Result<Vec<&str>, AllocError>
+    ensures { IfOk result (λ texts. map (λ s. s.now) texts.items ≡ map (λ s. string_bytes s) words.now) }
+{
+    let mut texts = Vec::new(alloc);
+    for word in words {
+        texts.push(word.as_str())?;
+    }
+    Ok(texts)
 }
 
 /// Runs the words of a command line, of which the first is the program's own name, and gives the exit

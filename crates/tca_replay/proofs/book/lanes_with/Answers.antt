@@ -1,10 +1,10 @@
-use Rattle.std.proofs.Common.{◌≡◌, ◌∷◌, sym, subst, arith}
+use Rattle.std.proofs.Common.{◌≡◌, ◌∷◌, arith}
 use Rattle.std.specs.Prelude.{is_none}
 use Rattle.tca_log.specs.Disputes.{undisputed}
 use Rattle.tca_accounts.specs.Plans.{account_of}
-use Rattle.tca_replay.specs.Books.{AreFilled, CanEnter}
+use Rattle.tca_replay.specs.Books.{AreFilled}
 use Rattle.tca_replay.proofs.Books.{few_one}
-use Rattle.tca_replay.proofs.Filling.{filled_none, still_lanes, can_enter, number_few, filled_more}
+use Rattle.tca_replay.proofs.Filling.{filled_none, can_enter, number_few, filled_more}
 use Rattle.tca_replay.proofs.book.lanes_with.Goals as goal
 
 pub loop-report-init : goal.loop-report-init
@@ -12,21 +12,13 @@ loop-report-init g c =
     let all : c.into_iter-report-iterator.result ≡ undisputed c.args.log.now = cc in
     rw all (filled_none c.args.plan.now c.args.k (undisputed c.args.log.now) c.in_ok-lanes.lanes.items c.in_ok-lanes.ensures.lanes c.in_ok-lanes.ensures.empty)
 
-pub enter-unassigned-requires-clause-lanes : goal.enter-unassigned-requires-clause-lanes
-enter-unassigned-requires-clause-lanes g c =
+pub fill-requires-clause-free : goal.fill-requires-clause-free
+fill-requires-clause-free g c =
     let l = c.loop-report in
     let x = c.in-Some.report.now in
     let all = undisputed c.args.log.now in
     let f : AreFilled c.args.plan.now c.args.k all (x ∷ c.next.new.self) l.unassigned l.lanes.items = rw c.in-Some.ensures.steps at l.invariant in
-    rw c.in_ok-make_room.ensures.ok ((still_lanes c.args.plan.now c.args.k all x c.next.new.self l.unassigned l.lanes.items f c.settled-report-items.ensures.rises).count)
-
-pub enter-unassigned-requires-clause-free : goal.enter-unassigned-requires-clause-free
-enter-unassigned-requires-clause-free g c =
-    let l = c.loop-report in
-    let x = c.in-Some.report.now in
-    let all = undisputed c.args.log.now in
-    let f : AreFilled c.args.plan.now c.args.k all (x ∷ c.next.new.self) l.unassigned l.lanes.items = rw c.in-Some.ensures.steps at l.invariant in
-    subst (λ lanes. CanEnter c.args.plan.now lanes x) (sym c.in_ok-make_room.ensures.ok) (can_enter c.args.plan.now c.args.k all x c.next.new.self l.unassigned l.lanes.items f c.settled-report-items.ensures.rises c.settled-report-items.ensures.limit)
+    can_enter c.args.plan.now c.args.k all x c.next.new.self l.unassigned l.lanes.items f c.settled-report-items.ensures.rises c.settled-report-items.ensures.limit
 
 pub overflow_add-unassigned : goal.overflow_add-unassigned
 overflow_add-unassigned g c =
@@ -34,7 +26,7 @@ overflow_add-unassigned g c =
     let x = c.in-Some.report.now in
     let all = undisputed c.args.log.now in
     let f : AreFilled c.args.plan.now c.args.k all (x ∷ c.next.new.self) l.unassigned l.lanes.items = rw c.in-Some.ensures.steps at l.invariant in
-    omega (arith, number_few c.args.plan.now c.args.k all x c.next.new.self l.unassigned l.lanes.items f c.settled-report-items.ensures.rises, c.settled-report-items.ensures.limit, c.enter-unassigned.ensures.none, few_one (is_none (account_of c.args.plan.now x)))
+    omega (arith, number_few c.args.plan.now c.args.k all x c.next.new.self l.unassigned l.lanes.items f c.settled-report-items.ensures.rises, c.settled-report-items.ensures.limit, c.in_ok-unassigned.ensures.none, few_one (is_none (account_of c.args.plan.now x)))
 
 pub loop-report-preserved : goal.loop-report-preserved
 loop-report-preserved g c =
@@ -42,4 +34,4 @@ loop-report-preserved g c =
     let x = c.in-Some.report.now in
     let all = undisputed c.args.log.now in
     let f : AreFilled c.args.plan.now c.args.k all (x ∷ c.next.new.self) l.unassigned l.lanes.items = rw c.in-Some.ensures.steps at l.invariant in
-    rw (c.enter-unassigned.ensures.lanes, c.enter-unassigned.ensures.none, c.in_ok-make_room.ensures.ok) (filled_more c.args.plan.now c.args.k all x c.next.new.self l.unassigned l.lanes.items f c.settled-report-items.ensures.rises)
+    rw (c.in_ok-unassigned.ensures.lanes, c.in_ok-unassigned.ensures.none) (filled_more c.args.plan.now c.args.k all x c.next.new.self l.unassigned l.lanes.items f c.settled-report-items.ensures.rises)
