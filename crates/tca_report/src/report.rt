@@ -31,8 +31,8 @@ pub struct Content {
     pub iface: u32,
 }
 
-// Times are below this, in milliseconds from 1970 UTC.
-pub(crate) const TIME_END: u64 = 1 << 48;
+/// Times are below this, in milliseconds from 1970 UTC.
+pub const TIME_END: u64 = 1 << 48;
 
 // The most octets of a packet: 40 of an IPv6 header, and 65,535 behind it.
 pub(crate) const MOST_OCTETS: u32 = 65_575;

@@ -13,6 +13,7 @@ use std::alloc::{AllocError, Global};
 use std::collections::BTreeMap;
 use std::marker::Model;
 use tca_accounts::{Bill, Plan, Span, Sums};
+use tca_report::TIME_END;
 
 /// What issues the amounts of the accounts of one plan.
 #[derive(Drop)]
@@ -69,7 +70,7 @@ impl Issuer {
         if account >= self.accounts {
             return Err(IssueFault::NoAccount);
         }
-        if span > LAST_TIME / self.period {
+        if span > (TIME_END - 1) / self.period {
             return Err(IssueFault::Period);
         }
         let due = due_now(bill, account, span);
@@ -93,9 +94,6 @@ impl Issuer {
         }
     }
 }
-
-/// The last time, in milliseconds: 2^48 - 1.
-const LAST_TIME: u64 = 281_474_976_710_655;
 
 // The octets of these sums.
 fn octets_of(sums: &Sums) -> Amount
