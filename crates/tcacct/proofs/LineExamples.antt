@@ -1,7 +1,7 @@
 -- What command lines mean that are written out.
 use Rattle.std.proofs.Common.{◌≡◌, [], ◌∷◌, Some, None, codes, refl}
 use Rattle.clap.proofs.OnLiterals.{clap_on_literals}
-use Rattle.tcacct.specs.Lines.{bill, meter, combine, order_in}
+use Rattle.tcacct.specs.Lines.{audit, bill, meter, combine, order_in}
 
 pub one_input : order_in (codes "tcacct" ∷ codes "meter" ∷ codes "rfc2697:1000:2000:1000:blind" ∷ codes "a" ∷ []) ≡ Some (meter (codes "rfc2697:1000:2000:1000:blind") (codes "a" ∷ []))
 unfolding clap_on_literals
@@ -51,7 +51,19 @@ pub no_workers : order_in (codes "tcacct" ∷ codes "bill" ∷ codes "--workers"
 unfolding clap_on_literals
 no_workers = refl
 
-pub unknown_command : order_in (codes "tcacct" ∷ codes "audit" ∷ codes "plan" ∷ codes "a" ∷ codes "b" ∷ []) ≡ None
+pub audit_whole : order_in (codes "tcacct" ∷ codes "audit" ∷ codes "plan" ∷ codes "e" ∷ codes "s" ∷ []) ≡ Some (audit (codes "plan") (codes "e") (codes "s"))
+unfolding clap_on_literals
+audit_whole = refl
+
+pub no_statement : order_in (codes "tcacct" ∷ codes "audit" ∷ codes "plan" ∷ codes "e" ∷ []) ≡ None
+unfolding clap_on_literals
+no_statement = refl
+
+pub fourth_word : order_in (codes "tcacct" ∷ codes "audit" ∷ codes "plan" ∷ codes "e" ∷ codes "s" ∷ codes "t" ∷ []) ≡ None
+unfolding clap_on_literals
+fourth_word = refl
+
+pub unknown_command : order_in (codes "tcacct" ∷ codes "check" ∷ codes "plan" ∷ codes "a" ∷ codes "b" ∷ []) ≡ None
 unfolding clap_on_literals
 unknown_command = refl
 

@@ -31,9 +31,15 @@ bill_command =
     with_rule (with_rule (with_rule (new_app (codes "bill")) (option_word (codes "export"))) (one_word (codes "PLAN")))
     (many_words (codes "INPUT") 4294967295)
 
+-- `audit PLAN EXPORT STATEMENT`
+abbrev pub audit_command : App
+audit_command =
+    with_rule (with_rule (with_rule (new_app (codes "audit")) (one_word (codes "PLAN"))) (one_word (codes "EXPORT")))
+    (one_word (codes "STATEMENT"))
+
 -- the program's name, then one of its commands
 abbrev pub program : App
-program = with_subcommand (with_subcommand (with_subcommand required_command meter_command.top) combine_command.top) bill_command.top
+program = with_subcommand (with_subcommand (with_subcommand (with_subcommand required_command meter_command.top) combine_command.top) bill_command.top) audit_command.top
   where
     required_command : App
     required_command = record (new_app (codes "tcacct")) { top = record (new_app (codes "tcacct")).top { subcommand_required = true } }

@@ -9,3 +9,4 @@ pub mod Metered
 pub mod Combined
 pub mod Billed
 pub mod Endings
+pub mod Audited

@@ -14,6 +14,7 @@ pub data Order : Type 0 where
   meter : (spec : Text) → (inputs : List Text) → Order
   combine : (out : Text) → (inputs : List Text) → Order
   bill : (export : Option Text) → (plan : Text) → (inputs : List Text) → Order
+  audit : (plan export statement : Text) → Order
 
 abbrev pub texts : List (Bor Text) → List Text
 texts = map (λ s. s.now)
@@ -22,18 +23,28 @@ abbrev pub order_of : Line → Order
 order_of (line.Meter spec inputs) = meter spec.now (texts inputs.items)
 order_of (line.Combine out inputs) = combine out.now (texts inputs.items)
 order_of (line.Bill export plan inputs) = bill (option_map (λ s. s.now) export) plan.now (texts inputs.items)
+order_of (line.Audit plan export statement) = audit plan.now export.now statement.now
 
 -- the name of a command
 abbrev pub command_of : Order → Text
 command_of (meter spec inputs) = codes "meter"
 command_of (combine out inputs) = codes "combine"
 command_of (bill export plan inputs) = codes "bill"
+command_of (audit plan export statement) = codes "audit"
 
 -- the words of a command's inputs
 abbrev pub inputs_of : Order → List Text
 inputs_of (meter spec inputs) = inputs
 inputs_of (combine out inputs) = inputs
 inputs_of (bill export plan inputs) = inputs
+inputs_of (audit plan export statement) = []
+
+-- the words of the files that a refusal of a read may name by their number: the inputs, or an audit's export and statement
+abbrev pub files_of : Order → List Text
+files_of (meter spec inputs) = inputs
+files_of (combine out inputs) = inputs
+files_of (bill export plan inputs) = inputs
+files_of (audit plan export statement) = export ∷ statement ∷ []
 
 abbrev pub meter_of : List Row → Option Order
 meter_of rows = option_and_then (λ spec. option_map (λ inputs. meter spec inputs)
@@ -47,12 +58,17 @@ abbrev pub bill_of : List Row → Option Order
 bill_of rows = option_and_then (λ plan. option_map (λ inputs. bill (first_of (codes "export") rows) plan inputs)
     (all_of (codes "INPUT") rows)) (first_of (codes "PLAN") rows)
 
+abbrev pub audit_of : List Row → Option Order
+audit_of rows = option_and_then (λ plan. option_and_then (λ export. option_map (λ statement. audit plan export statement)
+    (first_of (codes "STATEMENT") rows)) (first_of (codes "EXPORT") rows)) (first_of (codes "PLAN") rows)
+
 -- the order that a command's matches give
 abbrev pub order_from : Text → List Row → Option Order
 order_from name rows =
     if bytes_eq name (codes "meter") then meter_of rows
     else (if bytes_eq name (codes "combine") then combine_of rows
-    else (if bytes_eq name (codes "bill") then bill_of rows else None))
+    else (if bytes_eq name (codes "bill") then bill_of rows
+    else (if bytes_eq name (codes "audit") then audit_of rows else None)))
 
 -- none where clap has a fault to find
 abbrev pub order_met : Kinds → Option (Text × List Row) → Option Order

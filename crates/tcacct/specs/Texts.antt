@@ -2,6 +2,8 @@
 use Rattle.std.specs.Prelude.{ℕ, List, ◌++◌, codes, slice_index}
 use Rattle.std.specs.Fmt.{decimal}
 use Rattle.tca_accounts.specs.Sums.{ColourSums}
+use Rattle.tca_audit.specs.declared.verdict.Verdict.{Verdict}
+use Rattle.tca_audit.specs.declared.verdict.Verdict.TheVariants.{Agrees, Differs}
 
 -- a line of a colour's name, its octets and its packets, with a space between
 abbrev pub colour_line : List ℕ → ℕ → ℕ → List ℕ
@@ -17,3 +19,8 @@ meter_text s =
 -- the line of `combine`
 abbrev pub combine_text : ℕ → List ℕ
 combine_text reports = codes "reports " ++ (decimal reports ++ codes "\n")
+
+-- the line of `audit`
+abbrev pub audit_text : Verdict → List ℕ
+audit_text Agrees = codes "agrees\n"
+audit_text (Differs at) = codes "differs at " ++ (decimal at ++ codes "\n")

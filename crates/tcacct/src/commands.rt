@@ -2,7 +2,7 @@
 ghost use Rattle.std.specs.Prelude.{◌≡◌, ◌≤◌, IfOk, false};
 ghost use Rattle.clap.specs.Words.{app_of, rule_of};
 ghost use Rattle.clap.specs.declared.builder.command.Command.TheViews.{out-Command as fields_of};
-ghost use Rattle.tcacct.specs.Commands.{many_words, one_word, option_word, bill_command, combine_command, meter_command, program};
+ghost use Rattle.tcacct.specs.Commands.{audit_command, many_words, one_word, option_word, bill_command, combine_command, meter_command, program};
 
 use clap::{Arg, Command};
 use std::alloc::{AllocError, Global};
@@ -53,6 +53,17 @@ reports, messages with a set of an unknown template, or skipped sets, a line on 
 error says how many of each.
 
 Example: tcacct bill --export week.tcax plan.toml monday.tcax tuesday.tcax";
+
+const AUDIT: &str =
+    "Checks whether STATEMENT is, to the octet, the statement of EXPORT's reports under PLAN, by
+letting tokens in one at a time";
+
+const AUDIT_AFTER: &str =
+    "EXPORT is a log export, as `tcacct bill --export` writes it. One line is printed: agrees, or
+differs at N, where N is the first octet that differs, counted from 0, or the length of the
+shorter text. Exit status: 0 agrees, 1 differs or refused.
+
+Example: tcacct audit plan.toml week.tcax statement.txt";
 
 fn one_word<'a>(alloc: Global, id: &'a str, help: &'a str) -> Arg<'a>
     ensures rule { rule_of result ≡ one_word id.entry.now }
@@ -116,6 +127,19 @@ fn bill<'a>(alloc: Global) -> Result<Command<'a>, AllocError>
     Ok(command.arg(export)?.arg(plan)?.arg(inputs)?)
 }
 
+fn audit<'a>(alloc: Global) -> Result<Command<'a>, AllocError>
+    ensures { IfOk result (λ c. (app_of c ≡ audit_command)
+        × ((fields_of c).has_globals ≡ false)) }
+{
+    let plan = one_word(alloc, "PLAN", "the plan, a TOML file");
+    let export = one_word(alloc, "EXPORT", "a log export");
+    let statement = one_word(alloc, "STATEMENT", "the statement to check");
+    let command = Command::new(alloc, "audit")
+        .about(AUDIT)
+        .after_help(AUDIT_AFTER);
+    Ok(command.arg(plan)?.arg(export)?.arg(statement)?)
+}
+
 /// The program's command line, for clap.
 pub(crate) fn program<'a>(alloc: Global) -> Result<Command<'a>, AllocError>
     ensures { IfOk result (λ c. app_of c ≡ program) }
@@ -126,5 +150,6 @@ pub(crate) fn program<'a>(alloc: Global) -> Result<Command<'a>, AllocError>
         .subcommand_required(true);
     let command = command.subcommand(meter(alloc)?)?;
     let command = command.subcommand(combine(alloc)?)?;
-    Ok(command.subcommand(bill(alloc)?)?)
+    let command = command.subcommand(bill(alloc)?)?;
+    Ok(command.subcommand(audit(alloc)?)?)
 }

@@ -16,6 +16,8 @@ use std::fmt;
 pub enum Ending<'a> {
     /// The command did what was asked.
     Done,
+    /// The statement of an audit differs.
+    Differs,
     /// The command was refused; the line has the word of `word_of`.
     Refused { word: &'a str, fault: RunFault },
     /// The words ask for no command.
@@ -23,13 +25,14 @@ pub enum Ending<'a> {
 }
 
 impl Ending<'_> {
-    /// The exit status: 0 where the program did what was asked, help included; 1 where it was refused;
-    /// 2 for a wrong command line.
+    /// The exit status: 0 where the program did what was asked, help included; 1 where it was refused or a
+    /// statement differs; 2 for a wrong command line.
     pub fn status(&self) -> u8
         ensures { result ≡ status_of self.now }
     {
         match self {
             Ending::Done => 0,
+            Ending::Differs => 1,
             Ending::Refused { .. } => 1,
             Ending::NoCommand(LineFault::Usage { .. }) => 2,
             Ending::NoCommand(LineFault::Help { .. }) => 0,
@@ -44,6 +47,7 @@ impl fmt::Display for Ending<'_> {
     fn fmt<W: fmt::Write>(&self, f: &mut fmt::Formatter<W>) -> fmt::Result {
         match self {
             Ending::Done => Ok(()),
+            Ending::Differs => Ok(()),
             Ending::Refused { word, fault } => write_line(*word, *fault, f),
             Ending::NoCommand(LineFault::Usage { text }) => f.write_str(text.as_str()),
             Ending::NoCommand(LineFault::Help { .. }) => Ok(()),
@@ -61,21 +65,19 @@ fn write_line<W: fmt::Write>(word: &str, fault: RunFault, f: &mut fmt::Formatter
     write!(f, "tcacct: {word}: {fault}\n")
 }
 
-/// The word that a fault line names: the input that was refused; where none was, the spec or the plan
-/// if that was refused, or a plan that couldn't be read; else the command's name.
+/// The word that a fault line names: the input that was refused; where none was, the spec, the plan or an audit's
+/// export if that was refused, or a plan that couldn't be read; else the command's name.
 pub fn word_of<'a>(line: &Line<'a>, fault: RunFault) -> &'a str
     ensures { result.now ≡ word_of (order_of line.now) fault }
 {
     if let Some(n) = fault.input {
-        return line
-            .inputs()
-            .get(n as usize)
-            .copied()
-            .unwrap_or(line.command());
+        return line.file(n).unwrap_or(line.command());
     }
     match (line, fault.family) {
         (Line::Meter { spec, .. }, Family::Spec) => *spec,
         (Line::Bill { plan, .. }, Family::Plan | Family::Read) => *plan,
+        (Line::Audit { plan, .. }, Family::Plan | Family::Read) => *plan,
+        (Line::Audit { export, .. }, Family::Export) => *export,
         _ => line.command(),
     }
 }

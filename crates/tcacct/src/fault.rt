@@ -10,6 +10,7 @@ use std::alloc::AllocError;
 use std::error::Error;
 use std::fmt;
 use tca_accounts::PlanFault;
+use tca_audit::AuditFault;
 use tca_log::LogFault;
 use tca_meters::SpecFault;
 use tca_report::{InputFault, ReadFault, WriteFault};
@@ -198,6 +199,27 @@ impl From<SpecFault> for RunFault {
             input: None,
             family: Family::Spec,
             number: fault.number(),
+        }
+    }
+}
+
+/// An audit that has no verdict.
+impl From<AuditFault> for RunFault {
+    ghost use Rattle.std.specs.Prelude.{◌≡◌};
+    ghost use Rattle.tcacct.specs.Audited.{audit_refusal};
+
+    ghost from_gives = { λ fault e. e ≡ audit_refusal fault };
+
+    fn from(fault: AuditFault) -> RunFault {
+        let (family, number) = match fault {
+            AuditFault::Plan(fault) => (Family::Plan, fault.number()),
+            AuditFault::Export(fault) => (Family::Export, fault.number()),
+            AuditFault::Memory => (Family::Memory, 1),
+        };
+        RunFault {
+            input: None,
+            family,
+            number,
         }
     }
 }

@@ -23,6 +23,18 @@ pub(crate) fn read_plan<R: Files + AllocGlobal>(rt: &R, path: &str) -> Result<Ve
     }
 }
 
+/// The octets of an audit's export, number 0, or of its statement, number 1.
+pub(crate) fn read_numbered<R: Files + AllocGlobal>(
+    rt: &R,
+    number: u32,
+    path: &str,
+) -> Result<Vec<u8>, RunFault> {
+    match read_file(rt, path) {
+        Ok(octets) => Ok(octets),
+        Err(fault) => Err(RunFault::read(Some(number), fault)),
+    }
+}
+
 /// The octets of the files, in order; the first one that can't be read refuses all.
 pub(crate) fn read_files<R: Files + AllocGlobal>(
     rt: &R,

@@ -1,7 +1,7 @@
 //! The words of a command line.
-ghost use Rattle.std.specs.Prelude.{◌≡◌, ◌≢◌, ◌∷◌, [], IfOk, IfErr, Some, None, codes, map, option_map};
+ghost use Rattle.std.specs.Prelude.{◌≡◌, ◌≢◌, ◌∷◌, [], IfOk, IfErr, Some, None, codes, map, option_map, slice_get};
 ghost use Rattle.clap.specs.Words.{all_of, first_of, found_of, kind_of, rows_of};
-ghost use Rattle.tcacct.specs.Lines.{bill, bill_of, combine, combine_of, command_of, inputs_of, line_number, meter, meter_of, order_from, order_in, order_of, texts};
+ghost use Rattle.tcacct.specs.Lines.{bill, bill_of, combine, combine_of, command_of, inputs_of, line_number, meter, meter_of, order_from, order_in, order_of, texts, audit, audit_of, files_of};
 
 use crate::commands;
 use clap::ArgMatches;
@@ -9,7 +9,7 @@ use clap::error::ErrorKind;
 use std::alloc::{AllocError, AllocFailed, Global};
 use thiserror::Error;
 
-/// What the words of a command line ask for. Inputs, OUT, PLAN and the file of an export are paths.
+/// What the words of a command line ask for. Inputs, OUT, PLAN, EXPORT, STATEMENT and the file of an export are paths.
 #[derive(Debug, Drop)]
 pub enum Line<'a> {
     Meter {
@@ -24,6 +24,11 @@ pub enum Line<'a> {
         export: Option<&'a str>,
         plan: &'a str,
         inputs: Vec<&'a str>,
+    },
+    Audit {
+        plan: &'a str,
+        export: &'a str,
+        statement: &'a str,
     },
 }
 
@@ -49,6 +54,7 @@ impl<'a> Line<'a> {
             Line::Meter { .. } => "meter",
             Line::Combine { .. } => "combine",
             Line::Bill { .. } => "bill",
+            Line::Audit { .. } => "audit",
         }
     }
 
@@ -60,6 +66,27 @@ impl<'a> Line<'a> {
             Line::Meter { inputs, .. } => inputs.as_slice(),
             Line::Combine { inputs, .. } => inputs.as_slice(),
             Line::Bill { inputs, .. } => inputs.as_slice(),
+            Line::Audit { .. } => &[],
+        }
+    }
+
+    /// The word of a file by its number: an input, or of an audit the export, number 0, or the statement, number 1.
+    pub fn file(&self, number: u32) -> Option<&'a str>
+        ensures { option_map (λ s. s.now) result ≡ slice_get (files_of (order_of self.now)) number }
+    {
+        match self {
+            Line::Meter { inputs, .. } => inputs.get(number as usize).copied(),
+            Line::Combine { inputs, .. } => inputs.get(number as usize).copied(),
+            Line::Bill { inputs, .. } => inputs.get(number as usize).copied(),
+            Line::Audit {
+                export,
+                statement,
+                ..
+            } => match number {
+                0 => Some(*export),
+                1 => Some(*statement),
+                _ => None,
+            },
         }
     }
 }
@@ -164,6 +191,19 @@ fn bill_line<'a>(alloc: Global, matches: &ArgMatches<'a>) -> Result<Option<Line<
     }))
 }
 
+fn audit_line<'a>(matches: &ArgMatches<'a>) -> Option<Line<'a>>
+    ensures { option_map order_of result ≡ audit_of (rows_of (found_of matches.now)) }
+{
+    let plan = text(matches, "PLAN")?;
+    let export = text(matches, "EXPORT")?;
+    let statement = text(matches, "STATEMENT")?;
+    Some(Line::Audit {
+        plan,
+        export,
+        statement,
+    })
+}
+
 fn line_from<'a>(
     alloc: Global,
     name: &str,
@@ -176,6 +216,7 @@ fn line_from<'a>(
         "meter" => meter_line(alloc, matches),
         "combine" => combine_line(alloc, matches),
         "bill" => bill_line(alloc, matches),
+        "audit" => Ok(audit_line(matches)),
         _ => Ok(None),
     }
 }
@@ -249,7 +290,11 @@ pub fn written_out()
     ensures plan_alone { order_in (codes "tcacct" ∷ codes "bill" ∷ codes "plan" ∷ []) ≡ None }
     ensures two_exports { order_in (codes "tcacct" ∷ codes "bill" ∷ codes "--export" ∷ codes "o" ∷ codes "--export" ∷ codes "p" ∷ codes "plan" ∷ codes "a" ∷ []) ≡ None }
     ensures no_workers { order_in (codes "tcacct" ∷ codes "bill" ∷ codes "--workers" ∷ codes "2" ∷ codes "plan" ∷ codes "a" ∷ []) ≡ None }
-    ensures unknown_command { order_in (codes "tcacct" ∷ codes "audit" ∷ codes "plan" ∷ codes "a" ∷ codes "b" ∷ []) ≡ None }
+    ensures audit { order_in (codes "tcacct" ∷ codes "audit" ∷ codes "plan" ∷ codes "e" ∷ codes "s" ∷ [])
+        ≡ Some (audit (codes "plan") (codes "e") (codes "s")) }
+    ensures no_statement { order_in (codes "tcacct" ∷ codes "audit" ∷ codes "plan" ∷ codes "e" ∷ []) ≡ None }
+    ensures fourth_word { order_in (codes "tcacct" ∷ codes "audit" ∷ codes "plan" ∷ codes "e" ∷ codes "s" ∷ codes "t" ∷ []) ≡ None }
+    ensures unknown_command { order_in (codes "tcacct" ∷ codes "check" ∷ codes "plan" ∷ codes "a" ∷ codes "b" ∷ []) ≡ None }
     ensures no_input { order_in (codes "tcacct" ∷ codes "meter" ∷ codes "s" ∷ []) ≡ None }
     ensures third_input { order_in (codes "tcacct" ∷ codes "meter" ∷ codes "s" ∷ codes "a" ∷ codes "b" ∷ codes "c" ∷ []) ≡ None }
     ensures no_file { order_in (codes "tcacct" ∷ codes "combine" ∷ codes "o" ∷ []) ≡ None }

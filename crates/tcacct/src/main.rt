@@ -5,6 +5,7 @@
 //! word of that line, the exit status and the texts.
 #![tactic(auto)]
 
+mod audit;
 mod bill;
 mod combine;
 mod commands;

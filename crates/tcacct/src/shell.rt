@@ -4,11 +4,12 @@ ghost use Rattle.std.specs.Prelude.{◌≡◌, ◌≢◌, ◌≤◌, IfOk, None,
 ghost use Rattle.tcacct.specs.Endings.{status_of};
 ghost use Rattle.tcacct.specs.Lines.{order_in};
 
+use crate::audit::run_audit;
 use crate::bill::run_bill_plain;
 use crate::combine::run_combine;
 use crate::ending::{Ending, word_of};
 use crate::fault::RunFault;
-use crate::files::{create, read_files, read_plan};
+use crate::files::{create, read_files, read_numbered, read_plan};
 use crate::line::{Line, LineFault, read_line};
 use crate::meter::run_meter;
 use crate::notes::NotesLine;
@@ -79,10 +80,12 @@ pub fn run<R: Files + AllocGlobal, W: Write, V: io::Write>(
         }
     };
     match run_line(rt, &line, out) {
-        Ok(notes) => {
+        Ok(Outcome::Noted(notes)) => {
             print_notes(line.inputs(), &notes, errors);
             end(&Ending::Done, errors)
         }
+        Ok(Outcome::Done) => end(&Ending::Done, errors),
+        Ok(Outcome::Differs) => end(&Ending::Differs, errors),
         Err(fault) => {
             let word = word_of(&line, fault);
             end(&Ending::Refused { word, fault }, errors)
@@ -116,23 +119,33 @@ fn print_notes<V: io::Write>(words: &[&str], all: &[Notes], errors: &mut V) {
     }
 }
 
-// Reads the files of a command and runs it. What is noted of the inputs is printed for `bill` alone.
+// What came of a command that wasn't refused.
+#[derive(Drop)]
+enum Outcome {
+    Done,
+    // With what was noted of each input.
+    Noted(Vec<Notes>),
+    // The statement of an audit differs.
+    Differs,
+}
+
+// Reads the files of a command and runs it.
 fn run_line<R: Files + AllocGlobal, W: Write>(
     rt: &R,
     line: &Line<'_>,
     out: &mut W,
-) -> Result<Vec<Notes>, RunFault> {
+) -> Result<Outcome, RunFault> {
     match line {
         Line::Meter { spec, inputs } => {
             let inputs = read_files(rt, inputs)?;
             run_meter(rt.alloc(), *spec, &inputs, out)?;
-            Ok(Vec::new(rt.alloc()))
+            Ok(Outcome::Done)
         }
         Line::Combine { out: path, inputs } => {
             let inputs = read_files(rt, inputs)?;
             let mut export = create(rt, *path)?;
             run_combine(rt.alloc(), &inputs, &mut export, out)?;
-            Ok(Vec::new(rt.alloc()))
+            Ok(Outcome::Done)
         }
         Line::Bill {
             export,
@@ -145,7 +158,22 @@ fn run_line<R: Files + AllocGlobal, W: Write>(
                 Some(path) => Some(create(rt, *path)?),
                 None => None,
             };
-            run_bill_plain(rt.alloc(), &plan, &inputs, export.as_mut(), out)
+            let notes = run_bill_plain(rt.alloc(), &plan, &inputs, export.as_mut(), out)?;
+            Ok(Outcome::Noted(notes))
+        }
+        Line::Audit {
+            plan,
+            export,
+            statement,
+        } => {
+            let plan = read_plan(rt, *plan)?;
+            let export = read_numbered(rt, 0, *export)?;
+            let statement = read_numbered(rt, 1, *statement)?;
+            if run_audit(rt.alloc(), &plan, &export, &statement, out)? {
+                Ok(Outcome::Done)
+            } else {
+                Ok(Outcome::Differs)
+            }
         }
     }
 }

@@ -1,9 +1,10 @@
 //! The texts that the commands print.
 ghost use Rattle.std.specs.Prelude.{◌≡◌, ◌++◌, IfOk, OnOk, string_bytes};
-ghost use Rattle.tcacct.specs.Texts.{colour_line, meter_text, combine_text};
+ghost use Rattle.tcacct.specs.Texts.{audit_text, colour_line, meter_text, combine_text};
 
 use std::alloc::{AllocError, Global};
 use tca_accounts::Sums;
+use tca_audit::Verdict;
 
 fn colour_line(alloc: Global, name: &str, octets: u64, packets: u64) -> Result<String, AllocError>
     ensures { IfOk result (λ text. string_bytes text ≡ colour_line name.now octets packets) }
@@ -28,4 +29,14 @@ pub(crate) fn combine_line(alloc: Global, reports: u32) -> Result<String, AllocE
     ensures { IfOk result (λ text. string_bytes text ≡ combine_text reports) }
 {
     format!(in alloc; "reports {reports}\n")
+}
+
+/// Whether a statement agrees, or where it differs.
+pub(crate) fn audit_line(alloc: Global, verdict: Verdict) -> Result<String, AllocError>
+    ensures { IfOk result (λ text. string_bytes text ≡ audit_text verdict) }
+{
+    match verdict {
+        Verdict::Agrees => format!(in alloc; "agrees\n"),
+        Verdict::Differs { at } => format!(in alloc; "differs at {at}\n"),
+    }
 }

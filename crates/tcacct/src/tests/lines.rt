@@ -35,6 +35,21 @@ fn reads_lines(rt: HostRuntime) -> Result<(), Fail> {
         }
         _ => return Err("no bill line".into()),
     }
+    let words = ["tcacct", "audit", "p", "e", "s"];
+    match read_line(rt.alloc(), words.as_slice()) {
+        Ok(
+            Line::Audit {
+                plan,
+                export,
+                statement,
+            },
+        ) => {
+            assert_eq!(rt; plan, "p");
+            assert_eq!(rt; export, "e");
+            assert_eq!(rt; statement, "s");
+        }
+        _ => return Err("no audit line".into()),
+    }
     Ok(())
 }
 
@@ -59,7 +74,7 @@ fn refuses_wrong_lines(rt: HostRuntime) -> Result<(), Fail> {
     let lines: [(&[&str], &str); 10] = [
         (&[], "Usage: tcacct"),
         (&["tcacct"], "Usage: tcacct"),
-        (&["tcacct", "audit", "p", "e", "s"], "'audit'"),
+        (&["tcacct", "check", "p", "e", "s"], "'check'"),
         (&["tcacct", "meter", "s"], "<INPUT>"),
         (&["tcacct", "meter", "s", "a", "b", "c"], "'c'"),
         (&["tcacct", "combine", "o"], "<INPUT>"),

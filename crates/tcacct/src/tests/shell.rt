@@ -124,6 +124,57 @@ fn runs_commands(rt: HostRuntime) -> Result<(), Fail> {
 }
 
 #[test]
+fn audits_statements(rt: HostRuntime) -> Result<(), Fail> {
+    let folder = enter(&rt, "audit")?;
+    let statement = format!(in rt.alloc(); "{OPENING}{THREE_REPORTS}")?;
+    let octets = statement.as_bytes();
+    fs::write(
+        &rt,
+        "three",
+        export(rt.alloc(), &[FIRST, SECOND, THIRD])?.as_slice(),
+    )?;
+    fs::write(&rt, "right", octets)?;
+    fs::write(&rt, "short", octets.get(..143).ok_or("shorter")?)?;
+    fs::write(
+        &rt,
+        "more",
+        format!(in rt.alloc(); "{statement} ")?.as_bytes(),
+    )?;
+    let lines: [(&[&str], &str); 10] = [
+        (&["audit", "plan", "three", "right"], "0|agrees\n|"),
+        (&["audit", "plan", "three", "short"], "1|differs at 143\n|"),
+        (&["audit", "plan", "three", "more"], "1|differs at 144\n|"),
+        (&["audit", "plan", "three", "empty"], "1|differs at 0\n|"),
+        (&["audit", "plan", "one", "right"], "1|differs at 42\n|"),
+        (
+            &["audit", "plan", "cut", "right"],
+            "1||tcacct: cut: export 4\n",
+        ),
+        (
+            &["audit", "bad", "cut", "right"],
+            "1||tcacct: bad: plan 3\n",
+        ),
+        (
+            &["audit", "none", "cut", "right"],
+            "1||tcacct: none: read 1\n",
+        ),
+        (
+            &["audit", "bad", "nor this", "right"],
+            "1||tcacct: nor this: read 1\n",
+        ),
+        (
+            &["audit", "plan", "cut", "none"],
+            "1||tcacct: none: read 1\n",
+        ),
+    ];
+    for (words, ending) in lines {
+        assert_eq!(rt; ran(&rt, words)?.as_str(), ending, "{words:?}");
+    }
+    fs::remove_dir_all(&rt, folder.as_path())?;
+    Ok(())
+}
+
+#[test]
 fn makes_out_once_all_is_read(rt: HostRuntime) -> Result<(), Fail> {
     let folder = enter(&rt, "out")?;
     let lines: [(&[&str], &str, &[u8]); 6] = [

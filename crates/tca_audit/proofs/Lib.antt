@@ -1,0 +1,5 @@
+pub mod TokensLeft
+pub mod Verdicts
+pub mod Bills
+pub mod Repeats
+pub mod Refusals

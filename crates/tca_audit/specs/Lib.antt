@@ -1,0 +1,4 @@
+pub mod Faults
+pub mod Metering
+pub mod Repeats
+pub mod Audits

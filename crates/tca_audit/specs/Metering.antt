@@ -1,0 +1,36 @@
+-- Where an account stands while its reports are metered one after another.
+use Rattle.std.specs.Prelude.{◌≡◌, ℕ, ◌<◌, ◌≤◌, List, length, get_or}
+use Rattle.std.specs.List.{AllByRecursion}
+use Rattle.tca_report.specs.report.Reports.{PacketReport}
+use Rattle.tca_meters.specs.declared.colour.Colour.{Colour}
+use Rattle.tca_meters.specs.declared.levels.Levels.{Levels}
+use Rattle.tca_meters.specs.AnyMeters.{any_rule}
+use Rattle.tca_accounts.specs.Plans.{AccountPlan, PlannedAccount}
+use Rattle.tca_accounts.specs.Bills.{coloured_in}
+use Rattle.tca_accounts.specs.Metering.{Stands, owned, tally_at}
+use Rattle.tca_accounts.specs.declared.metered.Metered.{Metered}
+use Rattle.tca_accounts.specs.declared.tally.Tally.{Tally}
+use Rattle.tca_audit.specs.declared.buckets.Buckets.{Buckets}
+use Rattle.tca_audit.specs.declared.account.Account.{Account}
+
+-- two buckets, as the state of a meter
+abbrev pub levels_of : Buckets → Levels
+levels_of b = record { committed = b.committed; excess = b.excess }
+
+-- the meter's state, the time and the sums after the last report
+abbrev pub standing : Account → Metered Levels
+standing a = record { state = levels_of a.buckets; time = a.time; total = a.total }
+
+-- where an account stands before its later reports
+abbrev pub IsMetering : ℕ → List (PacketReport × Colour) → List PacketReport → Account → Type 0
+IsMetering period whole later a = Stands (any_rule a.meter) a.other period whole later (standing a) a.ended.items a.current
+
+-- the sums of the reports so far
+abbrev pub tally_so_far : Account → Tally
+tally_so_far a = tally_at a.total a.ended.items a.current
+
+-- each account of a plan stands before those of the later reports that it owns, and none of these is before one that it had
+pub record AreMetering (plan : AccountPlan) (all later : List PacketReport) (list : List Account) : Type 0 where
+  pub count : length list ≡ length plan.accounts
+  pub each : (n : ℕ) (planned : PlannedAccount) (a : Account) → n < length plan.accounts → IsMetering plan.period (coloured_in (get_or plan.accounts n planned) (owned plan n all)) (owned plan n later) (get_or list n a)
+  pub early : (n : ℕ) (a : Account) → n < length plan.accounts → AllByRecursion (λ (q : PacketReport). (get_or list n a).time ≤ q.time) later

@@ -1,0 +1,34 @@
+//! The audit of a statement: whether its octets are those that the plan and the reports of an export call for.
+//!
+//! This crate is for those who distrust the rest. It takes the text of the plan, the octets of an export and those of
+//! a statement, and meters each account in the plainest way: the tokens that come between two packets are let in one
+//! at a time, and each packet is judged as its RFC says. Of the other crates it takes the readers of plans and exports, the
+//! table of code points, and the text of a bill. A token is let in only where a bucket has room for it, so between two
+//! packets no more are let in than packets took out before. It takes 8 octets of memory for each report beside the
+//! list of reports itself.
+//!
+//! - `check`: the audit as a whole; `verdict`: the comparison, octet by octet; `fault`: why there is none;
+//! - `bill`: the sums of all accounts; `account`: one account; `disputes`: the identities that more than one report has;
+//! - `meters`: a packet at a meter of any kind; beneath it `srtcm` (RFC 2697), `trtcm` (RFC 2698) and `rfc4115`;
+//! - `arrivals`: when the tokens of a rate come; `buckets`: what they come to.
+#![tactic(auto)]
+
+mod account;
+mod arrivals;
+mod bill;
+mod buckets;
+mod check;
+mod disputes;
+mod fault;
+mod meters;
+mod rfc4115;
+mod srtcm;
+mod trtcm;
+mod verdict;
+
+pub use check::{audit, audit_under};
+pub use fault::AuditFault;
+pub use verdict::Verdict;
+
+#[cfg(test)]
+mod tests;

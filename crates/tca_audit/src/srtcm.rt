@@ -1,0 +1,78 @@
+//! The single rate three color marker of RFC 2697: tokens of one rate go to the committed bucket, and those that it has
+//! no room for to the excess bucket.
+ghost use Rattle.std.specs.Prelude.{◌≡◌, ◌⊎◌, ◌<◌, ◌≤◌, ◌^◌, MatchBool};
+ghost use Rattle.tca_buckets.specs.Buckets.{spill};
+ghost use Rattle.tca_meters.specs.Colours.{counted};
+ghost use Rattle.tca_meters.specs.SrTcm.{filled_levels, judged_packet, opening_levels};
+ghost use Rattle.tca_audit.specs.Metering.{levels_of};
+
+use crate::arrivals::{first_after, has_come};
+use crate::buckets::{Bucket, Buckets};
+use tca_meters::{Colour, SrTcm};
+
+/// Both buckets full, as at time 0 (RFC 2697 section 3).
+pub(crate) fn opening(meter: &SrTcm) -> Buckets
+    ensures { levels_of result ≡ opening_levels meter.now }
+{
+    Buckets {
+        committed: Bucket::full(meter.cbs()),
+        excess: Bucket::full(meter.ebs()),
+    }
+}
+
+// One token: if Tc is less than CBS, Tc gains it; else if Te is less than EBS, Te gains it; else neither does
+// (RFC 2697 section 3).
+fn spill(committed: &mut Bucket, excess: &mut Bucket)
+    ensures { (committed.new, excess.new) ≡ spill (committed.old, excess.old) }
+{
+    if !committed.is_full() {
+        committed.gain();
+    } else if !excess.is_full() {
+        excess.gain();
+    }
+}
+
+// Whether one of the buckets has room for a token.
+fn have_room(committed: &Bucket, excess: &Bucket) -> bool
+    ensures { MatchBool result
+        ((committed.now.level < committed.now.cap) ⊎ (excess.now.level < excess.now.cap))
+        ((committed.now.level ≡ committed.now.cap) × (excess.now.level ≡ excess.now.cap)) }
+{
+    !committed.is_full() || !excess.is_full()
+}
+
+/// The buckets once the tokens that come after `from` and at or before `to` were let in, one at a time.
+pub(crate) fn filled(meter: &SrTcm, buckets: Buckets, from: u64, to: u64) -> Buckets
+    requires order { from ≤ to }
+    requires time { to < 2 ^ 48 }
+    ensures { levels_of result ≡ filled_levels meter.now from to (levels_of buckets) }
+{
+    let cir = meter.cir();
+    let mut committed = buckets.committed;
+    let mut excess = buckets.excess;
+    let mut token = first_after(cir, from);
+    while have_room(&committed, &excess) && has_come(cir, token, to) {
+        spill(&mut committed, &mut excess);
+        token += 1;
+    }
+    Buckets { committed, excess }
+}
+
+/// The colour of a packet of `octets`, and the buckets after it: green if Tc has a token for each octet, which Tc
+/// loses; else yellow if Te has, which Te loses; else red (RFC 2697 section 3). In aware mode green needs a green
+/// packet, and yellow one that isn't red; in blind mode each packet counts as green.
+pub(crate) fn judged(meter: &SrTcm, buckets: Buckets, octets: u32, pre: Colour) -> (Colour, Buckets)
+    ensures { (result.0, levels_of result.1) ≡ judged_packet (levels_of buckets) octets (counted meter.now.aware pre) }
+{
+    let mut next = buckets;
+    let pre = if meter.aware() { pre } else { Colour::Green };
+    if pre == Colour::Green && next.committed.fits(octets, true) {
+        next.committed.spend(octets);
+        (Colour::Green, next)
+    } else if pre != Colour::Red && next.excess.fits(octets, true) {
+        next.excess.spend(octets);
+        (Colour::Yellow, next)
+    } else {
+        (Colour::Red, next)
+    }
+}

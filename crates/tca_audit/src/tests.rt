@@ -1,0 +1,309 @@
+//! Audits from outside, by reports whose colours were found by hand, and by statements of the bill.
+use crate::{AuditFault, Verdict, audit, audit_under};
+use std::alloc::{AllocError, Global};
+use std::test::Fail;
+use tca_accounts::{Key, Plan, PlanFault, bill_all};
+use tca_log::Log;
+use tca_report::{Content, ExportFault, Host, Identity, Report};
+use tca_statements::{Statement, render};
+
+// The time of the first report.
+const START: u64 = 1_700_000_000_000;
+
+// One account, with the traffic of one interface.
+const HEAD: &str = "period = 3600000\n[[account]]\nname = \"alpha\"\nkeys = [[7, 1]]\n";
+
+const BLIND: &str = "meter = \"rfc2697\"\ncir = 1000\ncbs = 2000\nebs = 1000\n";
+
+const AWARE: &str = "meter = \"rfc2697\"\naware = true\ncir = 1000\ncbs = 2000\nebs = 1000\n";
+
+const PEAK: &str = "meter = \"rfc2698\"\npir = 2000\npbs = 2000\ncir = 1000\ncbs = 1000\n";
+
+const EXACT: &str =
+    "meter = \"rfc4115\"\nexact_fit = true\ncir = 1000\ncbs = 1000\neir = 1000\nebs = 1000\n";
+
+const BELOW: &str =
+    "meter = \"rfc4115\"\nexact_fit = false\ncir = 1000\ncbs = 1000\neir = 1000\nebs = 1000\n";
+
+// A place, milliseconds after the first report, octets, a code point, and an interface, in domain 7.
+type Row = (u32, u64, u32, u8, u32);
+
+const FIRST: [Row; 3] = [
+    (0, 0, 1500, 0, 1),
+    (1, 100, 1000, 0, 1),
+    (2, 200, 800, 0, 1),
+];
+
+const THREE: &str =
+    "tcacct statement 1\nperiod 3600000\nreports 3\ndisputed 0\nunassigned 0\naccount alpha\ntotal 1500 1 1000 1 800 1\nspan 472222 1500 1 1000 1 800 1\nend\n";
+
+fn joined(alloc: Global, parts: &[&str]) -> Result<String, AllocError> {
+    let mut text = String::new(alloc);
+    for part in parts {
+        text.push_str(part)?;
+    }
+    Ok(text)
+}
+
+// Appends a report to the octets of an export.
+fn push_row(row: &Row, into: &mut Vec<u8>) -> Result<(), AllocError> {
+    let (place, late, octets, dscp, iface) = *row;
+    into.extend_from_slice(&START.wrapping_add(late).to_be_bytes())?;
+    into.extend_from_slice(&7u32.to_be_bytes())?;
+    into.extend_from_slice(&place.to_be_bytes())?;
+    into.extend_from_slice(&octets.to_be_bytes())?;
+    into.extend_from_slice(&[dscp])?;
+    into.extend_from_slice(&iface.to_be_bytes())
+}
+
+// The export of these rows, which are in the order of reports.
+fn exported(alloc: Global, rows: &[Row]) -> Result<Vec<u8>, AllocError> {
+    let mut octets = Vec::from_slice(alloc, b"TCAX\x00\x01")?;
+    octets.extend_from_slice(&(rows.len().min(4_194_304) as u32).to_be_bytes())?;
+    for row in rows {
+        push_row(row, &mut octets)?;
+    }
+    Ok(octets)
+}
+
+// What the audit of a statement with these lines finds, under a plan of one account with this meter.
+fn found(alloc: Global, meter: &str, rows: &[Row], lines: &str) -> Result<Verdict, Fail> {
+    let plan = joined(alloc, &[HEAD, meter])?;
+    let statement = joined(
+        alloc,
+        &["tcacct statement 1\nperiod 3600000\n", lines, "end\n"],
+    )?;
+    let export = exported(alloc, rows)?;
+    let verdict = audit(alloc, plan.as_bytes(), &export, statement.as_bytes())?;
+    Ok(verdict)
+}
+
+#[test]
+fn tells_where_a_statement_differs(rt: HostRuntime) -> Result<(), Fail> {
+    let alloc = rt.alloc();
+    let plan = joined(alloc, &[HEAD, BLIND])?;
+    let plan = plan.as_bytes();
+    let export = exported(alloc, &FIRST)?;
+    let right = THREE.as_bytes();
+    assert_eq!(rt; audit(alloc, plan, &export, right), Ok(Verdict::Agrees));
+    let other =
+        "tcacct statement 1\nperiod 3600000\nreports 3\ndisputed 0\nunassigned 0\naccount alpha\ntotal 1501 1 1000 1 800 1\nspan 472222 1500 1 1000 1 800 1\nend\n";
+    let verdict = audit(alloc, plan, &export, other.as_bytes());
+    assert_eq!(rt; verdict, Ok(Verdict::Differs { at: 91 }));
+    let cut = right.get(..143).ok_or("144 octets")?;
+    let verdict = audit(alloc, plan, &export, cut);
+    assert_eq!(rt; verdict, Ok(Verdict::Differs { at: 143 }));
+    let longer = joined(alloc, &[THREE, "\n"])?;
+    let verdict = audit(alloc, plan, &export, longer.as_bytes());
+    assert_eq!(rt; verdict, Ok(Verdict::Differs { at: 144 }));
+    let verdict = audit(alloc, plan, &export, b"");
+    assert_eq!(rt; verdict, Ok(Verdict::Differs { at: 0 }));
+    Ok(())
+}
+
+#[test]
+fn refuses_the_plan_before_the_export(rt: HostRuntime) -> Result<(), Fail> {
+    let alloc = rt.alloc();
+    let plan = joined(alloc, &[HEAD, BLIND])?;
+    let export = exported(alloc, &FIRST)?;
+    let cut = export.get(..84).ok_or("85 octets")?;
+    let refused = audit(alloc, plan.as_bytes(), cut, THREE.as_bytes());
+    assert_eq!(rt; refused, Err(AuditFault::Export(ExportFault::Cut)));
+    let wrong = PlanFault::Wrong { key: Key::Period };
+    let refused = audit(alloc, b"period = 0\n", cut, THREE.as_bytes());
+    assert_eq!(rt; refused, Err(AuditFault::Plan(wrong)));
+    Ok(())
+}
+
+#[test]
+fn agrees_with_late_and_disputed_reports(rt: HostRuntime) -> Result<(), Fail> {
+    let alloc = rt.alloc();
+    let late = [FIRST[0], (3, 50, 600, 0, 1), FIRST[1], FIRST[2]];
+    let lines =
+        "reports 4\ndisputed 0\nunassigned 0\naccount alpha\ntotal 1500 1 600 1 1800 2\nspan 472222 1500 1 600 1 1800 2\n";
+    assert_eq!(rt; found(alloc, BLIND, &late, lines)?, Verdict::Agrees);
+    let two = [
+        FIRST[0],
+        (3, 50, 600, 0, 1),
+        (3, 60, 601, 0, 1),
+        FIRST[1],
+        FIRST[2],
+    ];
+    let lines =
+        "reports 5\ndisputed 1\nunassigned 0\naccount alpha\ntotal 1500 1 1000 1 800 1\nspan 472222 1500 1 1000 1 800 1\n";
+    assert_eq!(rt; found(alloc, BLIND, &two, lines)?, Verdict::Agrees);
+    let three = [
+        FIRST[0],
+        (3, 50, 600, 0, 1),
+        (3, 60, 601, 0, 1),
+        (3, 70, 602, 0, 1),
+        FIRST[1],
+        FIRST[2],
+    ];
+    let lines =
+        "reports 6\ndisputed 1\nunassigned 0\naccount alpha\ntotal 1500 1 1000 1 800 1\nspan 472222 1500 1 1000 1 800 1\n";
+    assert_eq!(rt; found(alloc, BLIND, &three, lines)?, Verdict::Agrees);
+    let hours = [
+        (2, 0, 50, 0, 2),
+        (0, 2_799_999, 100, 0, 1),
+        (1, 2_800_000, 100, 0, 1),
+    ];
+    let lines =
+        "reports 3\ndisputed 0\nunassigned 1\naccount alpha\ntotal 200 2 0 0 0 0\nspan 472222 100 1 0 0 0 0\nspan 472223 100 1 0 0 0 0\n";
+    assert_eq!(rt; found(alloc, BLIND, &hours, lines)?, Verdict::Agrees);
+    Ok(())
+}
+
+#[test]
+fn agrees_with_each_meter(rt: HostRuntime) -> Result<(), Fail> {
+    let alloc = rt.alloc();
+    let same = [(0, 0, 1000, 0, 1), (1, 0, 1000, 0, 1), (2, 0, 1000, 0, 1)];
+    let lines =
+        "reports 3\ndisputed 0\nunassigned 0\naccount alpha\ntotal 1000 1 1000 1 1000 1\nspan 472222 1000 1 1000 1 1000 1\n";
+    assert_eq!(rt; found(alloc, EXACT, &same, lines)?, Verdict::Agrees);
+    let lines =
+        "reports 3\ndisputed 0\nunassigned 0\naccount alpha\ntotal 0 0 0 0 3000 3\nspan 472222 0 0 0 0 3000 3\n";
+    assert_eq!(rt; found(alloc, BELOW, &same, lines)?, Verdict::Agrees);
+    let peak = [(0, 0, 1500, 0, 1), (1, 0, 500, 0, 1), (2, 1, 3, 0, 1)];
+    let lines =
+        "reports 3\ndisputed 0\nunassigned 0\naccount alpha\ntotal 500 1 1500 1 3 1\nspan 472222 500 1 1500 1 3 1\n";
+    assert_eq!(rt; found(alloc, PEAK, &peak, lines)?, Verdict::Agrees);
+    let lines =
+        "reports 1\ndisputed 0\nunassigned 0\naccount alpha\ntotal 0 0 0 0 100 1\nspan 472222 0 0 0 0 100 1\n";
+    assert_eq!(rt;
+        found(alloc, AWARE, &[(0, 0, 100, 14, 1)], lines)?,
+        Verdict::Agrees
+    );
+    let lines =
+        "reports 1\ndisputed 0\nunassigned 0\naccount alpha\ntotal 0 0 1000 1 0 0\nspan 472222 0 0 1000 1 0 0\n";
+    assert_eq!(rt;
+        found(alloc, AWARE, &[(0, 0, 1000, 12, 1)], lines)?,
+        Verdict::Agrees
+    );
+    let lines =
+        "reports 1\ndisputed 0\nunassigned 0\naccount alpha\ntotal 2000 1 0 0 0 0\nspan 472222 2000 1 0 0 0 0\n";
+    assert_eq!(rt;
+        found(alloc, AWARE, &[(0, 0, 2000, 46, 1)], lines)?,
+        Verdict::Agrees
+    );
+    Ok(())
+}
+
+// Three accounts, one with each kind of meter. Interface 4 has none.
+const SEVERAL: &str =
+    "period = 700\n[[account]]\nname = \"a\"\nmeter = \"rfc2697\"\naware = true\nother = \"yellow\"\ncir = 1700\ncbs = 900\nebs = 700\nkeys = [[7, 1]]\n[[account]]\nname = \"b\"\nmeter = \"rfc2698\"\naware = true\npir = 2900\npbs = 1500\ncir = 1300\ncbs = 1100\nkeys = [[7, 2]]\n[[account]]\nname = \"c\"\nmeter = \"rfc4115\"\nexact_fit = false\ncir = 333\ncbs = 1200\neir = 1000000000000\nebs = 800\nkeys = [[7, 3]]\n";
+
+// Numbers that follow one another by a fixed rule.
+#[derive(Drop)]
+struct Numbers {
+    state: u64,
+}
+
+impl Numbers {
+    // The next one, below a bound.
+    fn below(&mut self, bound: u32) -> u32 {
+        self.state = self
+            .state
+            .wrapping_mul(6_364_136_223_846_793_005)
+            .wrapping_add(1_442_695_040_888_963_407);
+        let high = (self.state >> 33) as u32;
+        if bound == 0 { 0 } else { high % bound }
+    }
+
+    fn row(&mut self) -> Row {
+        let place = self.below(12);
+        let late = self.below(3000) as u64;
+        let octets = self.below(1200).wrapping_add(1);
+        let points = [0, 10, 12, 14, 46];
+        let dscp = points.get(self.below(5) as usize).copied().unwrap_or(0);
+        let iface = self.below(4).wrapping_add(1);
+        (place, late, octets, dscp, iface)
+    }
+}
+
+// A log of some reports.
+fn logged(alloc: Global, numbers: &mut Numbers) -> Result<Log, Fail> {
+    let mut log = Log::new(alloc);
+    for _ in 0..numbers.below(14) {
+        let (place, late, octets, dscp, iface) = numbers.row();
+        let identity = Identity { domain: 7, place };
+        let content = Content {
+            time: START.wrapping_add(late),
+            octets,
+            dscp,
+            iface,
+        };
+        let report = Report::new(identity, content).ok_or("a report within its ranges")?;
+        log.add(report)?;
+    }
+    Ok(log)
+}
+
+// The reports of a log as rows.
+fn rows(alloc: Global, log: &Log) -> Result<Vec<Row>, AllocError> {
+    let mut list = Vec::new(alloc);
+    for report in log.reports() {
+        let content = report.content();
+        let late = content.time.wrapping_sub(START);
+        let place = report.identity().place;
+        list.push((place, late, content.octets, content.dscp, content.iface))?;
+    }
+    Ok(list)
+}
+
+// The statement of a log.
+fn stated(alloc: Global, plan: &Plan, log: &Log) -> Result<Vec<u8>, Fail> {
+    let bill = bill_all(alloc, plan, log)?;
+    if bill.accounts.as_slice().len() != plan.accounts() as usize {
+        return Err(Fail::from("a tally of each account"));
+    }
+    let statement = Statement::of(alloc, plan, &bill)?;
+    let mut out = Host::new(Vec::new(alloc));
+    if render(&statement, &mut out).is_err() {
+        return Err(Fail::from("a list takes all octets"));
+    }
+    Ok(out.into_inner())
+}
+
+#[test]
+fn agrees_with_the_bill(rt: HostRuntime) -> Result<(), Fail> {
+    let alloc = rt.alloc();
+    let plan = Plan::from_text(alloc, SEVERAL.as_bytes())?;
+    let mut numbers = Numbers { state: 1 };
+    for _ in 0..400 {
+        let log = logged(alloc, &mut numbers)?;
+        let list = rows(alloc, &log)?;
+        let export = exported(alloc, &list)?;
+        let mut statement = stated(alloc, &plan, &log)?;
+        let verdict = audit_under(alloc, &plan, &export, &statement)?;
+        assert_eq!(rt; verdict, Verdict::Agrees);
+        let at = numbers.below(statement.len().min(4_194_304) as u32) as usize;
+        if let Some(octet) = statement.get_mut(at) {
+            *octet ^= 1;
+        }
+        let verdict = audit_under(alloc, &plan, &export, &statement)?;
+        assert_eq!(rt; verdict, Verdict::Differs { at: at as u64 });
+    }
+    Ok(())
+}
+
+#[test]
+fn faults_have_their_numbers_and_texts(rt: HostRuntime) -> Result<(), Fail> {
+    for (fault, number, text) in [
+        (
+            AuditFault::Plan(PlanFault::KeyTwice),
+            1,
+            "the plan is refused: a pair of domain and interface, or a name, stands twice",
+        ),
+        (
+            AuditFault::Export(ExportFault::Magic),
+            2,
+            "the log export is refused: the export does not begin with TCAX",
+        ),
+        (AuditFault::Memory, 3, "out of memory"),
+    ] {
+        assert_eq!(rt; fault.number(), number);
+        assert_eq!(rt; format!(in rt.alloc(); "{fault}")?.as_str(), text);
+    }
+    Ok(())
+}

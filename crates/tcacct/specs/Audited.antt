@@ -1,0 +1,52 @@
+-- What the command `audit` prints, and what it is refused for.
+use Rattle.std.specs.Prelude.{◌≡◌, ℕ, Bool, true, false, List, None}
+use Rattle.tca_report.specs.Faults.{export_number}
+use Rattle.tca_accounts.specs.Faults.{plan_number}
+use Rattle.tca_audit.specs.Audits.{IsAudited, IsRefused}
+use Rattle.tca_audit.specs.declared.fault.AuditFault.{AuditFault}
+use Rattle.tca_audit.specs.declared.fault.AuditFault.TheVariants as fault
+use Rattle.tca_audit.specs.declared.verdict.Verdict.{Verdict}
+use Rattle.tca_audit.specs.declared.verdict.Verdict.TheVariants.{Agrees, Differs}
+use Rattle.tcacct.specs.declared.fault.RunFault.{RunFault}
+use Rattle.tcacct.specs.declared.fault.Family.TheVariants as family
+use Rattle.tcacct.specs.Devices.{Device, IsCutOff, Receives}
+use Rattle.tcacct.specs.Texts.{audit_text}
+use Rattle.tcacct.specs.Runs.{is_write, memory_refusal, refusal, write_refusal}
+
+-- whether a verdict is that the statement agrees
+abbrev pub is_agreement : Verdict → Bool
+is_agreement Agrees = true
+is_agreement (Differs at) = false
+
+-- the refusal of an audit by its fault: that of the plan or of the export, which is no input
+abbrev pub audit_refusal : AuditFault → RunFault
+audit_refusal (fault.Plan f) = refusal None family.Plan (plan_number f)
+audit_refusal (fault.Export f) = refusal None family.Export (export_number f)
+audit_refusal fault.Memory = memory_refusal
+
+-- The statement was audited, the line of the verdict was written, and the answer is whether it agrees.
+pub record IsAuditDone (plan export statement : List ℕ) (old new : Device) (agrees : Bool) : Type 0 where
+  pub verdict : Verdict
+  pub audited : IsAudited plan export statement verdict
+  pub written : Receives (audit_text verdict) old new
+  pub answer : agrees ≡ is_agreement verdict
+
+-- A write failed, and of the line only a part went out.
+pub record IsAuditCutOff (plan export statement : List ℕ) (old new : Device) (e : RunFault) : Type 0 where
+  pub fault : e ≡ write_refusal
+  pub verdict : Verdict
+  pub audited : IsAudited plan export statement verdict
+  pub part : IsCutOff (audit_text verdict) old new
+
+-- Why there is no verdict: the fault of the plan, or where it has none that of the export, unless memory ran out.
+pub record IsAuditUnmade (plan export : List ℕ) (e : RunFault) : Type 0 where
+  pub fault : AuditFault
+  pub refused : IsRefused plan export fault
+  pub named : e ≡ audit_refusal fault
+  pub no_write : is_write e ≡ false
+
+-- What a refusal is, and what it leaves of the device: as it was, unless a write failed.
+pub record IsAuditRefused (plan export statement : List ℕ) (old new : Device) (e : RunFault) : Type 0 where
+  pub unmade : is_write e ≡ false → IsAuditUnmade plan export e
+  pub untouched : is_write e ≡ false → new ≡ old
+  pub cut_off : is_write e ≡ true → IsAuditCutOff plan export statement old new e

@@ -1,0 +1,61 @@
+//! The command `audit`.
+ghost use Rattle.std.specs.Prelude.{◌≡◌, IfOk, IfErr, string_bytes};
+ghost use Rattle.tca_audit.specs.Audits.{IsAudited};
+ghost use Rattle.tcacct.specs.Audited.{IsAuditDone, IsAuditRefused, IsAuditUnmade, is_agreement};
+ghost use Rattle.tcacct.specs.Devices.{device};
+ghost use Rattle.tcacct.specs.Texts.{audit_text};
+
+use crate::fault::RunFault;
+use crate::texts::audit_line;
+use std::alloc::Global;
+use tca_audit::{Verdict, audit};
+use tca_report::{Write, put_all};
+
+// The verdict, and its line.
+fn made(
+    alloc: Global,
+    plan: &[u8],
+    export: &[u8],
+    statement: &[u8],
+) -> Result<(Verdict, String), RunFault>
+    ensures audited { IfOk result (λ x. IsAudited plan.now export.now statement.now x.0) }
+    ensures line { IfOk result (λ x. string_bytes x.1 ≡ audit_text x.0) }
+    ensures unmade { IfErr result (IsAuditUnmade plan.now export.now) }
+{
+    let verdict = audit(alloc, plan, export, statement)?;
+    let line = audit_line(alloc, verdict)?;
+    Ok((verdict, line))
+}
+
+// Whether a verdict is that the statement agrees.
+fn agrees(verdict: Verdict) -> bool
+    ensures { result ≡ is_agreement verdict }
+{
+    match verdict {
+        Verdict::Agrees => true,
+        Verdict::Differs { .. } => false,
+    }
+}
+
+/// Audits a statement: writes `agrees` to `out` where its octets are those of the statement of the export's reports under the
+/// plan, else `differs at` and the first octet that differs, counted from 0, or the shorter text's length. Answers whether it
+/// agrees.
+///
+/// The plan is judged first, then the export. A refusal but that of a write leaves `out` as it was; that of a write says that only
+/// a part of the line went out.
+pub fn run_audit<W: Write>(
+    alloc: Global,
+    plan: &[u8],
+    export: &[u8],
+    statement: &[u8],
+    out: &mut W,
+) -> Result<bool, RunFault>
+    ensures done { IfOk result (IsAuditDone plan.now export.now statement.now
+        (device W.written W.failures out.old) (device W.written W.failures out.new)) }
+    ensures refused { IfErr result (IsAuditRefused plan.now export.now statement.now
+        (device W.written W.failures out.old) (device W.written W.failures out.new)) }
+{
+    let (verdict, line) = made(alloc, plan, export, statement)?;
+    put_all(line.as_bytes(), out)?;
+    Ok(agrees(verdict))
+}
