@@ -1,0 +1,56 @@
+//! The chains of a replica, by origin.
+ghost use Rattle.std.specs.Prelude.{◌≡◌, ◌<◌, ◌≤◌, [], ◌∷◌, ◌++◌, length, OnOk, OnErr, Some, true};
+ghost use Rattle.tca_join.specs.Chains.{chain};
+ghost use Rattle.tca_join.specs.Maps.{Rises, get, put};
+ghost use Rattle.tca_gossip.specs.Kept.{held_in, kept_of};
+
+use std::alloc::{AllocError, Global};
+use tca_join::{ByKey, Chain};
+use tca_report::Report;
+
+/// The reports that are kept of an origin, none where it has no chain.
+pub(crate) fn kept(chains: &ByKey<Chain<Report>>, origin: u32) -> &[Report]
+    ensures items { result.now ≡ kept_of chains.now origin }
+    ensures limit { length result.now ≤ 4194304 }
+{
+    match chains.get(origin) {
+        Some(chain) => {
+            let _limit = chain.len();
+            chain.items()
+        }
+        None => &[],
+    }
+}
+
+/// Makes room for one report more in the chain of an origin. No chain gets or loses a report, also on a refusal.
+pub(crate) fn reserve(
+    alloc: Global,
+    chains: &mut ByKey<Chain<Report>>,
+    origin: u32,
+) -> Result<(), AllocError>
+    ensures room { OnOk result (get chains.new origin ≡ Some (chain (kept_of chains.old origin) true)) }
+    ensures held { held_in chains.new ≡ held_in chains.old }
+    ensures kept { kept_of chains.new origin ≡ kept_of chains.old origin }
+    ensures rises { Rises chains.new }
+{
+    let _rises = chains.keys();
+    if let Some(chain) = chains.get_mut(origin) {
+        return chain.reserve();
+    }
+    let mut chain = Chain::new(alloc);
+    chain.reserve()?;
+    chains.set(origin, chain)
+}
+
+/// Appends a report to the chain of an origin, into the room that was made. It takes no memory.
+pub(crate) fn push(chains: &mut ByKey<Chain<Report>>, origin: u32, report: Report)
+    requires room { get chains.old origin ≡ Some (chain (kept_of chains.old origin) true) }
+    requires few { length (kept_of chains.old origin) < 4194304 }
+    ensures rises { Rises chains.new }
+    ensures held { held_in chains.new ≡ put (λ w u. w ++ u) origin (report ∷ []) (held_in chains.old) }
+{
+    let _rises = chains.keys();
+    if let Some(chain) = chains.get_mut(origin) {
+        chain.push(report);
+    }
+}

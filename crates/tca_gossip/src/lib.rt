@@ -1,0 +1,27 @@
+//! Replicas of a log, and how they tell each other what they hold.
+//!
+//! A `Replica` keeps for each origin a chain of reports, in the order in which they were new there, and the log that is the set of
+//! them all; a book beside it has the bill. What others tell it is checked as input: a delta is taken as far as it goes on from
+//! the chains that are held, or refused before any change. A merge is all or nothing. Whatever is refused for want of memory, the
+//! answer names what is held, and the same call with memory completes it.
+//!
+//! - `replica`: its calls; `contents`: log, chains and book, which agree after each; `chains`: the chains by origin;
+//! - `run`: what replicas send each other; `summary` and `delta`: what one sends; `absorb`: what one does with what comes;
+//! - `fault`: how a take went, and why an absorb is refused or stops;
+//! - `laws`: what the calls come to, for two or three replicas and in a world of any number of them.
+#![tactic(auto)]
+
+mod absorb;
+mod chains;
+mod contents;
+mod delta;
+mod fault;
+mod laws;
+mod replica;
+mod run;
+mod summary;
+
+pub use fault::{AbsorbFault, Taken};
+pub use laws::{machine_laws, merge_laws, shown_laws, step_laws};
+pub use replica::Replica;
+pub use run::{Delta, Run, Summary};

@@ -1,0 +1,190 @@
+//! A replica.
+ghost use Rattle.std.specs.Prelude.{◌≡◌, ◌≤◌, None, false, length, take, OnOk, OnErr, IfOk, IfErr};
+ghost use Rattle.tca_accounts.specs.Bills.{bill_of};
+ghost use Rattle.tca_join.specs.Faults.{IsJoinFault};
+ghost use Rattle.tca_gossip.specs.Replicas.{IsReplica, chain_of, fresh_of, merge_clash, merge_full, merged_with, new_replica, taken};
+ghost use Rattle.tca_gossip.specs.Runs.{AreRuns, IsOutcome, absorbed, delta_of, rests, summary_count};
+ghost use Rattle.tca_gossip.specs.Coupling.{counts_of};
+ghost use Rattle.tca_gossip.specs.Answers.{IsStopAt, IsStopOf, outcome_of};
+
+use crate::absorb::append_rests;
+use crate::contents::Contents;
+use crate::fault::{AbsorbFault, Taken};
+use crate::run::{Delta, Run, Summary};
+use std::alloc::{AllocError, Global};
+use std::marker::Model;
+use tca_accounts::{Bill, Plan};
+use tca_join::JoinFault;
+use tca_log::Log;
+use tca_report::Report;
+
+/// What one collector holds: for each origin a chain of reports, in the order in which they were new there, and the log that is
+/// the set of them all. Its own chain is what its own `take` got new.
+///
+/// A book beside the log keeps the bill, so that a late report costs what follows it and not the whole history.
+#[derive(Drop)]
+pub struct Replica {
+    contents: Contents,
+}
+
+impl Model for Replica {
+    ghost use Rattle.tca_replay.specs.Books.{AreSettled};
+    ghost use Rattle.tca_gossip.specs.Replicas.{ReplicaView};
+
+    ghost Value = { ReplicaView };
+
+    ghost view = { λ r. r.contents.replica };
+
+    ghost invariant = { λ r. AreSettled r.contents.book.lanes };
+}
+
+impl Replica {
+    /// A replica of this name that holds nothing. All replicas that tell each other have one plan and distinct names.
+    pub fn new(alloc: Global, name: u32, plan: Plan) -> Result<Replica, AllocError>
+        ensures { IfOk result (λ r. r ≡ new_replica plan name) }
+    {
+        Ok(Replica {
+            contents: Contents::new(alloc, name, plan)?,
+        })
+    }
+
+    /// Its name, by which others know its chain.
+    pub fn name(&self) -> u32
+        ensures { result ≡ self.now.name }
+    {
+        self.contents.name
+    }
+
+    /// The set of the reports of all chains.
+    pub fn log(&self) -> &Log
+        ensures log { result.now ≡ self.now.log }
+        ensures replica { IsReplica self.now }
+    {
+        self.contents.known();
+        &self.contents.log
+    }
+
+    /// The chain of an origin, empty where nothing is held.
+    pub fn chain(&self, origin: u32) -> &[Report]
+        ensures items { result.now ≡ chain_of self.now origin }
+        ensures limit { length result.now ≤ 4194304 }
+    {
+        self.contents.chain(origin)
+    }
+
+    /// Takes reports in order. Each that is new to the log at its turn goes to the end of the own chain; one that is there
+    /// changes nothing. It stops before a report that the log doesn't take: `Full` where the log has 4,194,304 reports and not
+    /// this one, `Memory` where a growth was refused. What was taken until then stays.
+    pub fn take(&mut self, reports: &[Report]) -> Taken
+        ensures within { result.taken ≤ length reports.now }
+        ensures state { self.new ≡ taken self.old (take result.taken reports.now) }
+        ensures fresh { result.fresh ≡ length (fresh_of self.old.log (take result.taken reports.now)) }
+        ensures stop { IsStopAt self.new.log reports.now result.taken result.stop }
+    {
+        let taken = take_each(&mut self.contents, reports);
+        self.contents.settle();
+        taken
+    }
+
+    /// Appends what the runs of a delta have past the chains of their origins, in their order, and answers how many reports that was.
+    /// A delta may come from anywhere.
+    ///
+    /// `OwnAhead`, `Gap` and `Forked` are tested run by run, in this order, before any change, and change nothing. `Stopped` says how
+    /// many of the new reports were appended, and why the log didn't take the next one. A delta with nothing new takes no memory.
+    pub fn absorb(&mut self, delta: &Delta) -> Result<u64, AbsorbFault>
+        ensures state { self.new ≡ absorbed self.old delta.now (outcome_of result) }
+        ensures outcome { IsOutcome self.old.name (chain_of self.old) delta.now (outcome_of result) }
+        ensures stop { IsStopOf self.new (rests (chain_of self.old) delta.now) result }
+    {
+        let outcome = absorb_runs(&mut self.contents, delta.runs());
+        self.contents.settle();
+        outcome
+    }
+
+    /// How long each chain is that holds something, by origin.
+    pub fn summary(&self) -> Result<Summary, AllocError>
+        ensures { IfOk result (λ s. s ≡ counts_of self.now.chains) }
+    {
+        self.contents.summary()
+    }
+
+    /// For each origin of which more is held than the summary counts, the run of the rest.
+    pub fn delta(&self, since: &Summary) -> Result<Delta, AllocError>
+        ensures { IfOk result (λ d. d ≡ delta_of (summary_count since.now) self.now.chains) }
+    {
+        self.contents.delta(since)
+    }
+
+    /// Joins this replica with another: of the two chains of each origin the longer is kept, and the log is the union. The name
+    /// and the plan stay. All or nothing: `Clash` names the least origin of which neither chain begins with the other, or the
+    /// own name where the other holds more of it; `Full` comes where the union has more than 4,194,304 reports; `Memory` where a
+    /// growth was refused.
+    pub fn merge(&mut self, other: &Replica) -> Result<(), JoinFault>
+        ensures ok { OnOk result (self.new ≡ merged_with self.old other.now) }
+        ensures compatible { OnOk result (merge_clash ⟦<Report as PartialEq>⟧.eq self.old other.now ≡ None) }
+        ensures within { OnOk result (merge_full self.old other.now ≡ false) }
+        ensures err { OnErr result (self.new ≡ self.old) }
+        ensures fault { IfErr result (IsJoinFault (merge_clash ⟦<Report as PartialEq>⟧.eq self.old other.now) (merge_full self.old other.now)) }
+    {
+        self.contents.merge(&other.contents)
+    }
+
+    /// The bill of the log under the plan, as the book has it.
+    pub fn totals(&self) -> Result<Bill, AllocError>
+        ensures { IfOk result (λ bill. bill ≡ bill_of self.now.plan self.now.log) }
+    {
+        self.contents.totals()
+    }
+}
+
+// Absorbs runs, unless one of them has a fault.
+fn absorb_runs(contents: &mut Contents, runs: &[Run]) -> Result<u64, AbsorbFault>
+    requires { AreRuns runs.now }
+    ensures state { contents.new.replica ≡ absorbed contents.old.replica runs.now (outcome_of result) }
+    ensures outcome { IsOutcome contents.old.replica.name (chain_of contents.old.replica) runs.now (outcome_of result) }
+    ensures stop { IsStopOf contents.new.replica (rests (chain_of contents.old.replica) runs.now) result }
+{
+    if let Some(fault) = contents.refusal(runs) {
+        return Err(fault);
+    }
+    match append_rests(contents, runs) {
+        Ok(count) => Ok(count),
+        Err(stop) => Err(AbsorbFault::Stopped {
+            taken: stop.taken,
+            cause: stop.cause,
+        }),
+    }
+}
+
+// Takes reports one by one.
+fn take_each(contents: &mut Contents, reports: &[Report]) -> Taken
+    ensures within { result.taken ≤ length reports.now }
+    ensures state { contents.new.replica ≡ taken contents.old.replica (take result.taken reports.now) }
+    ensures fresh { result.fresh ≡ length (fresh_of contents.old.replica.log (take result.taken reports.now)) }
+    ensures stop { IsStopAt contents.new.replica.log reports.now result.taken result.stop }
+{
+    let mut taken = 0;
+    let mut fresh = 0;
+    for report in reports {
+        match contents.take_report(*report) {
+            Ok(new) => {
+                taken += 1;
+                if new {
+                    fresh += 1;
+                }
+            }
+            Err(fault) => {
+                return Taken {
+                    taken,
+                    fresh,
+                    stop: Some(fault),
+                };
+            }
+        }
+    }
+    Taken {
+        taken,
+        fresh,
+        stop: None,
+    }
+}
