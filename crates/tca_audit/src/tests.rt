@@ -270,7 +270,7 @@ fn agrees_with_the_bill(rt: HostRuntime) -> Result<(), Fail> {
     let alloc = rt.alloc();
     let plan = Plan::from_text(alloc, SEVERAL.as_bytes())?;
     let mut numbers = Numbers { state: 1 };
-    for _ in 0..400 {
+    for _ in 0..2_000 {
         let log = logged(alloc, &mut numbers)?;
         let list = rows(alloc, &log)?;
         let export = exported(alloc, &list)?;
