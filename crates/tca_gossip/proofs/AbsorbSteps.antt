@@ -3,7 +3,7 @@ use Rattle.std.proofs.Common.{◌≡◌, ◌≢◌, ℕ, suc, zero, ◌+◌, ◌
 use Rattle.std.proofs.Math.Seq.{drop-cons}
 use Rattle.std.proofs.Math.ListN.{drop_of_length-le}
 use Rattle.std.proofs.lemmas.List.{append-nil, take_all}
-use Rattle.std.proofs.lemmas.Bool.{eq-eqb, lt-ltb, ltb-false}
+use Rattle.std.proofs.lemmas.Bool.{eq-eqb, eqb-true, eqb-false, lt-ltb, ltb-false}
 use Rattle.std.specs.List.{AllByRecursion}
 use Rattle.tca_report.specs.report.Reports.{PacketReport}
 use Rattle.tca_join.specs.Maps.{Rises}
@@ -127,7 +127,7 @@ split_at (suc i) [] = refl
 split_at (suc i) (x ∷ xs) = ap (λ l. x ∷ l) (split_at i xs)
 
 -- a later run is of an origin that no run before it has
-none_before : (held : ℕ → List PacketReport) (runs : List RunView) (i : ℕ) (r : RunView) → AreRuns runs → i < length runs → r ≡ get_or runs i r → of r.origin (rests held (take i runs)) ≡ []
+pub none_before : (held : ℕ → List PacketReport) (runs : List RunView) (i : ℕ) (r : RunView) → AreRuns runs → i < length runs → r ≡ get_or runs i r → of r.origin (rests held (take i runs)) ≡ []
 unfolding rests of
 none_before held [] i r are h is = absurd (omega arith)
 none_before held (x ∷ runs) zero r are h is = refl
@@ -139,7 +139,7 @@ none_before held (x ∷ runs) (suc i) r are h is =
       above low (x ∷ runs) zero r h l is = subst (λ (z : RunView). low < z.origin) (sym is) h.0
       above low (x ∷ runs) (suc i) r h l is = above low runs i r h.1 (omega arith) is
 
-limit_at : (runs : List RunView) (i : ℕ) (r : RunView) → AreRuns runs → i < length runs → r ≡ get_or runs i r → r.start + length r.reports ≤ 4194304
+pub limit_at : (runs : List RunView) (i : ℕ) (r : RunView) → AreRuns runs → i < length runs → r ≡ get_or runs i r → r.start + length r.reports ≤ 4194304
 limit_at [] i r are h is = absurd (omega arith)
 limit_at (x ∷ runs) zero r are h is = subst (λ (z : RunView). z.start + length z.reports ≤ 4194304) (sym is) are.0
 limit_at (x ∷ runs) (suc i) r are h is = limit_at runs i r are.2 (omega arith) is
@@ -284,3 +284,33 @@ refused_outcome name held runs (gap origin have from) ok e = sym e
 refused_outcome name held runs (forked_at origin at) ok e = sym e
 refused_outcome name held runs (own_ahead have said) ok e = sym e
 refused_outcome name held runs (stopped_at taken cause) ok e = absurd ok
+
+-- what runs have that were gone through, with what the next one has
+pub rests_next : (held : ℕ → List PacketReport) (runs : List RunView) (i : ℕ) (r : RunView) → i < length runs → r ≡ get_or runs i r → rests held (take (i + 1) runs) ≡ rests held (take i runs) ++ with_origin r.origin (rest_of held r)
+rests_next held runs i r h is = ap (rests held) (take_next runs i r h is) ∙ rests_append held (take i runs) (r ∷ []) ∙ ap (λ l. rests held (take i runs) ++ l) (rests_one held r)
+
+pub rests_counted : (held : ℕ → List PacketReport) (runs : List RunView) (i : ℕ) (r : RunView) (count n : ℕ) → i < length runs → r ≡ get_or runs i r → count ≡ length (rests held (take i runs)) → n ≡ length r.reports - (length (held r.origin) - r.start) → count + n ≡ length (rests held (take (i + 1) runs))
+rests_counted held runs i r count n h is so_far more =
+    let here = rest_of held r in
+    sums count n (length (rests held (take i runs))) (length (with_origin r.origin here)) (length (rests held (take (i + 1) runs))) so_far
+    (more ∙ sym (length_drop (length (held r.origin) - r.start) r.reports) ∙ sym (origin_length r.origin here))
+    (ap length (rests_next held runs i r h is) ∙ length-append (rests held (take i runs)) (with_origin r.origin here)) where
+      sums : (a b c d e : ℕ) → a ≡ c → b ≡ d → e ≡ c + d → a + b ≡ e
+      sums a b c d e p q s = omega (arith, p, q, s)
+
+-- where no run has a fault, none has anything of the own name past the chain
+none_here : (name : ℕ) (held : ℕ → List PacketReport) (r : RunView) → fault_of name held r ≡ None → of name (with_origin r.origin (rest_of held r)) ≡ []
+unfolding of with_origin
+none_here name held r none =
+    elim (name == r.origin) as (λ b. name == r.origin ≡ b → of name (with_origin r.origin (rest_of held r)) ≡ []) [
+      | true ↦ λ at. ap (λ (l : List PacketReport). of name (with_origin r.origin l)) (own_nothing name held r none (sym (eqb-true name r.origin at)))
+      | false ↦ λ at. of_other name r.origin (rest_of held r) (eqb-false name r.origin at)
+    ] refl
+
+pub none_own : (name : ℕ) (held : ℕ → List PacketReport) (runs : List RunView) → first_fault name held runs ≡ None → of name (rests held runs) ≡ []
+unfolding rests of first_fault
+none_own name held [] none = refl
+none_own name held (r ∷ rs) none =
+    let both = or_none (fault_of name held r) (first_fault name held rs) none in
+    of_append name (with_origin r.origin (rest_of held r)) (rests held rs)
+    ∙ (λ i. none_here name held r both.0 i ++ none_own name held rs both.1 i)

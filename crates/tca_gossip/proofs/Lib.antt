@@ -24,3 +24,11 @@ pub mod SummarySteps
 pub mod Clashing
 pub mod Merging
 pub mod RunSteps
+pub mod AtOnce
+pub mod RunsAtOnce
+pub mod Stops
+pub mod Equals
+pub mod Finding
+pub mod Naming
+pub mod Running
+pub mod StepEnds

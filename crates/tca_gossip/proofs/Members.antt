@@ -1,5 +1,5 @@
 -- What a replica's log holds, and what a take adds.
-use Rattle.std.proofs.Common.{◌≡◌, ℕ, ◌≤◌, Bool, true, false, ◌||◌, cond, nat_lt, Option, Some, is_some, List, [], ◌∷◌, ◌==◌, length, take, slice_get, refl, sym, ap, ◌∙◌, subst, inl, inr}
+use Rattle.std.proofs.Common.{◌≡◌, ℕ, ◌≤◌, Bool, true, false, ◌||◌, cond, Option, Some, List, [], ◌∷◌, ◌==◌, length, take, slice_get, refl, sym, ap, ◌∙◌, subst, inl, inr}
 use Rattle.std.specs.List.{list_any}
 use Rattle.std.proofs.lemmas.Bool.{eqb-true, or_left, or_right, or_cases, false≢true}
 use Rattle.tca_report.specs.report.Reports.{PacketReport, report_cmp}
@@ -18,6 +18,8 @@ use Rattle.tca_gossip.proofs.Worlds.{take_chain, take_none}
 use Rattle.tca_gossip.proofs.Kept.{world_took, others_took}
 use Rattle.tca_gossip.specs.Steps.{Take, Took, in_log, fresh_in}
 use Rattle.tca_gossip.specs.Coupling.{WorldView, IsCoupled, with_replica, StepsTo}
+use Rattle.tca_gossip.specs.Answers.{IsStopAt}
+use Rattle.tca_gossip.proofs.Stops.{not_held, stop_with, stops_there}
 use Rattle.tca_gossip.proofs.Places.{coupled_changes, shows_at, replica_at, is_there}
 
 any_some : {A : Type 0} (p : A → Bool) (xs : List A) → list_any p xs ≡ true → (x : A) × (p x ≡ true)
@@ -62,20 +64,28 @@ replica_appended v (p ∷ ps) h = replica_appended (append_one v p) ps (replica_
 
 -- a take is a step
 pub take_step : (m : Machine) (w : WorldView) (i : ℕ) (v : ReplicaView) (reports : List PacketReport) (taken fresh : ℕ) (stop : Option LogFault) → IsCoupled m w → slice_get w.replicas i ≡ Some v
-    → taken ≤ length reports → is_some stop ≡ nat_lt taken (length reports) → fresh ≡ length (fresh_of v.log (take taken reports))
-    → (is_some stop ≡ true → (r : PacketReport) → slice_get reports taken ≡ Some r → has report_cmp (with_taken v (take taken reports)).log r ≡ false)
+    → taken ≤ length reports → fresh ≡ length (fresh_of v.log (take taken reports)) → IsStopAt (with_taken v (take taken reports)).log reports taken stop
     → StepsTo m (Take v.name reports) (Took taken fresh stop) (with_replica w i (with_taken v (take taken reports)))
-take_step m w i v reports taken fresh stop coupled at within stops count unheld =
+take_step m w i v reports taken fresh stop coupled at within count stops =
     let shows = shows_at m w i v coupled at in
     let replica = replica_at m w i v coupled at in
     let new : List PacketReport = fresh_of v.log (take taken reports) in
     let same : new ≡ fresh_in (in_log m v.name) (take taken reports) = fresh_is v.log (in_log m v.name) (take taken reports) (log_is m v.name v coupled.world replica shows) in
     let named = is_there m w i v coupled at in
     let u = with_taken v (take taken reports) in
+    let u-is : IsReplica u = replica_appended v (with_origin v.name new) replica in
     let shown : Shows (took m v.name new) v.name u = record { name = appended_name v (with_origin v.name new); chains = λ o. take_chain m coupled.world v.name v new o shows replica.rises } in
-    let held : (r : PacketReport) → has report_cmp u.log r ≡ in_log (took m v.name new) v.name r = log_is (took m v.name new) v.name u (world_took m v.name new named coupled.world) (replica_appended v (with_origin v.name new) replica) shown in (
+    let held : (r : PacketReport) → has report_cmp u.log r ≡ in_log (took m v.name new) v.name r = log_is (took m v.name new) v.name u (world_took m v.name new named coupled.world) u-is shown in (
       took m v.name new,
-      record { named = named; within = within; stop_is = stops; fresh_is = count ∙ ap length same; after = ap (took m v.name) same; unheld = λ some r e. sym (held r) ∙ unheld some r e },
-      coupled_changes m (took m v.name new) w i v (with_taken v (take taken reports)) coupled at (appended_name v (with_origin v.name new)) (appended_plan v (with_origin v.name new)) refl refl (world_took m v.name new named coupled.world) (replica_appended v (with_origin v.name new) replica)
+      record {
+        named = named;
+        within = within;
+        stop_is = stops_there u.log reports taken stop stops;
+        fresh_is = count ∙ ap length same;
+        after = ap (took m v.name) same;
+        unheld = λ some r e. sym (held r) ∙ not_held u.log reports taken stop stops some r e;
+        cause = stop_with u.log reports taken stop (in_log (took m v.name new) v.name) (record { rises = u-is.log_rises; same = held }) stops;
+      },
+      coupled_changes m (took m v.name new) w i v (with_taken v (take taken reports)) coupled at (appended_name v (with_origin v.name new)) (appended_plan v (with_origin v.name new)) refl refl (world_took m v.name new named coupled.world) u-is
           (λ o. take_chain m coupled.world v.name v new o shows replica.rises) (λ k o apart. others_took m v.name k o new coupled.world apart),
     )

@@ -67,7 +67,7 @@ one_more [] r = refl
 one_more (x ∷ l) r = refl
 
 module _ (es : List (ℕ × ChainView PacketReport)) (rises : Rises es) (o : ℕ) where
-  kept_set : (c : ChainView PacketReport) (q : ℕ) → kept_of (with_value o c es) q ≡ cond (q == o) c.items (kept_of es q)
+  pub kept_set : (c : ChainView PacketReport) (q : ℕ) → kept_of (with_value o c es) q ≡ cond (q == o) c.items (kept_of es q)
   kept_set c q =
       ap chain_items (get_put (λ _ w. w) o c es q rises)
       ∙ elim (q == o) as (λ b. chain_items (cond b (join_with (λ _ w. w) (get es o) (Some c)) (get es q)) ≡ cond b c.items (kept_of es q)) [

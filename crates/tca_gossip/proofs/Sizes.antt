@@ -12,7 +12,7 @@ use Rattle.tca_gossip.specs.Kept.{IsOwnWithin}
 use Rattle.tca_gossip.proofs.Appends.{appended_name, chain_appended, of_append, of_tagged, of_other}
 use Rattle.tca_gossip.proofs.Worlds.{length_drop}
 
-put_new : (k : PacketReport) (xs : List PacketReport) → has report_cmp xs k ≡ false → length (put report_cmp k xs) ≡ suc (length xs)
+pub put_new : (k : PacketReport) (xs : List PacketReport) → has report_cmp xs k ≡ false → length (put report_cmp k xs) ≡ suc (length xs)
 unfolding put has
 put_new k [] h = refl
 put_new k (x ∷ xs) h =

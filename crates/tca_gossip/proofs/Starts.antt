@@ -9,7 +9,7 @@ use Rattle.tca_gossip.proofs.Kept.{world_started}
 use Rattle.tca_gossip.specs.Steps.{Step, Reply, IsStep, IsRun}
 use Rattle.tca_gossip.specs.Coupling.{WorldView, name_of, AreDistinct, IsCoupled, StepsTo, RunsTo, new_world}
 
-names_opened : (plan : AccountPlan) (names : List ℕ) → map name_of (map (new_replica plan) names) ≡ names
+pub names_opened : (plan : AccountPlan) (names : List ℕ) → map name_of (map (new_replica plan) names) ≡ names
 names_opened plan [] = refl
 names_opened plan (n ∷ ns) = ap (λ (l : List ℕ). n ∷ l) (names_opened plan ns)
 

@@ -1,15 +1,16 @@
 -- What the calls of a replica answer.
-use Rattle.std.specs.Prelude.{◌≡◌, ◌⊎◌, ℕ, ◌<◌, ◌≤◌, Option, None, Some, Result, Ok, Err, List, length, take, slice_get, is_some, nat_lt, true, false}
+use Rattle.std.specs.Prelude.{◌≡◌, ◌⊎◌, ℕ, ◌<◌, Option, None, Some, Result, Ok, Err, List, length, take, slice_get, true, false}
 use Rattle.tca_report.specs.report.Reports.{PacketReport, report_cmp}
 use Rattle.tca_join.specs.Sets.{has}
 use Rattle.tca_log.specs.declared.fault.LogFault.{LogFault}
 use Rattle.tca_log.specs.declared.fault.LogFault.TheVariants.{Full, Memory}
-use Rattle.tca_gossip.specs.Replicas.{ReplicaView, fresh_of, taken, appended}
+use Rattle.tca_gossip.specs.Replicas.{ReplicaView, taken, appended}
 use Rattle.tca_gossip.specs.Runs.{Outcome, Appended, Stopped, Refused, Fault}
 use Rattle.tca_gossip.specs.Runs.{OwnAhead as own_ahead, Gap as gap, Forked as forked_at}
-use Rattle.tca_gossip.specs.declared.fault.Taken.{Taken}
 use Rattle.tca_gossip.specs.declared.fault.AbsorbFault.{AbsorbFault}
 use Rattle.tca_gossip.specs.declared.fault.AbsorbFault.TheVariants.{Gap, Forked, OwnAhead, Stopped as stopped_at}
+use Rattle.tca_gossip.specs.declared.fault.WorldFault.{WorldFault}
+use Rattle.tca_gossip.specs.declared.fault.WorldFault.TheVariants.{NameTwice, Memory as world_memory}
 
 -- the number of a fault
 abbrev pub absorb_number : AbsorbFault → ℕ
@@ -17,6 +18,10 @@ absorb_number (Gap origin have from) = 1
 absorb_number (Forked origin at) = 2
 absorb_number (OwnAhead have said) = 3
 absorb_number (stopped_at taken cause) = 4
+
+abbrev pub world_number : WorldFault → ℕ
+world_number NameTwice = 1
+world_number world_memory = 2
 
 -- why a log did not take a report that is not in it: the log is at its limit, or it has room and memory ran out
 abbrev pub IsRefusedFor : LogFault → List PacketReport → PacketReport → Type 0

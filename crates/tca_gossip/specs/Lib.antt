@@ -6,3 +6,4 @@ pub mod Coupling
 pub mod Kept
 pub mod Answers
 pub mod Holding
+pub mod Worlds

@@ -1,9 +1,11 @@
 -- The steps of a world, what each may answer, and what it leaves.
-use Rattle.std.specs.Prelude.{◌≡◌, ℕ, ◌+◌, ◌-◌, ◌<◌, ◌≤◌, min, max, Bool, true, false, ◌&&◌, ◌||◌, cond, nat_lt, ◌==◌, Option, None, Some, is_some, List, [], ◌∷◌, length, take, slice_get}
+use Rattle.std.specs.Prelude.{◌≡◌, ℕ, ◌+◌, ◌-◌, ◌<◌, ◌≤◌, min, max, Bool, true, false, ◌&&◌, ◌||◌, cond, nat_lt, ◌==◌, Option, None, Some, is_some, IfSome, List, [], ◌∷◌, length, take, slice_get}
 use Rattle.std.specs.List.{list_any}
+use Rattle.std.specs.List.Sorted.{IsStrictlySortedBy}
 use Rattle.tca_report.specs.report.Reports.{PacketReport, report_cmp}
 use Rattle.tca_join.specs.Sets.{has}
 use Rattle.tca_log.specs.declared.fault.LogFault.{LogFault}
+use Rattle.tca_log.specs.declared.fault.LogFault.TheVariants.{Full as at_limit, Memory as no_memory}
 use Rattle.tca_join.specs.declared.fault.JoinFault.{JoinFault}
 use Rattle.tca_join.specs.declared.fault.JoinFault.TheVariants.{Clash, Full, Memory}
 use Rattle.tca_gossip.specs.Runs.{RunView, Fault, OwnAhead, Gap, Forked, Outcome, Appended, Stopped, Refused, AreRuns, same_report, or_else}
@@ -41,6 +43,20 @@ unfoldable pub fresh_in : (PacketReport → Bool) → List PacketReport → List
 fresh_in held [] = []
 fresh_in held (r ∷ rs) = cond (held r) (fresh_in held rs) (r ∷ fresh_in (λ q. same_report q r || held q) rs)
 
+-- the set of the reports that pass a test, in order
+pub record IsSetOf (held : PacketReport → Bool) (set : List PacketReport) : Type 0 where
+  pub rises : IsStrictlySortedBy report_cmp set
+  pub same : (q : PacketReport) → has report_cmp set q ≡ held q
+
+-- why a report that isn't held is not taken: as many are held as may be, or there is room and memory ran out
+abbrev pub IsStopWith : (PacketReport → Bool) → LogFault → Type 0
+IsStopWith held at_limit = (set : List PacketReport) × IsSetOf held set × (length set ≡ 4194304)
+IsStopWith held no_memory = (set : List PacketReport) × IsSetOf held set × (length set < 4194304)
+
+-- more reports pass a test than a log may have
+abbrev pub AreTooMany : (PacketReport → Bool) → Type 0
+AreTooMany held = (set : List PacketReport) × IsSetOf held set × (4194304 < length set)
+
 -- a take goes through the first reports, and appends those that are new. It stops exactly where these aren't all
 pub record TakeEnds (m : Machine) (n : ℕ) (reports : List PacketReport) (taken fresh : ℕ) (stop : Option LogFault) (w : Machine) : Type 0 where
   pub named : is_name m n ≡ true
@@ -50,6 +66,8 @@ pub record TakeEnds (m : Machine) (n : ℕ) (reports : List PacketReport) (taken
   pub after : w ≡ took m n (fresh_in (in_log m n) (take taken reports))
   -- the report that it stopped before isn't held
   pub unheld : is_some stop ≡ true → (r : PacketReport) → slice_get reports taken ≡ Some r → in_log w n r ≡ false
+  -- and why
+  pub cause : IfSome stop (IsStopWith (in_log w n))
 
 abbrev pub IsTake : Machine → ℕ → List PacketReport → Reply → Machine → Type 0
 IsTake m n reports (Took taken fresh stop) w = TakeEnds m n reports taken fresh stop w
@@ -159,11 +177,11 @@ IsDeliver m message n (Sent number) w = ⊥
 IsDeliver m message n (Merged end) w = ⊥
 IsDeliver m message n NoMemory w = ⊥
 
--- a merge with itself changes nothing; no merge clashes
+-- a merge with itself changes nothing; no merge clashes, and one is too large only where both together hold more than a log may have
 abbrev pub MergeEnds : Machine → ℕ → ℕ → MergeEnd → Machine → Type 0
 MergeEnds m n k Joined w = w ≡ cond (n == k) m (joined m n k)
 MergeEnds m n k (Unjoined (Clash key)) w = ⊥
-MergeEnds m n k (Unjoined Full) w = (n == k ≡ false) × (w ≡ m)
+MergeEnds m n k (Unjoined Full) w = (n == k ≡ false) × (w ≡ m) × AreTooMany (λ q. in_log m n q || in_log m k q)
 MergeEnds m n k (Unjoined Memory) w = (n == k ≡ false) × (w ≡ m)
 
 abbrev pub IsMerge : Machine → ℕ → ℕ → Reply → Machine → Type 0

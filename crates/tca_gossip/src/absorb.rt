@@ -114,8 +114,39 @@ fn append_rest(contents: &mut Contents, run: &Run) -> Result<u64, Stop>
     append_all(contents, origin, &reports[skip..])
 }
 
-/// Appends what runs have past the chains, in their order.
-pub(crate) fn append_rests(contents: &mut Contents, runs: &[Run]) -> Result<u64, Stop>
+// How many reports runs have past the chains.
+fn count_rests(contents: &Contents, runs: &[Run]) -> u64
+    requires { AreRuns runs.now }
+    ensures { result ≡ length (rests (chain_of contents.now.replica) runs.now) }
+{
+    let mut count: u64 = 0;
+    for run in runs {
+        let origin = run.origin();
+        let have = contents.chain(origin).len();
+        let skip = have.saturating_sub(run.start() as usize);
+        count += run.reports().len().saturating_sub(skip) as u64;
+    }
+    count
+}
+
+/// Appends what runs have past the chains, in their order: all at once where that serves, else one by one, which names how many
+/// there is room for.
+pub(crate) fn append_runs(contents: &mut Contents, runs: &[Run]) -> Result<u64, Stop>
+    requires right { AreRuns runs.now }
+    requires good { first_fault contents.old.replica.name (chain_of contents.old.replica) runs.now ≡ None }
+    ensures state { OnOk result (contents.new.replica ≡ appended contents.old.replica (rests (chain_of contents.old.replica) runs.now)) }
+    ensures count { IfOk result (λ n. n ≡ length (rests (chain_of contents.old.replica) runs.now)) }
+    ensures stop { IfErr result (λ s. IsStop contents.old.replica contents.new.replica (rests (chain_of contents.old.replica) runs.now) s.taken s.cause) }
+{
+    let count = count_rests(contents, runs);
+    if contents.append_at_once(runs, count) {
+        return Ok(count);
+    }
+    append_rests(contents, runs)
+}
+
+// Appends what runs have past the chains, in their order, one by one.
+fn append_rests(contents: &mut Contents, runs: &[Run]) -> Result<u64, Stop>
     requires right { AreRuns runs.now }
     requires good { first_fault contents.old.replica.name (chain_of contents.old.replica) runs.now ≡ None }
     ensures state { OnOk result (contents.new.replica ≡ appended contents.old.replica (rests (chain_of contents.old.replica) runs.now)) }

@@ -1,7 +1,8 @@
 //! The chains of a replica, by origin.
-ghost use Rattle.std.specs.Prelude.{◌≡◌, ◌<◌, ◌≤◌, [], ◌∷◌, ◌++◌, length, OnOk, OnErr, Some, true};
+ghost use Rattle.std.specs.Prelude.{◌≡◌, ℕ, ◌+◌, ◌<◌, ◌≤◌, [], ◌∷◌, ◌++◌, length, OnOk, OnErr, Some, true};
 ghost use Rattle.tca_join.specs.Chains.{chain};
 ghost use Rattle.tca_join.specs.Maps.{Rises, get, put};
+ghost use Rattle.tca_gossip.specs.Replicas.{of, with_origin};
 ghost use Rattle.tca_gossip.specs.Kept.{held_in, kept_of};
 
 use std::alloc::{AllocError, Global};
@@ -53,4 +54,35 @@ pub(crate) fn push(chains: &mut ByKey<Chain<Report>>, origin: u32, report: Repor
     if let Some(chain) = chains.get_mut(origin) {
         chain.push(report);
     }
+}
+
+// Appends reports to a chain. Where a growth is refused, the first of them are appended.
+fn extend_chain(chain: &mut Chain<Report>, reports: &[Report]) -> Result<(), AllocError>
+    requires { length chain.old.items + length reports.now ≤ 4194304 }
+    ensures { OnOk result (chain.new.items ≡ chain.old.items ++ reports.now) }
+{
+    for report in reports {
+        chain.reserve()?;
+        chain.push(*report);
+    }
+    Ok(())
+}
+
+/// Appends reports to the chain of an origin. Where a growth is refused, the first of them are appended.
+pub(crate) fn extend(
+    alloc: Global,
+    chains: &mut ByKey<Chain<Report>>,
+    origin: u32,
+    reports: &[Report],
+) -> Result<(), AllocError>
+    requires { length (kept_of chains.old origin) + length reports.now ≤ 4194304 }
+    ensures { OnOk result ((q : ℕ) → kept_of chains.new q ≡ kept_of chains.old q ++ of q (with_origin origin reports.now)) }
+{
+    let _rises = chains.keys();
+    if let Some(chain) = chains.get_mut(origin) {
+        return extend_chain(chain, reports);
+    }
+    let mut chain = Chain::new(alloc);
+    extend_chain(&mut chain, reports)?;
+    chains.set(origin, chain)
 }

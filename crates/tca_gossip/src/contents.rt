@@ -9,7 +9,7 @@ ghost use Rattle.tca_gossip.specs.Replicas.{IsReplica, append_one, chain_of, lea
 ghost use Rattle.tca_gossip.specs.Runs.{AreRuns, delta_of, first_fault, summary_count};
 ghost use Rattle.tca_gossip.specs.Coupling.{counts_of};
 ghost use Rattle.tca_gossip.specs.Answers.{IsRefusal, IsRefusedFor, fault_view};
-ghost use Rattle.tca_gossip.specs.Kept.{IsOwnWithin, clash_in};
+ghost use Rattle.tca_gossip.specs.Kept.{IsOwnWithin, clash_in, replica_of};
 
 use crate::absorb::refusal;
 use crate::chains::{kept, push, reserve};
@@ -32,7 +32,7 @@ const ROWS_A_MARK: u32 = 256;
 /// What a replica holds.
 #[derive(Drop)]
 pub(crate) struct Contents {
-    alloc: Global,
+    pub(crate) alloc: Global,
     pub(crate) name: u32,
     pub(crate) log: Log,
     pub(crate) chains: ByKey<Chain<Report>>,
@@ -158,6 +158,24 @@ impl Contents {
         self.book.refit(self.alloc, &log)?;
         self.chains = chains;
         self.log = log;
+        Ok(())
+    }
+
+    /// Takes another log and other chains in place of these, with a book for that log: all of it, or nothing.
+    pub(crate) fn refill(
+        &mut self,
+        all: Log,
+        chains: ByKey<Chain<Report>>,
+    ) -> Result<(), AllocError>
+        requires replica { IsReplica (replica_of self.old.replica.name self.old.replica.plan all chains) }
+        requires within { IsOwnWithin (replica_of self.old.replica.name self.old.replica.plan all chains) }
+        ensures ok { OnOk result (self.new.replica ≡ replica_of self.old.replica.name self.old.replica.plan all chains) }
+        ensures err { OnErr result (self.new ≡ self.old) }
+    {
+        let _rises = chains.keys();
+        self.book.refit(self.alloc, &all)?;
+        self.chains = chains;
+        self.log = all;
         Ok(())
     }
 

@@ -1,7 +1,8 @@
-//! How a take went, and why an absorb is refused or stops.
+//! How a take went, why an absorb is refused or stops, and why a world is refused.
 ghost use Rattle.std.specs.Prelude.{◌≡◌};
-ghost use Rattle.tca_gossip.specs.Answers.{absorb_number};
+ghost use Rattle.tca_gossip.specs.Answers.{absorb_number, world_number};
 
+use std::alloc::AllocError;
 use tca_log::LogFault;
 use thiserror::Error;
 
@@ -44,5 +45,39 @@ impl AbsorbFault {
             AbsorbFault::OwnAhead { .. } => 3,
             AbsorbFault::Stopped { .. } => 4,
         }
+    }
+}
+
+/// Why a world of replicas is refused.
+#[derive(Clone, Copy, Debug, PartialEq, Eq, Error)]
+pub enum WorldFault {
+    /// A name stands twice.
+    #[error("a name of a replica stands twice")]
+    NameTwice,
+    /// A growth was refused.
+    #[error("no memory for the replicas of the world")]
+    Memory,
+}
+
+impl WorldFault {
+    /// The number that stands for the fault in a program's messages.
+    pub fn number(&self) -> u8
+        ensures { result ≡ world_number self.now }
+    {
+        match self {
+            WorldFault::NameTwice => 1,
+            WorldFault::Memory => 2,
+        }
+    }
+}
+
+impl From<AllocError> for WorldFault {
+    ghost use Rattle.std.specs.Prelude.{◌≡◌};
+    ghost use Rattle.tca_gossip.specs.declared.fault.WorldFault.TheVariants.{Memory};
+
+    ghost from_gives = { λ _ e. e ≡ Memory };
+
+    fn from(_refused: AllocError) -> WorldFault {
+        WorldFault::Memory
     }
 }

@@ -1,14 +1,16 @@
 //! What the calls of replicas come to in a world of replicas.
-ghost use Rattle.std.specs.Prelude.{◌≡◌, ◌≤◌, ◌==◌, ℕ, Bool, true, false, nat_lt, Option, Some, None, is_some, List, [], ◌∷◌, ◌++◌, length, take, slice_get};
+ghost use Rattle.std.specs.Prelude.{◌≡◌, ◌≤◌, ◌==◌, ℕ, Bool, true, false, Option, Some, None, List, [], ◌∷◌, ◌++◌, length, take, slice_get};
 ghost use Rattle.std.specs.List.{AllByRecursion};
 ghost use Rattle.tca_report.specs.report.Reports.{PacketReport, report_cmp};
 ghost use Rattle.tca_join.specs.Sets.{has};
 ghost use Rattle.tca_join.specs.Maps.{Rises, MapProper};
 ghost use Rattle.tca_log.specs.declared.fault.LogFault.{LogFault};
 ghost use Rattle.tca_accounts.specs.Plans.{AccountPlan};
+ghost use Rattle.tca_accounts.specs.Bills.{bill_of};
 ghost use Rattle.tca_gossip.specs.Replicas.{ReplicaView, IsReplica, chain_of, fresh_of, appended, with_origin, merged_with, merge_clash};
 ghost use Rattle.tca_gossip.specs.Replicas.{taken as with_taken};
 ghost use Rattle.tca_gossip.specs.Runs.{RunView, AreRuns, Outcome, IsOutcome, absorbed, delta_of, first_fault, summary_count};
+ghost use Rattle.tca_gossip.specs.Answers.{IsStopAt};
 ghost use Rattle.tca_gossip.specs.Machines.{Machine, IsWorld, IsPart, IsGapFault, Shows, held_prefix, is_name, joined, new_machine, took};
 ghost use Rattle.tca_gossip.specs.Steps.{Step, Take, Ask, Answer, Deliver, Merge, Reply, Took, Sent, Absorbed, Merged, Joined, in_log, can_send, AreAnswer, IsStep, IsRun};
 ghost use Rattle.tca_gossip.specs.Holding.{ClashesAtLeast, JoinsWhereItMay, MayWhereItJoins, MergeAbove, MergeAgain, MergeAssociates, MergeCommutes, MergeLeast, MergeStays};
@@ -44,7 +46,7 @@ pub fn machine_laws()
 /// What the calls of a replica do in a world is a step of the machine that the world shows.
 pub fn step_laws()
     ensures starts { (plan : AccountPlan) (names : List ℕ) → AreDistinct names → IsCoupled (new_machine names) (new_world plan names) }
-    ensures take { (m : Machine) (w : WorldView) (i : ℕ) (v : ReplicaView) (reports : List PacketReport) (taken fresh : ℕ) (stop : Option LogFault) → IsCoupled m w → slice_get w.replicas i ≡ Some v → taken ≤ length reports → is_some stop ≡ nat_lt taken (length reports) → fresh ≡ length (fresh_of v.log (take taken reports)) → (is_some stop ≡ true → (r : PacketReport) → slice_get reports taken ≡ Some r → has report_cmp (with_taken v (take taken reports)).log r ≡ false) → StepsTo m (Take v.name reports) (Took taken fresh stop) (with_replica w i (with_taken v (take taken reports))) }
+    ensures take { (m : Machine) (w : WorldView) (i : ℕ) (v : ReplicaView) (reports : List PacketReport) (taken fresh : ℕ) (stop : Option LogFault) → IsCoupled m w → slice_get w.replicas i ≡ Some v → taken ≤ length reports → fresh ≡ length (fresh_of v.log (take taken reports)) → IsStopAt (with_taken v (take taken reports)).log reports taken stop → StepsTo m (Take v.name reports) (Took taken fresh stop) (with_replica w i (with_taken v (take taken reports))) }
     ensures ask { (m : Machine) (w : WorldView) (i : ℕ) (v : ReplicaView) → IsCoupled m w → slice_get w.replicas i ≡ Some v → can_send m v.name ≡ true → StepsTo m (Ask v.name) (Sent (length m.sent)) (with_message w (Summary (counts_of v.chains))) }
     ensures answer { (m : Machine) (w : WorldView) (i : ℕ) (v : ReplicaView) (number : ℕ) (summary : List (ℕ × ℕ)) → IsCoupled m w → slice_get w.replicas i ≡ Some v → slice_get w.sent number ≡ Some (Summary summary) → can_send m v.name ≡ true → MapProper (λ c. length c ≤ 4194304) v.chains → StepsTo m (Answer v.name number) (Sent (length m.sent)) (with_message w (Delta (delta_of (summary_count summary) v.chains))) }
     ensures deliver { (m : Machine) (w : WorldView) (i : ℕ) (v : ReplicaView) (number : ℕ) (runs : List RunView) (outcome : Outcome) → IsCoupled m w → slice_get w.replicas i ≡ Some v → slice_get w.sent number ≡ Some (Delta runs) → IsOutcome v.name (chain_of v) runs outcome → StepsTo m (Deliver number v.name) (Absorbed outcome) (with_replica w i (absorbed v runs outcome)) }
@@ -53,11 +55,14 @@ pub fn step_laws()
     ensures more { (m mid after : Machine) (steps : List Step) (replies : List Reply) (step : Step) (reply : Reply) → IsRun m steps replies mid → IsStep mid step reply after → IsRun m (steps ++ step ∷ []) (replies ++ reply ∷ []) after }
 {}
 
-/// What holds of each machine that a world shows.
+/// What holds of each machine that a world shows. Replicas that hold equally much of each origin, or whose summaries are equal, have
+/// equal logs and equal bills.
 pub fn shown_laws()
     ensures log { (m : Machine) (n : ℕ) (v : ReplicaView) → IsWorld m → IsReplica v → Shows m n v → (q : PacketReport) → has report_cmp v.log q ≡ in_log m n q }
     ensures answer { (m : Machine) (n : ℕ) (v : ReplicaView) (said counts : ℕ → ℕ) → IsWorld m → IsReplica v → Shows m n v → ((o : ℕ) → said o ≡ counts o) → AreRuns (delta_of said v.chains) → AreAnswer m n counts (delta_of said v.chains) }
     ensures gaps { (m : Machine) (n : ℕ) (v : ReplicaView) (runs : List RunView) → IsWorld m → Shows m n v → AllByRecursion (IsPart m) runs → IsGapFault (first_fault n (chain_of v) runs) }
     ensures equal { (m : Machine) (w : WorldView) (i j : ℕ) (v u : ReplicaView) → IsCoupled m w → slice_get w.replicas i ≡ Some v → slice_get w.replicas j ≡ Some u → ((o : ℕ) → m.held v.name o ≡ m.held u.name o) → v.log ≡ u.log }
     ensures plan { (m : Machine) (w : WorldView) (i : ℕ) (v : ReplicaView) → IsCoupled m w → slice_get w.replicas i ≡ Some v → v.plan ≡ w.plan }
+    ensures bills { (m : Machine) (w : WorldView) (i j : ℕ) (v u : ReplicaView) → IsCoupled m w → slice_get w.replicas i ≡ Some v → slice_get w.replicas j ≡ Some u → ((o : ℕ) → m.held v.name o ≡ m.held u.name o) → bill_of v.plan v.log ≡ bill_of u.plan u.log }
+    ensures summaries { (m : Machine) (w : WorldView) (i j : ℕ) (v u : ReplicaView) → IsCoupled m w → slice_get w.replicas i ≡ Some v → slice_get w.replicas j ≡ Some u → counts_of v.chains ≡ counts_of u.chains → (v.log ≡ u.log) × (bill_of v.plan v.log ≡ bill_of u.plan u.log) }
 {}

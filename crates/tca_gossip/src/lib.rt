@@ -6,22 +6,31 @@
 //! answer names what is held, and the same call with memory completes it.
 //!
 //! - `replica`: its calls; `contents`: log, chains and book, which agree after each; `chains`: the chains by origin;
+//! - `at_once`: many reports at once, which is faster than one by one where a list is long beside the log;
 //! - `run`: what replicas send each other; `summary` and `delta`: what one sends; `absorb`: what one does with what comes;
-//! - `fault`: how a take went, and why an absorb is refused or stops;
+//! - `world`: replicas that are run by a list of steps; `step`: what is done there, and what comes of it; `message`: what is sent
+//!   there;
+//! - `fault`: how a take went, why an absorb is refused or stops, and why a world is refused;
 //! - `laws`: what the calls come to, for two or three replicas and in a world of any number of them.
 #![tactic(auto)]
 
 mod absorb;
+mod at_once;
 mod chains;
 mod contents;
 mod delta;
 mod fault;
 mod laws;
+mod message;
 mod replica;
 mod run;
+mod step;
 mod summary;
+mod world;
 
-pub use fault::{AbsorbFault, Taken};
+pub use fault::{AbsorbFault, Taken, WorldFault};
 pub use laws::{machine_laws, merge_laws, shown_laws, step_laws};
 pub use replica::Replica;
 pub use run::{Delta, Run, Summary};
+pub use step::{Reply, Step};
+pub use world::World;

@@ -7,7 +7,7 @@ ghost use Rattle.tca_gossip.specs.Runs.{AreRuns, IsOutcome, absorbed, delta_of, 
 ghost use Rattle.tca_gossip.specs.Coupling.{counts_of};
 ghost use Rattle.tca_gossip.specs.Answers.{IsStopAt, IsStopOf, outcome_of};
 
-use crate::absorb::append_rests;
+use crate::absorb::append_runs;
 use crate::contents::Contents;
 use crate::fault::{AbsorbFault, Taken};
 use crate::run::{Delta, Run, Summary};
@@ -75,13 +75,15 @@ impl Replica {
     /// Takes reports in order. Each that is new to the log at its turn goes to the end of the own chain; one that is there
     /// changes nothing. It stops before a report that the log doesn't take: `Full` where the log has 4,194,304 reports and not
     /// this one, `Memory` where a growth was refused. What was taken until then stays.
+    ///
+    /// A list that is long beside the log, and new throughout, is taken at once, which costs less and answers the same.
     pub fn take(&mut self, reports: &[Report]) -> Taken
         ensures within { result.taken ≤ length reports.now }
         ensures state { self.new ≡ taken self.old (take result.taken reports.now) }
         ensures fresh { result.fresh ≡ length (fresh_of self.old.log (take result.taken reports.now)) }
         ensures stop { IsStopAt self.new.log reports.now result.taken result.stop }
     {
-        let taken = take_each(&mut self.contents, reports);
+        let taken = take_list(&mut self.contents, reports);
         self.contents.settle();
         taken
     }
@@ -91,6 +93,8 @@ impl Replica {
     ///
     /// `OwnAhead`, `Gap` and `Forked` are tested run by run, in this order, before any change, and change nothing. `Stopped` says how
     /// many of the new reports were appended, and why the log didn't take the next one. A delta with nothing new takes no memory.
+    ///
+    /// Where the new reports are many beside the log they are appended at once, which costs less and answers the same.
     pub fn absorb(&mut self, delta: &Delta) -> Result<u64, AbsorbFault>
         ensures state { self.new ≡ absorbed self.old delta.now (outcome_of result) }
         ensures outcome { IsOutcome self.old.name (chain_of self.old) delta.now (outcome_of result) }
@@ -147,13 +151,33 @@ fn absorb_runs(contents: &mut Contents, runs: &[Run]) -> Result<u64, AbsorbFault
     if let Some(fault) = contents.refusal(runs) {
         return Err(fault);
     }
-    match append_rests(contents, runs) {
+    match append_runs(contents, runs) {
         Ok(count) => Ok(count),
         Err(stop) => Err(AbsorbFault::Stopped {
             taken: stop.taken,
             cause: stop.cause,
         }),
     }
+}
+
+// Takes reports: all at once where that serves, else one by one. At once the log is sorted and metered once for all of them, but it
+// says nothing of how far it came; where a report isn't new, or there is no room for all, one by one finds the first that the log
+// doesn't take. Both ways leave the same, and a list that went one by one has changed nothing before.
+fn take_list(contents: &mut Contents, reports: &[Report]) -> Taken
+    ensures within { result.taken ≤ length reports.now }
+    ensures state { contents.new.replica ≡ taken contents.old.replica (take result.taken reports.now) }
+    ensures fresh { result.fresh ≡ length (fresh_of contents.old.replica.log (take result.taken reports.now)) }
+    ensures stop { IsStopAt contents.new.replica.log reports.now result.taken result.stop }
+{
+    if contents.take_at_once(reports) {
+        let count = reports.len() as u64;
+        return Taken {
+            taken: count,
+            fresh: count,
+            stop: None,
+        };
+    }
+    take_each(contents, reports)
 }
 
 // Takes reports one by one.

@@ -1,0 +1,226 @@
+-- Many reports at once: what a log and chains that got them come to, beside appending one by one.
+use Rattle.std.proofs.Common.{◌≡◌, ℕ, suc, ◌+◌, ◌<◌, ◌≤◌, true, false, ◌||◌, cond, Option, None, Some, Result, Ok, Err, OnOk, List, [], ◌∷◌, ◌++◌, ◌==◌, length, take, get_or, refl, sym, ap, ◌∙◌, subst, arith, append_assoc, length-append}
+use Rattle.std.proofs.lemmas.List.{append-nil}
+use Rattle.std.proofs.lemmas.List.{take_all as take_whole}
+use Rattle.std.proofs.lemmas.Bool.{eqb-true, eqb-false}
+use Rattle.std.specs.List.Sorted.{IsStrictlySortedBy}
+use Rattle.std.specs.Ordering.{eq_by_cmp}
+use Rattle.std.specs.declared.cmp.Ordering.TheVariants.{Less, Equal, Greater}
+use Rattle.tca_report.specs.report.Reports.{PacketReport, report_cmp}
+use Rattle.tca_report.proofs.lemmas.report.Order.{report_total, report_exact}
+use Rattle.tca_join.specs.Sets.{by_order, has, put, in_order}
+use Rattle.tca_join.specs.Chains.{ChainView, chain}
+use Rattle.tca_join.specs.Maps.{get, Rises, with_value, join_with}
+use Rattle.tca_join.specs.MapLaws.{get_put, rises_put as rises_put_key}
+use Rattle.tca_join.proofs.Sets.{has-put, has-append, rises_put, or_assoc, or_swap}
+use Rattle.tca_join.proofs.Search.{put_again}
+use Rattle.tca_join.proofs.Merge.{in_order_alike}
+use Rattle.tca_join.proofs.Firsts.{only_map}
+use Rattle.tca_accounts.specs.Plans.{AccountPlan}
+use Rattle.tca_replay.specs.Books.{BookView, Fits}
+use Rattle.tca_gossip.specs.Replicas.{ReplicaView, IsReplica, or_empty, chain_of, append_one, appended, fresh_of, with_origin, taken, of, reports_in}
+use Rattle.tca_gossip.specs.Kept.{AreContents, IsOwnWithin, chain_items, kept_of, held_in, replica_of}
+use Rattle.tca_gossip.proofs.Appends.{appended_name, appended_plan, appended_rises, chain_appended, log_appended, of_tagged, of_other, reports_tagged}
+use Rattle.tca_gossip.proofs.Plains.{some_chain, rises_held, get_held, chain_held, kept_set}
+use Rattle.tca_gossip.proofs.Sizes.{put_new}
+use Rattle.tca_gossip.proofs.TakeSteps.{take_next}
+use Rattle.tca_gossip.proofs.Worlds.{length_take}
+use Rattle.tca_gossip.proofs.Members.{replica_appended}
+
+-- reports at the end of a chain that is kept
+module _ (es : List (ℕ × ChainView PacketReport)) (rises : Rises es) (o : ℕ) (rs : List PacketReport) where
+  more_kept : (c : ChainView PacketReport) → c.items ≡ kept_of es o ++ rs → (q : ℕ) → kept_of (with_value o c es) q ≡ kept_of es q ++ of q (with_origin o rs)
+  more_kept c is q =
+      kept_set es rises o c q
+      ∙ elim (q == o) as (λ b. q == o ≡ b → cond b c.items (kept_of es q) ≡ kept_of es q ++ of q (with_origin o rs)) [
+        | true ↦ λ at.
+            let same : o ≡ q = sym (eqb-true q o at) in
+            is ∙ subst (λ z. kept_of es o ++ rs ≡ kept_of es z ++ of z (with_origin o rs)) same (ap (λ (l : List PacketReport). kept_of es o ++ l) (sym (of_tagged o rs)))
+        | false ↦ λ at. sym (append-nil (kept_of es q)) ∙ ap (λ (l : List PacketReport). kept_of es q ++ l) (sym (of_other q o rs (eqb-false q o at)))
+      ] refl
+
+  -- in a chain that is there
+  pub extended_there : {A E : Type 0} (old new : ChainView PacketReport) (r : Result A E) → Some old ≡ get es o → OnOk r (new.items ≡ old.items ++ rs) → OnOk r ((q : ℕ) → kept_of (with_value o new es) q ≡ kept_of es q ++ of q (with_origin o rs))
+  extended_there old new (Ok x) there ok = more_kept new (ok ∙ ap (λ z. chain_items z ++ rs) there)
+  extended_there old new (Err e) there ok = tt
+
+  -- in a new chain
+  pub extended_added : {A E : Type 0} (first c : ChainView PacketReport) (new : List (ℕ × ChainView PacketReport)) (r : Result A E) → None ≡ get es o → first ≡ chain [] false → c.items ≡ first.items ++ rs → OnOk r (new ≡ with_value o c es) → OnOk r ((q : ℕ) → kept_of new q ≡ kept_of es q ++ of q (with_origin o rs))
+  extended_added first c new (Ok x) none empty is ok = λ q.
+      ap (λ (l : List (ℕ × ChainView PacketReport)). kept_of l q) ok
+      ∙ more_kept c (is ∙ ap (λ (z : ChainView PacketReport). z.items ++ rs) empty ∙ ap (λ z. chain_items z ++ rs) none) q
+  extended_added first c new (Err e) none empty is ok = tt
+
+-- a report more in a chain, which there is room for
+module _ (old now ready : ChainView PacketReport) (rs : List PacketReport) (i : ℕ) (h : i < length rs) (so_far : now.items ≡ old.items ++ take i rs) (room : ready ≡ chain now.items true) where
+  pub chain_next : (new : ChainView PacketReport) (r : PacketReport) → r ≡ get_or rs i r → new ≡ chain (ready.items ++ r ∷ []) false → new.items ≡ old.items ++ take (i + 1) rs
+  chain_next new r is e =
+      ap (λ (c : ChainView PacketReport). c.items) e
+      ∙ ap (λ (c : ChainView PacketReport). c.items ++ r ∷ []) room
+      ∙ ap (λ (l : List PacketReport). l ++ r ∷ []) so_far
+      ∙ append_assoc old.items (take i rs) (r ∷ [])
+      ∙ ap (λ (l : List PacketReport). old.items ++ l) (sym (take_next rs i r h is))
+
+  pub chain_few : length old.items + length rs ≤ 4194304 → length ready.items < 4194304
+  chain_few few =
+      let count : length ready.items ≡ length old.items + length (take i rs) = ap (λ (c : ChainView PacketReport). length c.items) room ∙ ap length so_far ∙ length-append old.items (take i rs) in
+      let taken_is : length (take i rs) ≡ i = length_take i rs (omega (arith, h)) in
+      omega (arith, count, taken_is, h, few)
+
+pub chain_first : (l rs : List PacketReport) → l ≡ l ++ take 0 rs
+chain_first l rs = sym (append-nil l)
+
+pub chain_last : (old now rs : List PacketReport) (i : ℕ) → length rs ≤ i → now ≡ old ++ take i rs → now ≡ old ++ rs
+chain_last old now rs i h so_far = so_far ∙ ap (λ (l : List PacketReport). old ++ l) (take_whole i rs h)
+
+-- a chain that may be missing is not there and empty
+abbrev pub HoldsSome : Option (List PacketReport) → Type 0
+HoldsSome o = o ≡ some_chain (or_empty o)
+
+-- each chain of a replica holds something
+abbrev pub IsPlain : ReplicaView → Type 0
+IsPlain v = (q : ℕ) → HoldsSome (get v.chains q)
+
+holds_more : (o : Option (List PacketReport)) (r : PacketReport) → HoldsSome (join_with (λ w u. w ++ u) o (Some (r ∷ [])))
+holds_more None r = refl
+holds_more (Some []) r = refl
+holds_more (Some (x ∷ l)) r = refl
+
+plain_one : (v : ReplicaView) (p : ℕ × PacketReport) → Rises v.chains → IsPlain v → IsPlain (append_one v p)
+plain_one v p rises plain q =
+    subst (λ (z : Option (List PacketReport)). HoldsSome z) (sym (get_put (λ w u. w ++ u) p.0 (p.1 ∷ []) v.chains q rises))
+    (elim (q == p.0) as (λ b. HoldsSome (cond b (join_with (λ w u. w ++ u) (get v.chains p.0) (Some (p.1 ∷ []))) (get v.chains q))) [
+      | true ↦ holds_more (get v.chains p.0) p.1
+      | false ↦ plain q
+    ])
+
+plain_appended : (v : ReplicaView) (ps : List (ℕ × PacketReport)) → Rises v.chains → IsPlain v → IsPlain (appended v ps)
+unfolding appended
+plain_appended v [] rises plain = plain
+plain_appended v (p ∷ ps) rises plain = plain_appended (append_one v p) ps (rises_put_key (λ w u. w ++ u) p.0 (p.1 ∷ []) v.chains rises) (plain_one v p rises plain)
+
+plain_held : (name : ℕ) (plan : AccountPlan) (log : List PacketReport) (es : List (ℕ × ChainView PacketReport)) → Rises es → IsPlain (replica_of name plan log es)
+plain_held name plan log es rises q = get_held es q rises ∙ ap some_chain (sym (chain_held es q rises))
+
+own_grows : (v : ReplicaView) (ps : List (ℕ × PacketReport)) → Rises v.chains → IsOwnWithin v → length (of v.name ps) + length v.log ≤ length (appended v ps).log → IsOwnWithin (appended v ps)
+own_grows v ps rises within grows =
+    subst (λ n. length (chain_of (appended v ps) n) ≤ length (appended v ps).log) (sym (appended_name v ps))
+    (sums (length (chain_of (appended v ps) v.name)) (length (chain_of v v.name)) (length (of v.name ps)) (length v.log) (length (appended v ps).log) (ap length (chain_appended v ps v.name rises) ∙ length-append (chain_of v v.name) (of v.name ps)) within grows) where
+      sums : (a b c d e : ℕ) → a ≡ b + c → b ≤ d → c + d ≤ e → a ≤ e
+      sums a b c d e p q s = omega (arith, p, q, s)
+
+-- chains and a log that got these are those of the replica to which these were appended
+module _ (name : ℕ) (log more : List PacketReport) (es fs : List (ℕ × ChainView PacketReport)) (book : BookView) (are : AreContents name log es book) (ps : List (ℕ × PacketReport)) (rises : Rises fs)
+    (chains : (q : ℕ) → kept_of fs q ≡ kept_of es q ++ of q ps) (logs : more ≡ in_order report_cmp (log ++ reports_in ps)) where
+  abbrev before : ReplicaView
+  before = replica_of name book.plan log es
+
+  held_are : held_in fs ≡ (appended before ps).chains
+  held_are =
+      let kept = rises_held es are.rises in
+      only_map (List PacketReport) (held_in fs) (appended before ps).chains (rises_held fs rises) (appended_rises before ps kept) (λ q.
+      get_held fs q rises
+      ∙ ap some_chain (chains q ∙ ap (λ (l : List PacketReport). l ++ of q ps) (sym (chain_held es q are.rises)) ∙ sym (chain_appended before ps q kept))
+      ∙ sym (plain_appended before ps kept (plain_held name book.plan log es are.rises) q))
+
+  pub now_is : replica_of name book.plan more fs ≡ appended before ps
+  now_is =
+      let logs_are = logs ∙ sym (log_appended before ps are.replica.log_rises) in
+      λ i. record { name = sym (appended_name before ps) i; plan = sym (appended_plan before ps) i; log = logs_are i; chains = held_are i }
+
+  pub now_replica : IsReplica (replica_of name book.plan more fs)
+  now_replica = subst IsReplica (sym now_is) (replica_appended before ps are.replica)
+
+  pub now_within : length (of name ps) + length log ≤ length more → IsOwnWithin (replica_of name book.plan more fs)
+  now_within all =
+      let logs_are : more ≡ (appended before ps).log = logs ∙ sym (log_appended before ps are.replica.log_rises) in
+      subst IsOwnWithin (sym now_is) (own_grows before ps (rises_held es are.rises) are.within (subst (λ (l : List PacketReport). length (of name ps) + length log ≤ length l) logs_are all))
+
+-- and where all are of the own name
+module _ (name : ℕ) (log more : List PacketReport) (es fs : List (ℕ × ChainView PacketReport)) (book : BookView) (are : AreContents name log es book) (rs : List PacketReport) (rises : Rises fs)
+    (chains : (q : ℕ) → kept_of fs q ≡ kept_of es q ++ of q (with_origin name rs)) (logs : more ≡ in_order report_cmp (log ++ rs)) where
+  own_logs : more ≡ in_order report_cmp (log ++ reports_in (with_origin name rs))
+  own_logs = logs ∙ ap (λ (l : List PacketReport). in_order report_cmp (log ++ l)) (sym (reports_tagged name rs))
+
+  pub own_is : replica_of name book.plan more fs ≡ appended (replica_of name book.plan log es) (with_origin name rs)
+  own_is = now_is name log more es fs book are (with_origin name rs) rises chains own_logs
+
+  pub own_replica : IsReplica (replica_of name book.plan more fs)
+  own_replica = now_replica name log more es fs book are (with_origin name rs) rises chains own_logs
+
+  pub own_within_all : length rs + length log ≤ length more → IsOwnWithin (replica_of name book.plan more fs)
+  own_within_all all = now_within name log more es fs book are (with_origin name rs) rises chains own_logs (subst (λ (l : List PacketReport). length l + length log ≤ length more) (sym (of_tagged name rs)) all)
+
+-- there is room in the own chain for as many as are new to the log
+pub own_room : (name : ℕ) (log : List PacketReport) (es : List (ℕ × ChainView PacketReport)) (book : BookView) (n new total : ℕ) → AreContents name log es book → n ≤ new → new + length log ≡ total → total ≤ 4194304 → length (kept_of es name) + n ≤ 4194304
+own_room name log es book n new total are enough count few =
+    let own : length (kept_of es name) ≤ length log = subst (λ (l : List PacketReport). length l ≤ length log) (chain_held es name are.rises) are.within in
+    sums (length (kept_of es name)) (length log) n new total own enough count few where
+      sums : (a b n new total : ℕ) → a ≤ b → n ≤ new → new + b ≡ total → total ≤ 4194304 → a + n ≤ 4194304
+      sums a b n new total p q s t = omega (arith, p, q, s, t)
+
+-- log, chains and book in place of others
+pub refilled : (name : ℕ) (plan : AccountPlan) (log : List PacketReport) (es : List (ℕ × ChainView PacketReport)) (book : BookView) → Rises es → IsReplica (replica_of name plan log es) → IsOwnWithin (replica_of name plan log es) → book.plan ≡ plan → Fits log book → AreContents name log es book
+refilled name plan log es book rises replica within planned fits =
+    let same : replica_of name plan log es ≡ replica_of name book.plan log es = ap (λ (p : AccountPlan). replica_of name p log es) (sym planned) in
+    record { rises = rises; replica = subst IsReplica same replica; within = subst IsOwnWithin same within; fits = fits }
+
+-- how many reports there are once each stands once
+put_few : (k : PacketReport) (xs : List PacketReport) → length (put report_cmp k xs) ≤ suc (length xs)
+unfolding put
+put_few k [] = omega arith
+put_few k (x ∷ xs) =
+    elim (report_cmp k x) as (λ r. length (by_order r (k ∷ x ∷ xs) (x ∷ xs) (x ∷ put report_cmp k xs)) ≤ suc (suc (length xs))) [
+      | Less ↦ omega arith
+      | Equal ↦ omega arith
+      | Greater ↦ omega (arith, put_few k xs)
+    ]
+
+in_order_few : (xs : List PacketReport) → length (in_order report_cmp xs) ≤ length xs
+unfolding in_order
+in_order_few [] = omega arith
+in_order_few (x ∷ xs) = omega (arith, put_few x (in_order report_cmp xs), in_order_few xs)
+
+put_front : (log rs : List PacketReport) (r : PacketReport) → in_order report_cmp (put report_cmp r log ++ rs) ≡ in_order report_cmp (log ++ (r ∷ rs))
+unfolding has
+put_front log rs r =
+    in_order_alike report_cmp report_total report_exact (put report_cmp r log ++ rs) (log ++ (r ∷ rs)) (λ q.
+    has-append report_cmp report_total (put report_cmp r log) rs q
+    ∙ ap (λ b. b || has report_cmp rs q) (has-put report_cmp report_total r log q)
+    ∙ or_assoc (eq_by_cmp report_cmp q r) (has report_cmp log q) (has report_cmp rs q)
+    ∙ or_swap (eq_by_cmp report_cmp q r) (has report_cmp log q) (has report_cmp rs q)
+    ∙ sym (has-append report_cmp report_total log (r ∷ rs) q))
+
+-- a report that is there makes them fewer
+one_less : (log rs : List PacketReport) (r : PacketReport) → IsStrictlySortedBy report_cmp log → has report_cmp log r ≡ true → length (in_order report_cmp (log ++ (r ∷ rs))) ≤ length log + length rs
+one_less log rs r sorted there =
+    let same : in_order report_cmp (log ++ (r ∷ rs)) ≡ in_order report_cmp (log ++ rs) = sym (put_front log rs r) ∙ ap (λ (l : List PacketReport). in_order report_cmp (l ++ rs)) (put_again report_cmp report_total report_exact log r sorted there) in
+    omega (arith, ap length same, in_order_few (log ++ rs), length-append log rs)
+
+no_more : (a b n : ℕ) → suc a + b ≤ n → n ≤ b + a → ⊥
+no_more a b n p q = omega (arith, p, q)
+
+one_on : (a b c n m : ℕ) → suc a + b ≤ n → c ≡ suc b → m ≡ n → a + c ≤ m
+one_on a b c n m p q s = omega (arith, p, q, s)
+
+-- where a log grew by as many as came, each was new at its turn
+pub all_fresh : (log rs : List PacketReport) → IsStrictlySortedBy report_cmp log → length rs + length log ≤ length (in_order report_cmp (log ++ rs)) → fresh_of log rs ≡ rs
+unfolding fresh_of
+all_fresh log [] sorted all = refl
+all_fresh log (r ∷ rs) sorted all =
+    elim (has report_cmp log r) as (λ b. has report_cmp log r ≡ b → cond b (fresh_of log rs) (r ∷ fresh_of (put report_cmp r log) rs) ≡ r ∷ rs) [
+      | true ↦ λ there. absurd (no_more (length rs) (length log) (length (in_order report_cmp (log ++ (r ∷ rs)))) all (one_less log rs r sorted there))
+      | false ↦ λ new. ap (λ (l : List PacketReport). r ∷ l) (all_fresh (put report_cmp r log) rs (rises_put report_cmp report_total r log sorted)
+          (one_on (length rs) (length log) (length (put report_cmp r log)) (length (in_order report_cmp (log ++ (r ∷ rs)))) (length (in_order report_cmp (put report_cmp r log ++ rs))) all (put_new r log new) (ap length (put_front log rs r))))
+    ] refl
+
+-- a take of a list of which each is new at its turn
+module _ (v : ReplicaView) (rs : List PacketReport) (fresh : fresh_of v.log rs ≡ rs) where
+  whole : rs ≡ fresh_of v.log (take (length rs) rs)
+  whole = sym fresh ∙ ap (fresh_of v.log) (sym (take_whole (length rs) rs (omega arith)))
+
+  pub whole_taken : (w : ReplicaView) → w ≡ appended v (with_origin v.name rs) → w ≡ taken v (take (length rs) rs)
+  whole_taken w e = e ∙ ap (λ (l : List PacketReport). appended v (with_origin v.name l)) whole
+
+  pub whole_fresh : length rs ≡ length (fresh_of v.log (take (length rs) rs))
+  whole_fresh = ap length whole

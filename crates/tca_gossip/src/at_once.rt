@@ -1,0 +1,139 @@
+//! Many reports at once.
+//!
+//! Copies of the log and the chains get them all, and then take the place of both, with a book that is made for the new log. The log
+//! sorts them once and the book meters once, where one by one each report is searched for, put in its place and noted in its lane.
+//! Until the copies take the place nothing has changed. So where there is no room for that, the reports can still be taken one by
+//! one, which names the first that has no room.
+ghost use Rattle.std.specs.Prelude.{◌≡◌, ℕ, ◌+◌, ◌≤◌, ◌++◌, length, true, false, IfOk, OnErr, OnOk, None};
+ghost use Rattle.tca_gossip.specs.Replicas.{appended, chain_of, fresh_of, of, reports_in, with_origin};
+ghost use Rattle.tca_gossip.specs.Runs.{AreRuns, first_fault, rest_of, rests};
+ghost use Rattle.tca_gossip.specs.Kept.{kept_of};
+
+use crate::chains::{extend, kept};
+use crate::contents::Contents;
+use crate::run::Run;
+use std::alloc::{AllocError, Global};
+use tca_join::{ByKey, Chain, Join};
+use tca_log::{Log, LogFault};
+use tca_report::Report;
+
+/// The least list that is taken at once, whatever the log is.
+const LEAST: usize = 1_024;
+
+// The least list that is taken at once beside a log: a quarter of it, since the whole log is copied and metered for the list.
+fn least_beside(log: &Log) -> usize
+    ensures { 1024 ≤ result }
+{
+    LEAST.max(log.len() as usize / 4)
+}
+
+impl Contents {
+    /// Takes reports at once, and answers whether it did. It doesn't where the list is short beside the log, where a report is there
+    /// already or stands twice, or where there is no room, and then nothing has changed.
+    pub(crate) fn take_at_once(&mut self, reports: &[Report]) -> bool
+        ensures state { result ≡ true → self.new.replica ≡ appended self.old.replica (with_origin self.old.replica.name reports.now) }
+        ensures fresh { result ≡ true → fresh_of self.old.replica.log reports.now ≡ reports.now }
+        ensures same { result ≡ false → self.new.replica ≡ self.old.replica }
+    {
+        if reports.len() < least_beside(&self.log) {
+            return false;
+        }
+        match self.take_new(reports) {
+            Ok(all) => all,
+            Err(_) => false,
+        }
+    }
+
+    // Takes reports of which each is new and none stands twice, and answers whether they are so.
+    fn take_new(&mut self, reports: &[Report]) -> Result<bool, LogFault>
+        ensures state { IfOk result (λ all. all ≡ true → self.new.replica ≡ appended self.old.replica (with_origin self.old.replica.name reports.now)) }
+        ensures fresh { IfOk result (λ all. all ≡ true → fresh_of self.old.replica.log reports.now ≡ reports.now) }
+        ensures same { IfOk result (λ all. all ≡ false → self.new.replica ≡ self.old.replica) }
+        ensures err { OnErr result (self.new.replica ≡ self.old.replica) }
+    {
+        let list = Vec::from_slice(self.alloc, reports)?;
+        let mut log = self.log.copy()?;
+        let new = log.add_all(list)?;
+        let _count = log.len();
+        if (new as usize) < reports.len() {
+            return Ok(false);
+        }
+        let mut chains = self.chains.copy()?;
+        extend(self.alloc, &mut chains, self.name, reports)?;
+        let _rises = chains.keys();
+        self.refill(log, chains)?;
+        Ok(true)
+    }
+
+    /// Appends what runs have past the chains at once, where this is how many reports that is, and answers whether it did. It doesn't
+    /// where they are few beside the log, or where there is no room, and then nothing has changed.
+    pub(crate) fn append_at_once(&mut self, runs: &[Run], count: u64) -> bool
+        requires right { AreRuns runs.now }
+        requires good { first_fault self.old.replica.name (chain_of self.old.replica) runs.now ≡ None }
+        ensures state { result ≡ true → self.new.replica ≡ appended self.old.replica (rests (chain_of self.old.replica) runs.now) }
+        ensures same { result ≡ false → self.new.replica ≡ self.old.replica }
+    {
+        if count < least_beside(&self.log) as u64 {
+            return false;
+        }
+        match self.append_whole(runs) {
+            Ok(()) => true,
+            Err(_) => false,
+        }
+    }
+
+    // Appends what runs have past the chains: all of it, or nothing.
+    fn append_whole(&mut self, runs: &[Run]) -> Result<(), LogFault>
+        requires right { AreRuns runs.now }
+        requires good { first_fault self.old.replica.name (chain_of self.old.replica) runs.now ≡ None }
+        ensures ok { OnOk result (self.new.replica ≡ appended self.old.replica (rests (chain_of self.old.replica) runs.now)) }
+        ensures err { OnErr result (self.new.replica ≡ self.old.replica) }
+    {
+        let mut chains = self.chains.copy()?;
+        let mut list = Vec::new(self.alloc);
+        extend_all(self.alloc, &mut chains, &mut list, runs)?;
+        let _rises = chains.keys();
+        let mut log = self.log.copy()?;
+        log.add_all(list)?;
+        self.refill(log, chains)?;
+        Ok(())
+    }
+}
+
+// Appends what a run has past the chain of its origin, to that chain and to a list.
+fn extend_one(
+    alloc: Global,
+    chains: &mut ByKey<Chain<Report>>,
+    list: &mut Vec<Report>,
+    run: &Run,
+) -> Result<(), AllocError>
+    requires { run.now.start + length run.now.reports ≤ 4194304 }
+    ensures kept { OnOk result ((q : ℕ) → kept_of chains.new q ≡ kept_of chains.old q ++ of q (with_origin run.now.origin (rest_of (kept_of chains.old) run.now))) }
+    ensures list { OnOk result (list.new.items ≡ list.old.items ++ rest_of (kept_of chains.old) run.now) }
+{
+    let origin = run.origin();
+    let reports = run.reports();
+    let have = kept(chains, origin).len();
+    let skip = have.saturating_sub(run.start() as usize).min(reports.len());
+    let (_, rest) = reports.split_at(skip);
+    extend(alloc, chains, origin, rest)?;
+    list.extend_from_slice(rest)?;
+    Ok(())
+}
+
+// Appends what runs have past the chains of their origins, to the chains and to a list.
+fn extend_all(
+    alloc: Global,
+    chains: &mut ByKey<Chain<Report>>,
+    list: &mut Vec<Report>,
+    runs: &[Run],
+) -> Result<(), AllocError>
+    requires { AreRuns runs.now }
+    ensures kept { OnOk result ((q : ℕ) → kept_of chains.new q ≡ kept_of chains.old q ++ of q (rests (kept_of chains.old) runs.now)) }
+    ensures list { OnOk result (list.new.items ≡ list.old.items ++ reports_in (rests (kept_of chains.old) runs.now)) }
+{
+    for run in runs {
+        extend_one(alloc, chains, list, run)?;
+    }
+    Ok(())
+}
