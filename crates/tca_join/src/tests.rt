@@ -1,7 +1,6 @@
-use super::{ByKey, Chain, Join, JoinFault, MaxOf};
+use crate::{ByKey, Chain, Join, JoinFault, MaxOf};
 use linked_list_allocator::LocalHeap;
 use std::alloc::{AllocError, Allocator, Global};
-use std::process::Abort;
 use std::test::Fail;
 
 // What a step of the sweeps below was refused memory for.
@@ -12,6 +11,8 @@ enum Step {
     Copy,
     Join,
     Done,
+    // What was refused is not as it was, or what was done is not as it should be.
+    Wrong,
 }
 
 fn add<A: Allocator + Clone>(chain: &mut Chain<u32, A>, item: u32) -> Result<(), AllocError> {
@@ -60,8 +61,8 @@ fn faults_have_their_numbers_and_texts(rt: HostRuntime) -> Result<(), Fail> {
         (JoinFault::Full, 2, "the join is above its limit"),
         (JoinFault::Memory, 3, "out of memory"),
     ] {
-        assert_eq!(rt; fault.number(), number);
-        assert_eq!(rt; format!(in rt.alloc(); "{fault}")?.as_str(), text);
+        assert!(rt; fault.number() == number);
+        assert!(rt; format!(in rt.alloc(); "{fault}")?.as_str() == text);
     }
     Ok(())
 }
@@ -69,26 +70,43 @@ fn faults_have_their_numbers_and_texts(rt: HostRuntime) -> Result<(), Fail> {
 #[test]
 fn the_greater_count_is_kept(rt: HostRuntime) -> Result<(), Fail> {
     for (first, second, greater) in [(3, 5, 5), (5, 3, 5), (4, 4, 4)] {
-        assert_eq!(rt; MaxOf(first).refusal(&MaxOf(second)), None);
-        assert_eq!(rt; joined(&MaxOf(first), &MaxOf(second))?, MaxOf(greater));
+        assert!(rt; MaxOf(first).refusal(&MaxOf(second)) == None);
+        assert!(rt; joined(&MaxOf(first), &MaxOf(second))? == MaxOf(greater));
     }
     Ok(())
 }
 
+fn joins_to(first: &Chain<u32>, second: &Chain<u32>, items: &[u32]) -> bool {
+    match joined(first, second) {
+        Ok(chain) => chain.items() == items,
+        Err(_) => false,
+    }
+}
+
+fn keeps_the_longer(alloc: Global) -> Result<bool, AllocError> {
+    let short = chain_of(alloc, &[4, 6])?;
+    let long = chain_of(alloc, &[4, 6, 4])?;
+    let all = [4, 6, 4];
+    let shown = (long.len(), long.item(1), long.item(3)) == (3, Some(6), None);
+    Ok(shown && joins_to(&short, &long, &all) && joins_to(&long, &short, &all))
+}
+
+// Whether a chain clashes there with another, by both calls.
+fn clashes_at(chain: &mut Chain<u32>, other: &Chain<u32>, key: u32) -> bool {
+    let clash = JoinFault::Clash { key };
+    chain.refusal(other) == Some(clash) && chain.join_from(other) == Err(clash)
+}
+
+fn refuses_another(alloc: Global) -> Result<bool, AllocError> {
+    let long = chain_of(alloc, &[4, 6, 4])?;
+    let mut other = chain_of(alloc, &[4, 7, 5])?;
+    Ok(clashes_at(&mut other, &long, 1) && other.items() == [4, 7, 5].as_slice())
+}
+
 #[test]
 fn the_longer_chain_is_kept(rt: HostRuntime) -> Result<(), Fail> {
-    let short = chain_of(rt.alloc(), &[4, 6])?;
-    let long = chain_of(rt.alloc(), &[4, 6, 4])?;
-    assert_eq!(rt; joined(&short, &long)?.items(), [4, 6, 4].as_slice());
-    assert_eq!(rt; joined(&long, &short)?.items(), [4, 6, 4].as_slice());
-    assert_eq!(rt;
-        (long.len(), long.item(1), long.item(3)),
-        (3, Some(6), None)
-    );
-    let mut other = chain_of(rt.alloc(), &[4, 7, 5])?;
-    assert_eq!(rt; other.refusal(&long), Some(JoinFault::Clash { key: 1 }));
-    assert_eq!(rt; other.join_from(&long), Err(JoinFault::Clash { key: 1 }));
-    assert_eq!(rt; other.items(), [4, 7, 5].as_slice());
+    assert!(rt; keeps_the_longer(rt.alloc())?);
+    assert!(rt; refuses_another(rt.alloc())?);
     Ok(())
 }
 
@@ -98,53 +116,100 @@ fn a_copy_has_the_room_of_its_source(rt: HostRuntime) -> Result<(), Fail> {
     chain.reserve()?;
     let mut copy = chain.copy()?;
     copy.push(8);
-    assert_eq!(rt; copy.items(), [8].as_slice());
-    assert_eq!(rt; chain.len(), 0);
+    assert!(rt; copy.items() == [8].as_slice());
+    assert!(rt; chain.len() == 0);
     Ok(())
+}
+
+// A map of chains of these items, set in this order.
+fn map_of<A: Allocator + Copy>(
+    alloc: A,
+    chains: &[(u32, &[u32])],
+) -> Result<ByKey<Chain<u32, A>, A>, AllocError> {
+    let mut map = ByKey::new(alloc);
+    for (key, items) in chains {
+        let chain = chain_of(alloc, *items)?;
+        map.set(*key, chain)?;
+    }
+    Ok(map)
+}
+
+// Whether a map has just these chains, by rising keys.
+fn has_chains<A: Allocator + Clone>(
+    map: &ByKey<Chain<u32, A>, A>,
+    chains: &[(u32, &[u32])],
+) -> bool {
+    let mut left = chains.iter();
+    for entry in map.entries() {
+        match left.next() {
+            Some((key, items)) => {
+                if entry.0 != *key || entry.1.items() != *items {
+                    return false;
+                }
+            }
+            None => return false,
+        }
+    }
+    left.next().is_none()
+}
+
+fn keys_are(alloc: Global, map: &ByKey<Chain<u32>>, keys: &[u32]) -> Result<bool, AllocError> {
+    let found: Vec<u32> = map.keys().collect(alloc)?;
+    Ok(found.as_slice() == keys)
+}
+
+fn joins_by_key(alloc: Global, all: &ByKey<Chain<u32>>) -> Result<bool, AllocError> {
+    let chains: [(u32, &[u32]); 3] = [(4, &[5, 5]), (6, &[7]), (9, &[1, 3])];
+    Ok(has_chains(all, &chains) && keys_are(alloc, all, &[4, 6, 9])? && all.get(5).is_none())
 }
 
 #[test]
 fn maps_of_chains_join_key_by_key(rt: HostRuntime) -> Result<(), Fail> {
-    let alloc = rt.alloc();
-    let mut first = ByKey::new(alloc);
-    first.set(9, chain_of(alloc, &[1])?)?;
-    first.set(4, chain_of(alloc, &[5, 5])?)?;
-    let mut second = ByKey::new(alloc);
-    second.set(9, chain_of(alloc, &[2])?)?;
-    second.set(6, chain_of(alloc, &[7])?)?;
-    second.set(9, chain_of(alloc, &[1, 3])?)?;
+    let first = map_of(rt.alloc(), &[(9, &[1]), (4, &[5, 5])])?;
+    let second = map_of(rt.alloc(), &[(9, &[2]), (6, &[7]), (9, &[1, 3])])?;
     let all = joined(&first, &second)?;
-    let wanted = vec![in alloc;
-        (4, vec![in alloc; 5, 5]?),
-        (6, vec![in alloc; 7]?),
-        (9, vec![in alloc; 1, 3]?),
-    ]?;
-    assert_eq!(rt; shown(alloc, &all)?, wanted);
-    let keys: Vec<u32> = all.keys().collect(alloc)?;
-    assert_eq!(rt; keys.as_slice(), [4, 6, 9].as_slice());
-    assert!(rt; all.get(5).is_none());
+    assert!(rt; joins_by_key(rt.alloc(), &all)?);
     Ok(())
+}
+
+// Whether a map clashes there with another, and is as before.
+fn is_refused_at(
+    alloc: Global,
+    map: &mut ByKey<Chain<u32>>,
+    other: &ByKey<Chain<u32>>,
+    key: u32,
+) -> Result<bool, AllocError> {
+    let before = shown(alloc, map)?;
+    let refused = map.join_from(other) == Err(JoinFault::Clash { key });
+    Ok(refused && shown(alloc, map)? == before)
+}
+
+fn replace(map: &mut ByKey<Chain<u32>>, key: u32, chain: Chain<u32>) -> bool {
+    match map.get_mut(key) {
+        Some(place) => {
+            *place = chain;
+            true
+        }
+        None => false,
+    }
 }
 
 #[test]
 fn the_least_key_that_clashes_is_named(rt: HostRuntime) -> Result<(), Fail> {
     let alloc = rt.alloc();
-    let mut first = ByKey::new(alloc);
-    let mut second = ByKey::new(alloc);
-    for (key, item) in [(8, 1), (3, 1), (1, 2)] {
-        first.set(key, chain_of(alloc, &[2, 1])?)?;
-        second.set(key, chain_of(alloc, &[2, item])?)?;
-    }
-    first.set(5, chain_of(alloc, &[1])?)?;
-    second.set(5, chain_of(alloc, &[2])?)?;
-    let before = shown(alloc, &first)?;
-    assert_eq!(rt; first.join_from(&second), Err(JoinFault::Clash { key: 1 }));
-    assert_eq!(rt; shown(alloc, &first)?, before);
-    let chain = first.get_mut(1).ok_or("a chain at 1")?;
-    *chain = chain_of(alloc, &[2, 2, 6])?;
-    assert!(rt; first.get_mut(2).is_none());
-    assert_eq!(rt; first.join_from(&second), Err(JoinFault::Clash { key: 5 }));
-    assert_eq!(rt; first.get(1).map_or(0, |chain| chain.len()), 3);
+    let mut first = map_of(
+        alloc,
+        &[(8, &[2, 1]), (3, &[2, 1]), (1, &[2, 1]), (5, &[1])],
+    )?;
+    let second = map_of(
+        alloc,
+        &[(8, &[2, 1]), (3, &[2, 1]), (1, &[2, 2]), (5, &[2])],
+    )?;
+    assert!(rt; is_refused_at(alloc, &mut first, &second, 1)?);
+    let chain = chain_of(alloc, &[2, 2, 6])?;
+    assert!(rt; replace(&mut first, 1, chain) && first.get_mut(2).is_none());
+    assert!(rt; is_refused_at(alloc, &mut first, &second, 5)?);
+    assert!(rt; first.get(1).map_or(0, |chain| chain.len()) == 3);
     Ok(())
 }
 
@@ -157,10 +222,7 @@ fn maps_of_counts_join_key_by_key(rt: HostRuntime) -> Result<(), Fail> {
         second.set(key, MaxOf(other))?;
     }
     let all = joined(&first, &second)?;
-    assert_eq!(rt;
-        all.entries(),
-        [(1, MaxOf(4)), (2, MaxOf(7)), (300, MaxOf(5))].as_slice()
-    );
+    assert!(rt; all.entries() == [(1, MaxOf(4)), (2, MaxOf(7)), (300, MaxOf(5))].as_slice());
     Ok(())
 }
 
@@ -176,6 +238,10 @@ fn exhausted(alloc: Global, heap: &LocalHeap) -> Result<Vec<Vec<u8, &LocalHeap>>
     Ok(taken)
 }
 
+fn has_pushed(chain: &Chain<u32, &LocalHeap>) -> bool {
+    chain.items() == [4, 6, 9].as_slice() && chain.copy().is_err()
+}
+
 #[test]
 fn a_push_into_reserved_room_takes_no_memory(rt: HostRuntime) -> Result<(), Fail> {
     let heap = LocalHeap::new(rt.alloc(), 1 << 12)?;
@@ -185,157 +251,205 @@ fn a_push_into_reserved_room_takes_no_memory(rt: HostRuntime) -> Result<(), Fail
     let used = heap.used();
     assert!(rt; chain.len() < 4_194_304);
     chain.push(9);
-    assert_eq!(rt; chain.items(), [4, 6, 9].as_slice());
-    assert!(rt; chain.copy().is_err());
-    assert_eq!(rt; heap.used(), used);
-    assert!(rt; taken.len() > 0);
+    assert!(rt; has_pushed(&chain) && heap.used() == used && taken.len() > 0);
     Ok(())
 }
 
-// A map with these items at 3 and this one at 5.
-fn map_of<'a>(
-    heap: &'a LocalHeap,
-    items: &[u32],
-    item: u32,
-) -> Result<ByKey<Chain<u32, &'a LocalHeap>, &'a LocalHeap>, AllocError> {
-    let mut map = ByKey::new(heap);
-    map.set(3, chain_of(heap, items)?)?;
-    map.set(5, chain_of(heap, &[item])?)?;
-    Ok(map)
+type SmallMap<'a> = ByKey<Chain<u32, &'a LocalHeap>, &'a LocalHeap>;
+
+// Whether a map clashes at 5 with another, by both calls.
+fn clash_is_named<'a>(first: &mut SmallMap<'a>, second: &SmallMap<'a>) -> bool {
+    let clash = JoinFault::Clash { key: 5 };
+    first.refusal(second) == Some(clash) && first.join_from(second) == Err(clash)
+}
+
+// Whether the map that joins with another, but for its want of memory, joins with one that is empty.
+fn lacks_memory<'a>(heap: &'a LocalHeap, third: &mut SmallMap<'a>, fourth: &SmallMap<'a>) -> bool {
+    let none = ByKey::new(heap);
+    third.refusal(fourth).is_none()
+        && third.join_from(fourth) == Err(JoinFault::Memory)
+        && third.join_from(&none) == Ok(())
 }
 
 #[test]
 fn a_clash_is_named_where_memory_lacks(rt: HostRuntime) -> Result<(), Fail> {
     let heap = LocalHeap::new(rt.alloc(), 1 << 12)?;
-    let mut first = map_of(&heap, &[1], 7)?;
-    let second = map_of(&heap, &[1, 2], 8)?;
-    let mut third = map_of(&heap, &[1], 7)?;
-    let fourth = map_of(&heap, &[1, 2], 7)?;
-    let none = ByKey::new(&heap);
+    let mut first = map_of(&heap, &[(3, &[1]), (5, &[7])])?;
+    let second = map_of(&heap, &[(3, &[1, 2]), (5, &[8])])?;
+    let mut third = map_of(&heap, &[(3, &[1]), (5, &[7])])?;
+    let fourth = map_of(&heap, &[(3, &[1, 2]), (5, &[7])])?;
     let taken = exhausted(rt.alloc(), &heap)?;
     let used = heap.used();
-    let clash = JoinFault::Clash { key: 5 };
-    assert_eq!(rt; first.refusal(&second), Some(clash));
-    assert_eq!(rt; first.join_from(&second), Err(clash));
-    assert_eq!(rt; third.refusal(&fourth), None);
-    assert_eq!(rt; third.join_from(&fourth), Err(JoinFault::Memory));
-    assert_eq!(rt; third.join_from(&none), Ok(()));
-    assert_eq!(rt; heap.used(), used);
-    assert!(rt; taken.len() > 0);
+    assert!(rt; clash_is_named(&mut first, &second));
+    assert!(rt; lacks_memory(&heap, &mut third, &fourth));
+    assert!(rt; heap.used() == used && taken.len() > 0);
     Ok(())
 }
 
-// Goes on until a growth is refused, and sees that what it was refused to is as before.
-fn chain_steps<'a>(
-    rt: &impl Abort,
-    alloc: Global,
-    small: &'a LocalHeap,
-    longer: &Chain<u32, &'a LocalHeap>,
-) -> Result<Step, AllocError> {
-    let mut chain = Chain::new(small);
-    for item in [10, 11, 12, 13, 14] {
-        let before = chain.items().to_vec(alloc)?;
-        if add(&mut chain, item).is_err() {
-            assert_eq!(rt; chain.items(), before.as_slice());
-            return Ok(Step::Reserve);
+const ITEMS: [u32; 5] = [10, 11, 12, 13, 14];
+
+// Adds the items until a growth is refused, and answers whether the chain then has just those before that.
+fn adds_until_refused(chain: &mut Chain<u32, &LocalHeap>) -> Option<bool> {
+    for (n, item) in ITEMS.iter().enumerate() {
+        if add(chain, *item).is_err() {
+            return Some(ITEMS.get(..n) == Some(chain.items()));
         }
     }
+    None
+}
+
+fn seen(step: Step, is_as_before: bool) -> Step {
+    if is_as_before { step } else { Step::Wrong }
+}
+
+// Goes on until a growth is refused, and sees that what it was refused to is as before.
+fn chain_step<'a>(small: &'a LocalHeap, longer: &Chain<u32, &'a LocalHeap>) -> Step {
+    let mut chain = Chain::new(small);
+    if let Some(is_as_before) = adds_until_refused(&mut chain) {
+        return seen(Step::Reserve, is_as_before);
+    }
     if chain.copy().is_err() {
-        assert_eq!(rt; chain.items(), [10, 11, 12, 13, 14].as_slice());
-        return Ok(Step::Copy);
+        return seen(Step::Copy, chain.items() == ITEMS.as_slice());
     }
-    if let Err(fault) = chain.join_from(longer) {
-        assert_eq!(rt; fault, JoinFault::Memory);
-        assert_eq!(rt; chain.items(), [10, 11, 12, 13, 14].as_slice());
-        return Ok(Step::Join);
+    match chain.join_from(longer) {
+        Ok(()) => seen(Step::Done, chain.items() == longer.items()),
+        Err(fault) => seen(
+            Step::Join,
+            fault == JoinFault::Memory && chain.items() == ITEMS.as_slice(),
+        ),
     }
-    assert_eq!(rt; chain.items(), longer.items());
-    Ok(Step::Done)
 }
 
 // The same in a heap of this many octets for the chain itself, beside one with room for the other.
-fn chain_within(rt: &impl Abort, alloc: Global, octets: usize) -> Result<Step, AllocError> {
+fn chain_within(alloc: Global, octets: usize) -> Result<Step, AllocError> {
     let small = LocalHeap::new(alloc, octets)?;
     let ample = LocalHeap::new(alloc, 1 << 16)?;
     let longer = chain_of(&ample, &[10, 11, 12, 13, 14, 15, 16, 17, 18, 19])?;
-    let step = chain_steps(rt, alloc, &small, &longer)?;
-    assert_eq!(rt; small.used(), 0);
-    Ok(step)
+    let step = chain_step(&small, &longer);
+    Ok(seen(step, small.used() == 0))
+}
+
+fn meets(met: &[Step], wanted: &[Step]) -> bool {
+    wanted.iter().all(|step| met.contains(step)) && !met.contains(&Step::Wrong)
 }
 
 #[test]
 fn a_chain_is_as_before_after_each_refused_growth(rt: HostRuntime) -> Result<(), Fail> {
     let mut met = Vec::new(rt.alloc());
     for size in 1..64 {
-        let step = chain_within(&rt, rt.alloc(), 16 * size)?;
+        let step = chain_within(rt.alloc(), 16 * size)?;
         met.push(step)?;
         if step == Step::Done {
             break;
         }
     }
-    for step in [Step::Reserve, Step::Copy, Step::Join, Step::Done] {
-        assert!(rt; met.contains(&step), "{step:?} was not met: {met:?}");
-    }
+    let wanted = [Step::Reserve, Step::Copy, Step::Join, Step::Done];
+    assert!(rt; meets(&met, &wanted), "{met:?}");
     Ok(())
 }
 
-fn map_steps<'a>(
-    rt: &impl Abort,
+const KEYS: [u32; 5] = [40, 20, 30, 10, 50];
+
+// Sets a chain under this key. The answer is why that was refused, or what is wrong then.
+fn set_one<'a>(
     alloc: Global,
+    map: &mut SmallMap<'a>,
     small: &'a LocalHeap,
-    other: &ByKey<Chain<u32, &'a LocalHeap>, &'a LocalHeap>,
-) -> Result<Step, AllocError> {
-    let mut map = ByKey::new(small);
-    for key in [40, 20, 30, 10, 50] {
-        let Ok(chain) = chain_of(small, &[key]) else {
-            return Ok(Step::Reserve);
-        };
-        let before = shown(alloc, &map)?;
-        if map.set(key, chain).is_err() {
-            assert_eq!(rt; shown(alloc, &map)?, before);
-            return Ok(Step::Set);
-        }
-    }
-    let before = shown(alloc, &map)?;
-    let Ok(copy) = map.copy() else {
-        assert_eq!(rt; shown(alloc, &map)?, before);
-        return Ok(Step::Copy);
+    key: u32,
+) -> Result<Option<Step>, AllocError> {
+    let before = shown(alloc, map)?;
+    let Ok(chain) = chain_of(small, &[key]) else {
+        return Ok(Some(Step::Reserve));
     };
-    if let Err(fault) = map.join_from(other) {
-        assert_eq!(rt; fault, JoinFault::Memory);
-        assert_eq!(rt; shown(alloc, &map)?, before);
-        return Ok(Step::Join);
+    if map.set(key, chain).is_err() {
+        return Ok(Some(seen(Step::Set, shown(alloc, map)? == before)));
     }
-    assert_eq!(rt; shown(alloc, &copy)?, before);
-    assert_eq!(rt; map.get(30).map_or(0, |chain| chain.len()), 6);
-    assert_eq!(rt; map.get(35).map_or(0, |chain| chain.len()), 1);
-    assert_eq!(rt; map.entries().len(), 6);
-    Ok(Step::Done)
+    Ok(None)
 }
 
-fn map_within(rt: &impl Abort, alloc: Global, octets: usize) -> Result<Step, AllocError> {
+fn set_each<'a>(
+    alloc: Global,
+    map: &mut SmallMap<'a>,
+    small: &'a LocalHeap,
+) -> Result<Option<Step>, AllocError> {
+    for key in KEYS {
+        let refused = set_one(alloc, map, small, key)?;
+        if refused.is_some() {
+            return Ok(refused);
+        }
+    }
+    Ok(None)
+}
+
+fn has_joined(map: &SmallMap<'_>) -> bool {
+    map.get(30).map_or(0, |chain| chain.len()) == 6
+        && map.get(35).map_or(0, |chain| chain.len()) == 1
+        && map.entries().len() == 6
+}
+
+// The join with another, once the map was copied, which is as before whatever becomes of the map.
+fn join_step<'a>(
+    alloc: Global,
+    map: &mut SmallMap<'a>,
+    copy: &SmallMap<'a>,
+    other: &SmallMap<'a>,
+) -> Result<Step, AllocError> {
+    let before = shown(alloc, copy)?;
+    match map.join_from(other) {
+        Ok(()) => Ok(seen(Step::Done, has_joined(map) && shown(alloc, copy)? == before)),
+        Err(fault) => Ok(seen(
+            Step::Join,
+            fault == JoinFault::Memory && shown(alloc, map)? == before,
+        )),
+    }
+}
+
+fn copy_step<'a>(
+    alloc: Global,
+    map: &mut SmallMap<'a>,
+    other: &SmallMap<'a>,
+) -> Result<Step, AllocError> {
+    let before = shown(alloc, map)?;
+    match map.copy() {
+        Ok(copy) => {
+            let is_alike = shown(alloc, &copy)? == before;
+            Ok(seen(join_step(alloc, map, &copy, other)?, is_alike))
+        }
+        Err(_) => Ok(seen(Step::Copy, shown(alloc, map)? == before)),
+    }
+}
+
+fn map_step<'a>(
+    alloc: Global,
+    small: &'a LocalHeap,
+    other: &SmallMap<'a>,
+) -> Result<Step, AllocError> {
+    let mut map = ByKey::new(small);
+    match set_each(alloc, &mut map, small)? {
+        Some(step) => Ok(step),
+        None => copy_step(alloc, &mut map, other),
+    }
+}
+
+fn map_within(alloc: Global, octets: usize) -> Result<Step, AllocError> {
     let small = LocalHeap::new(alloc, octets)?;
     let ample = LocalHeap::new(alloc, 1 << 16)?;
-    let mut other = ByKey::new(&ample);
-    other.set(30, chain_of(&ample, &[30, 1, 2, 3, 4, 5])?)?;
-    other.set(35, chain_of(&ample, &[35])?)?;
-    let step = map_steps(rt, alloc, &small, &other)?;
-    assert_eq!(rt; small.used(), 0);
-    Ok(step)
+    let other = map_of(&ample, &[(30, &[30, 1, 2, 3, 4, 5]), (35, &[35])])?;
+    let step = map_step(alloc, &small, &other)?;
+    Ok(seen(step, small.used() == 0))
 }
 
 #[test]
 fn a_map_is_as_before_after_each_refused_growth(rt: HostRuntime) -> Result<(), Fail> {
     let mut met = Vec::new(rt.alloc());
     for size in 1..256 {
-        let step = map_within(&rt, rt.alloc(), 16 * size)?;
+        let step = map_within(rt.alloc(), 16 * size)?;
         met.push(step)?;
         if step == Step::Done {
             break;
         }
     }
-    for step in [Step::Reserve, Step::Set, Step::Copy, Step::Join, Step::Done] {
-        assert!(rt; met.contains(&step), "{step:?} was not met: {met:?}");
-    }
+    let wanted = [Step::Reserve, Step::Set, Step::Copy, Step::Join, Step::Done];
+    assert!(rt; meets(&met, &wanted), "{met:?}");
     Ok(())
 }

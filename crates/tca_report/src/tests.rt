@@ -2,6 +2,9 @@ use crate::{
     Content, ExportFault, Host, Identity, Read, ReadFault, Report, Write, WriteFault,
     order_is_total, put_all, read_export, read_octets, spelling_is_unique, write_export,
 };
+use std::alloc::{AllocError, Global};
+use std::fmt::Display;
+use std::path::Path;
 use std::test::Fail;
 use std::{env, fs, io};
 
@@ -41,6 +44,20 @@ fn report(place: u32, time: u64, octets: u32, dscp: u8) -> Result<Report, &'stat
     Report::new(identity, content).ok_or("out of range")
 }
 
+fn has_parts(report: Report, identity: Identity, content: Content) -> bool {
+    report.identity() == identity && report.content() == content
+}
+
+// Place, time, octets and DSCP.
+type Parts = (u32, u64, u32, u8);
+
+fn is_below(lower: Parts, upper: Parts) -> Result<bool, &'static str> {
+    let (place, time, octets, dscp) = lower;
+    let lower = report(place, time, octets, dscp)?;
+    let (place, time, octets, dscp) = upper;
+    Ok(lower < report(place, time, octets, dscp)?)
+}
+
 #[test]
 fn reports_keep_their_ranges(rt: HostRuntime) -> Result<(), Fail> {
     for (time, octets, dscp) in [(1 << 48, 1, 0), (T, 0, 0), (T, 65_576, 0), (T, 1, 64)] {
@@ -49,28 +66,36 @@ fn reports_keep_their_ranges(rt: HostRuntime) -> Result<(), Fail> {
             "{time} {octets} {dscp}"
         );
     }
+    let identity = Identity {
+        domain: 7,
+        place: 9,
+    };
+    let content = Content {
+        time: 281_474_976_710_655,
+        octets: 65_575,
+        dscp: 63,
+        iface: 1,
+    };
     let last = report(9, (1 << 48) - 1, 65_575, 63)?;
-    assert_eq!(rt;
-        last.identity(),
-        Identity {
-            domain: 7,
-            place: 9
-        }
-    );
-    assert_eq!(rt;
-        last.content(),
-        Content {
-            time: 281_474_976_710_655,
-            octets: 65_575,
-            dscp: 63,
-            iface: 1
-        }
-    );
+    assert!(rt; has_parts(last, identity, content));
     order_is_total();
-    assert!(rt; report(9, T, 1, 0)? < report(0, T + 1, 1, 0)?);
-    assert!(rt; report(0, T, 9, 9)? < report(1, T, 1, 0)?);
-    assert!(rt; report(0, T, 1, 9)? < report(0, T, 2, 0)?);
+    for (lower, upper) in [
+        ((9, T, 1, 0), (0, T + 1, 1, 0)),
+        ((0, T, 9, 9), (1, T, 1, 0)),
+        ((0, T, 1, 9), (0, T, 2, 0)),
+    ] {
+        assert!(rt; is_below(lower, upper)?);
+    }
     Ok(())
+}
+
+// Whether an export is read as these reports, which are written as its octets again.
+fn is_export_of(alloc: Global, octets: &[u8], wanted: &[Report]) -> Result<bool, Fail> {
+    let reports = read_export(alloc, octets)?;
+    let mut out = Host::new(Vec::new(alloc));
+    let done = write_export(reports.as_slice(), &mut out).is_ok();
+    let written = out.into_inner();
+    Ok(done && reports.as_slice() == wanted && written.as_slice() == octets)
 }
 
 #[test]
@@ -80,30 +105,18 @@ fn exports_both_ways(rt: HostRuntime) -> Result<(), Fail> {
         report(1, T + 100, 1000, 0)?,
         report(2, T + 200, 800, 0)?,
     ];
-    let three = read_export(rt.alloc(), three_reports())?;
-    assert_eq!(rt; three.as_slice(), wanted.as_slice());
-    let one = read_export(rt.alloc(), one_report())?;
-    assert_eq!(rt; one.as_slice(), [report(5, T, 1500, 10)?].as_slice());
-    let none = read_export(rt.alloc(), no_report())?;
-    assert_eq!(rt; none.len(), 0);
-
-    let mut out = Host::new(Vec::new(rt.alloc()));
-    assert_eq!(rt; write_export(three.as_slice(), &mut out), Ok(()));
-    assert_eq!(rt; out.into_inner().as_slice(), three_reports());
-    let mut out = Host::new(Vec::new(rt.alloc()));
-    assert_eq!(rt; write_export(one.as_slice(), &mut out), Ok(()));
-    assert_eq!(rt; out.into_inner().as_slice(), one_report());
-    let mut out = Host::new(Vec::new(rt.alloc()));
-    assert_eq!(rt; write_export(none.as_slice(), &mut out), Ok(()));
-    assert_eq!(rt; out.into_inner().as_slice(), no_report());
+    assert!(rt; is_export_of(rt.alloc(), three_reports(), &wanted)?);
+    let wanted = [report(5, T, 1500, 10)?];
+    assert!(rt; is_export_of(rt.alloc(), one_report(), &wanted)?);
+    assert!(rt; is_export_of(rt.alloc(), no_report(), &[])?);
     spelling_is_unique();
     Ok(())
 }
 
-fn refused(rt: &HostRuntime, octets: &[u8]) -> Result<ExportFault, Fail> {
-    match read_export(rt.alloc(), octets) {
-        Ok(_) => Err(Fail::from("it was read")),
-        Err(fault) => Ok(fault),
+fn is_refused(alloc: Global, octets: &[u8], fault: ExportFault) -> bool {
+    match read_export(alloc, octets) {
+        Ok(_) => false,
+        Err(found) => found == fault,
     }
 }
 
@@ -123,65 +136,69 @@ fn headers_are_refused(rt: HostRuntime) -> Result<(), Fail> {
             ExportFault::Count,
         ),
     ] {
-        assert_eq!(rt; refused(&rt, octets)?, fault);
+        assert!(rt; is_refused(rt.alloc(), octets, fault));
     }
     Ok(())
 }
 
 // An export of two records.
-fn pair_of(rt: &HostRuntime, first: &[u8], second: &[u8]) -> Result<Vec<u8>, Fail> {
-    let mut octets = Vec::from_slice(rt.alloc(), b"TCAX\x00\x01\x00\x00\x00\x02")?;
+fn pair_of(alloc: Global, first: &[u8], second: &[u8]) -> Result<Vec<u8>, AllocError> {
+    let mut octets = Vec::from_slice(alloc, b"TCAX\x00\x01\x00\x00\x00\x02")?;
     octets.extend_from_slice(first)?;
     octets.extend_from_slice(second)?;
     Ok(octets)
 }
 
-fn with_end(rt: &HostRuntime, octets: &[u8], end: &[u8]) -> Result<Vec<u8>, Fail> {
-    let mut all = Vec::from_slice(rt.alloc(), octets)?;
+fn with_end(alloc: Global, octets: &[u8], end: &[u8]) -> Result<Vec<u8>, AllocError> {
+    let mut all = Vec::from_slice(alloc, octets)?;
     all.extend_from_slice(end)?;
     Ok(all)
 }
 
+// Whether an export is refused where it is cut off there, and where an octet follows it.
+fn keeps_its_length(alloc: Global, octets: &[u8], cut: usize) -> Result<bool, AllocError> {
+    let longer = with_end(alloc, octets, b"\x00")?;
+    Ok(
+        is_refused(alloc, part(octets, 0, cut), ExportFault::Cut)
+            && is_refused(alloc, longer.as_slice(), ExportFault::Count),
+    )
+}
+
 #[test]
 fn lengths_are_refused(rt: HostRuntime) -> Result<(), Fail> {
-    let three = three_reports();
-    assert_eq!(rt; refused(&rt, part(three, 0, 84))?, ExportFault::Cut);
-    assert_eq!(rt;
-        refused(&rt, with_end(&rt, three, b"\x00")?.as_slice())?,
-        ExportFault::Count
-    );
-    let one = one_report();
-    assert_eq!(rt; refused(&rt, part(one, 0, 34))?, ExportFault::Cut);
-    assert_eq!(rt;
-        refused(&rt, with_end(&rt, one, b"\x00")?.as_slice())?,
-        ExportFault::Count
-    );
+    assert!(rt; keeps_its_length(rt.alloc(), three_reports(), 84)?);
+    assert!(rt; keeps_its_length(rt.alloc(), one_report(), 34)?);
     Ok(())
+}
+
+fn pair_is_refused(
+    alloc: Global,
+    first: &[u8],
+    second: &[u8],
+    fault: ExportFault,
+) -> Result<bool, AllocError> {
+    let octets = pair_of(alloc, first, second)?;
+    Ok(is_refused(alloc, octets.as_slice(), fault))
+}
+
+// Whether reports are refused whose DSCP is out of range, also one that is below the report before it.
+fn refuses_a_code_point(alloc: Global) -> Result<bool, AllocError> {
+    let three = three_reports();
+    let third = with_end(alloc, part(three, 0, 80), b"\x40\x00\x00\x00\x01")?;
+    let lower = with_end(alloc, part(three, 10, 30), b"\x40\x00\x00\x00\x01")?;
+    let range = ExportFault::Range { n: 1 };
+    let both = pair_is_refused(alloc, part(three, 35, 60), lower.as_slice(), range)?;
+    Ok(both && is_refused(alloc, third.as_slice(), ExportFault::Range { n: 2 }))
 }
 
 #[test]
 fn reports_are_refused(rt: HostRuntime) -> Result<(), Fail> {
-    let one = one_report();
-    let twice = pair_of(&rt, part(one, 10, 35), part(one, 10, 35))?;
-    assert_eq!(rt;
-        refused(&rt, twice.as_slice())?,
-        ExportFault::Order { n: 1 }
-    );
-    let three = three_reports();
-    let turned = pair_of(&rt, part(three, 35, 60), part(three, 10, 35))?;
-    assert_eq!(rt;
-        refused(&rt, turned.as_slice())?,
-        ExportFault::Order { n: 1 }
-    );
-    let coarse = with_end(&rt, part(three, 0, 80), b"\x40\x00\x00\x00\x01")?;
-    assert_eq!(rt;
-        refused(&rt, coarse.as_slice())?,
-        ExportFault::Range { n: 2 }
-    );
-    // The second report is below the first, and its DSCP is out of range.
-    let both = with_end(&rt, part(three, 10, 30), b"\x40\x00\x00\x00\x01")?;
-    let both = pair_of(&rt, part(three, 35, 60), both.as_slice())?;
-    assert_eq!(rt; refused(&rt, both.as_slice())?, ExportFault::Range { n: 1 });
+    let (one, three) = (part(one_report(), 10, 35), three_reports());
+    let (first, second) = (part(three, 10, 35), part(three, 35, 60));
+    let order = ExportFault::Order { n: 1 };
+    assert!(rt; pair_is_refused(rt.alloc(), one, one, order)?);
+    assert!(rt; pair_is_refused(rt.alloc(), second, first, order)?);
+    assert!(rt; refuses_a_code_point(rt.alloc())?);
     Ok(())
 }
 
@@ -223,9 +240,9 @@ impl io::Read for Narrow {
     }
 }
 
-fn make_narrow(rt: &HostRuntime, most: usize, room: usize, fails: bool) -> Host<Narrow> {
+fn make_narrow(alloc: Global, most: usize, room: usize, fails: bool) -> Host<Narrow> {
     Host::new(Narrow {
-        taken: Vec::new(rt.alloc()),
+        taken: Vec::new(alloc),
         most,
         room,
         fails,
@@ -233,43 +250,58 @@ fn make_narrow(rt: &HostRuntime, most: usize, room: usize, fails: bool) -> Host<
     })
 }
 
+// Whether a writer with too little room, which takes three octets at a time, gets just those that it has room for.
+fn fills_its_room(alloc: Global) -> bool {
+    let mut out = make_narrow(alloc, 3, 7, false);
+    let failed = put_all(b"0123456789", &mut out) == Err(WriteFault { written: 7 });
+    let failed_once = out.failures() == 1;
+    let device = out.into_inner();
+    failed && failed_once && device.taken.as_slice() == b"0123456".as_slice()
+}
+
+fn takes_all(alloc: Global) -> bool {
+    let mut out = make_narrow(alloc, 3, 10, false);
+    let done = put_all(b"0123456789", &mut out).is_ok() && put_all(b"", &mut out).is_ok();
+    let never_failed = out.failures() == 0;
+    let device = out.into_inner();
+    done && never_failed && device.taken.as_slice() == b"0123456789".as_slice()
+}
+
 #[test]
 fn a_writer_fails_in_mid_stream(rt: HostRuntime) -> Result<(), Fail> {
-    let mut out = make_narrow(&rt, 3, 7, false);
-    assert_eq!(rt;
-        put_all(b"0123456789", &mut out),
-        Err(WriteFault { written: 7 })
-    );
-    assert_eq!(rt; out.failures(), 1);
-    assert_eq!(rt; out.into_inner().taken.as_slice(), b"0123456".as_slice());
-
-    let mut out = make_narrow(&rt, 3, 10, false);
-    assert_eq!(rt; put_all(b"0123456789", &mut out), Ok(()));
-    assert_eq!(rt; put_all(b"", &mut out), Ok(()));
-    assert_eq!(rt; out.failures(), 0);
-    assert_eq!(rt; out.into_inner().taken.as_slice(), b"0123456789".as_slice());
-
+    assert!(rt; fills_its_room(rt.alloc()));
+    assert!(rt; takes_all(rt.alloc()));
     Ok(())
+}
+
+// Whether a writer with room for so many octets of an export of so many reports gets just those.
+fn is_cut_off(
+    alloc: Global,
+    octets: &[u8],
+    count: usize,
+    most: usize,
+    room: usize,
+) -> Result<bool, Fail> {
+    let reports = read_export(alloc, octets)?;
+    let mut out = make_narrow(alloc, most, room, false);
+    let written = room as u64;
+    let failed = write_export(reports.as_slice(), &mut out) == Err(WriteFault { written });
+    let failed_once = out.failures() == 1;
+    let device = out.into_inner();
+    let taken = device.taken.as_slice() == part(octets, 0, room);
+    Ok(reports.len() == count && failed && failed_once && taken)
 }
 
 #[test]
 fn an_export_fails_in_mid_stream(rt: HostRuntime) -> Result<(), Fail> {
-    let three = read_export(rt.alloc(), three_reports())?;
-    let mut out = make_narrow(&rt, 3, 50, false);
-    assert_eq!(rt;
-        write_export(three.as_slice(), &mut out),
-        Err(WriteFault { written: 50 })
-    );
-    assert_eq!(rt; out.failures(), 1);
-    let octets = three_reports();
-    assert_eq!(rt; out.into_inner().taken.as_slice(), part(octets, 0, 50));
+    assert!(rt; is_cut_off(rt.alloc(), three_reports(), 3, 3, 50)?);
     Ok(())
 }
 
 // An export of so many reports that one buffer doesn't hold them.
-fn long_export(rt: &HostRuntime, count: u32) -> Result<Vec<u8>, Fail> {
+fn long_export(alloc: Global, count: u32) -> Result<Vec<u8>, AllocError> {
     let three = three_reports();
-    let mut octets = Vec::from_slice(rt.alloc(), b"TCAX\x00\x01")?;
+    let mut octets = Vec::from_slice(alloc, b"TCAX\x00\x01")?;
     octets.extend_from_slice(&count.to_be_bytes())?;
     for n in 0..count {
         octets.extend_from_slice(part(three, 10, 22))?;
@@ -279,91 +311,105 @@ fn long_export(rt: &HostRuntime, count: u32) -> Result<Vec<u8>, Fail> {
     Ok(octets)
 }
 
+// Whether an export of 3,000 reports goes out in three writes.
+fn goes_out_in_three(alloc: Global, octets: &[u8]) -> Result<bool, Fail> {
+    let reports = read_export(alloc, octets)?;
+    let mut out = make_narrow(alloc, 100_000, 100_000, false);
+    let done = write_export(reports.as_slice(), &mut out).is_ok();
+    let device = out.into_inner();
+    let taken = device.taken.as_slice() == octets;
+    Ok(reports.len() == 3000 && done && device.calls == 3 && taken)
+}
+
 #[test]
 fn a_long_export_goes_out_in_few_writes(rt: HostRuntime) -> Result<(), Fail> {
-    let octets = long_export(&rt, 3000)?;
-    let reports = read_export(rt.alloc(), octets.as_slice())?;
-    assert_eq!(rt; reports.len(), 3000);
-    let mut out = make_narrow(&rt, 100_000, 100_000, false);
-    assert_eq!(rt; write_export(reports.as_slice(), &mut out), Ok(()));
-    let device = out.into_inner();
-    assert_eq!(rt; device.calls, 3);
-    assert_eq!(rt; device.taken.as_slice(), octets.as_slice());
+    let octets = long_export(rt.alloc(), 3000)?;
+    assert!(rt; goes_out_in_three(rt.alloc(), &octets)?);
     Ok(())
 }
 
 #[test]
 fn a_long_export_is_cut_off(rt: HostRuntime) -> Result<(), Fail> {
-    let mut octets = long_export(&rt, 3000)?;
-    let reports = read_export(rt.alloc(), octets.as_slice())?;
-    assert_eq!(rt; reports.len(), 3000);
-    let mut out = make_narrow(&rt, 100_000, 70_001, false);
-    assert_eq!(rt;
-        write_export(reports.as_slice(), &mut out),
-        Err(WriteFault { written: 70_001 })
-    );
-    octets.truncate(70_001);
-    assert_eq!(rt; out.into_inner().taken.as_slice(), octets.as_slice());
+    let octets = long_export(rt.alloc(), 3000)?;
+    assert!(rt; is_cut_off(rt.alloc(), &octets, 3000, 100_000, 70_001)?);
     Ok(())
+}
+
+// Whether all of these octets are read.
+fn reads_all(alloc: Global, octets: &[u8]) -> Result<bool, Fail> {
+    let mut input = Host::new(octets);
+    let read = read_octets(alloc, &mut input)?;
+    Ok(read.as_slice() == octets && input.into_inner().len() == 0)
+}
+
+fn reads_to_the_end(alloc: Global) -> Result<bool, Fail> {
+    let mut input = make_narrow(alloc, 3, 7, false);
+    let read = read_octets(alloc, &mut input)?;
+    Ok(read.as_slice() == b"aaaaaaa".as_slice() && input.failures() == 0)
+}
+
+fn fails_at_the_end(alloc: Global) -> bool {
+    let mut input = make_narrow(alloc, 3, 7, true);
+    let failed = read_octets(alloc, &mut input).err() == Some(ReadFault::Read);
+    let failed_once = input.failures() == 1;
+    let device = input.into_inner();
+    failed && failed_once && device.room == 0
 }
 
 #[test]
 fn readers_are_read_to_their_end(rt: HostRuntime) -> Result<(), Fail> {
-    let mut input = Host::new(three_reports());
-    assert_eq!(rt;
-        read_octets(rt.alloc(), &mut input)?.as_slice(),
-        three_reports()
-    );
-    assert_eq!(rt; input.into_inner().len(), 0);
-
-    let mut input = make_narrow(&rt, 3, 7, false);
-    assert_eq!(rt;
-        read_octets(rt.alloc(), &mut input)?.as_slice(),
-        b"aaaaaaa".as_slice()
-    );
-    assert_eq!(rt; input.failures(), 0);
-
-    let mut input = make_narrow(&rt, 3, 7, true);
-    assert_eq!(rt;
-        read_octets(rt.alloc(), &mut input).err(),
-        Some(ReadFault::Read)
-    );
-    assert_eq!(rt; input.failures(), 1);
-    assert_eq!(rt; input.into_inner().room, 0);
+    assert!(rt; reads_all(rt.alloc(), three_reports())?);
+    assert!(rt; reads_to_the_end(rt.alloc())?);
+    assert!(rt; fails_at_the_end(rt.alloc()));
     Ok(())
+}
+
+fn takes_too_many_reads(alloc: Global) -> bool {
+    let mut input = make_narrow(alloc, 1, 5_000_000, false);
+    let stopped = read_octets(alloc, &mut input).err() == Some(ReadFault::Turns);
+    let never_failed = input.failures() == 0;
+    let device = input.into_inner();
+    stopped && never_failed && (device.calls, device.room) == (4_194_304, 805_696)
+}
+
+fn takes_five_reads(alloc: Global) -> Result<bool, Fail> {
+    let mut input = make_narrow(alloc, 1_000_000, 200_000, false);
+    let read = read_octets(alloc, &mut input)?;
+    Ok(read.len() == 200_000 && input.into_inner().calls == 5)
 }
 
 #[test]
 fn a_reader_may_take_too_many_reads(rt: HostRuntime) -> Result<(), Fail> {
-    let mut input = make_narrow(&rt, 1, 5_000_000, false);
-    assert_eq!(rt;
-        read_octets(rt.alloc(), &mut input).err(),
-        Some(ReadFault::Turns)
-    );
-    assert_eq!(rt; input.failures(), 0);
-    let device = input.into_inner();
-    assert_eq!(rt; device.calls, 4_194_304);
-    assert_eq!(rt; device.room, 805_696);
-
-    let mut input = make_narrow(&rt, 1_000_000, 200_000, false);
-    assert_eq!(rt; read_octets(rt.alloc(), &mut input)?.len(), 200_000);
-    assert_eq!(rt; input.into_inner().calls, 5);
+    assert!(rt; takes_too_many_reads(rt.alloc()));
+    assert!(rt; takes_five_reads(rt.alloc())?);
     Ok(())
+}
+
+fn is_written(rt: &HostRuntime, path: Path<'_>) -> Result<bool, Fail> {
+    let reports = read_export(rt.alloc(), three_reports())?;
+    let mut out = Host::new(fs::create(rt, path)?);
+    let done = write_export(reports.as_slice(), &mut out).is_ok();
+    Ok(done && out.failures() == 0)
+}
+
+fn is_read(rt: &HostRuntime, path: Path<'_>) -> Result<bool, Fail> {
+    let mut input = Host::new(fs::open(rt, path)?);
+    let octets = read_octets(rt.alloc(), &mut input)?;
+    Ok(octets.as_slice() == three_reports())
 }
 
 #[test]
 fn a_file_is_a_device(rt: HostRuntime) -> Result<(), Fail> {
     let path = env::temp_dir(&rt)?.join(rt.alloc(), "tca_report_a_file_is_a_device")?;
-    let reports = read_export(rt.alloc(), three_reports())?;
-    let mut out = Host::new(fs::create(&rt, path.as_path())?);
-    assert_eq!(rt; write_export(reports.as_slice(), &mut out), Ok(()));
-    assert_eq!(rt; out.failures(), 0);
-    let _ = out.into_inner();
-    let mut input = Host::new(fs::open(&rt, path.as_path())?);
-    let octets = read_octets(rt.alloc(), &mut input)?;
+    let written = is_written(&rt, path.as_path())?;
+    let read = is_read(&rt, path.as_path())?;
     fs::remove_file(&rt, path.as_path())?;
-    assert_eq!(rt; octets.as_slice(), three_reports());
+    assert!(rt; written && read);
     Ok(())
+}
+
+fn says<F: Display + Drop>(alloc: Global, fault: F, text: &str) -> Result<bool, Fail> {
+    Ok(format!(in alloc; "{fault}")?.as_str() == text)
 }
 
 #[test]
@@ -377,8 +423,7 @@ fn faults_have_texts_and_numbers(rt: HostRuntime) -> Result<(), Fail> {
         ),
         (ReadFault::Memory, 3, "out of memory"),
     ] {
-        assert_eq!(rt; fault.number(), number);
-        assert_eq!(rt; format!(in rt.alloc(); "{fault}")?.as_str(), text);
+        assert!(rt; fault.number() == number && says(rt.alloc(), fault, text)?);
     }
     for (fault, number, text) in [
         (ExportFault::Magic, 1, "the export does not begin with TCAX"),
@@ -405,15 +450,11 @@ fn faults_have_texts_and_numbers(rt: HostRuntime) -> Result<(), Fail> {
         ),
         (ExportFault::Memory, 7, "out of memory"),
     ] {
-        assert_eq!(rt; fault.number(), number);
-        assert_eq!(rt; format!(in rt.alloc(); "{fault}")?.as_str(), text);
+        assert!(rt; fault.number() == number && says(rt.alloc(), fault, text)?);
     }
     let fault = WriteFault { written: 7 };
-    assert_eq!(rt; fault.number(), 1);
-    assert_eq!(rt;
-        format!(in rt.alloc(); "{fault}")?.as_str(),
-        "the writer failed after 7 octets"
-    );
+    let text = "the writer failed after 7 octets";
+    assert!(rt; fault.number() == 1 && says(rt.alloc(), fault, text)?);
     Ok(())
 }
 
@@ -470,14 +511,14 @@ fn a_host_counts_the_writes_that_fail(rt: HostRuntime) -> Result<(), Fail> {
     let mut failed: u64 = 0;
     for length in 0..=3000 {
         match out.write(part(octets.as_slice(), 0, length)) {
-            Ok(n) => assert_eq!(rt; n, length.min(700)),
+            Ok(n) => assert!(rt; n == length.min(700)),
             Err(_) => failed = failed.saturating_add(1),
         }
-        assert_eq!(rt; out.failures(), failed, "{length}");
+        assert!(rt; out.failures() == failed, "{length}");
     }
     // A write of nothing isn't given to the device: 1,000 of its 3,000 calls failed, and 400 others took nothing.
     let device = out.into_inner();
-    assert_eq!(rt; (device.calls, device.failures, failed), (3000, 1400, 1400));
+    assert!(rt; (device.calls, device.failures, failed) == (3000, 1400, 1400));
     Ok(())
 }
 
@@ -491,13 +532,13 @@ fn a_host_counts_the_reads_that_fail(rt: HostRuntime) -> Result<(), Fail> {
     for length in 0..=3000 {
         let mut buffer = vec![in rt.alloc(); 0u8; length]?;
         match input.read(buffer.as_mut_slice()) {
-            Ok(n) => assert_eq!(rt; n, length.min(700)),
+            Ok(n) => assert!(rt; n == length.min(700)),
             Err(_) => failed = failed.saturating_add(1),
         }
-        assert_eq!(rt; input.failures(), failed, "{length}");
+        assert!(rt; input.failures() == failed, "{length}");
     }
     // 3,001 calls, each third of which failed.
     let device = input.into_inner();
-    assert_eq!(rt; (device.calls, device.failures, failed), (3001, 1000, 1000));
+    assert!(rt; (device.calls, device.failures, failed) == (3001, 1000, 1000));
     Ok(())
 }

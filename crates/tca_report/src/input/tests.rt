@@ -1,8 +1,10 @@
 use crate::{
     Content, ExportFault, Identity, InputFault, NotReport, Notes, Report, extract, gather,
 };
+use std::alloc::Global;
+use std::fmt::Display;
 use std::test::Fail;
-use tca_templates::{DecodeFault, Decoder, Outcome};
+use tca_templates::{DecodeFault, Decoder, Outcome, PlacedFields};
 use tca_wire::{WireFault, split_message};
 
 const T: u64 = 1_700_000_000_000;
@@ -100,11 +102,17 @@ fn found(rt: &HostRuntime, octets: &[u8]) -> Result<Result<Report, usize>, Fail>
     }
 }
 
-fn refused(rt: &HostRuntime, octets: &[u8]) -> Result<InputFault, Fail> {
+fn is_refused(rt: &HostRuntime, octets: &[u8], fault: InputFault) -> bool {
     match gather(rt.alloc(), octets) {
-        Ok(_) => Err(Fail::from("it was read")),
-        Err(fault) => Ok(fault),
+        Ok(_) => false,
+        Err(found) => found == fault,
     }
+}
+
+// Whether an input holds these reports and has these notes.
+fn holds(alloc: Global, octets: &[u8], reports: &[Report], notes: Notes) -> Result<bool, Fail> {
+    let gathered = gather(alloc, octets)?;
+    Ok(gathered.reports.as_slice() == reports && gathered.notes == notes)
 }
 
 fn notes(messages: u64) -> Notes {
@@ -118,45 +126,39 @@ fn notes(messages: u64) -> Notes {
 
 #[test]
 fn captures_are_read(rt: HostRuntime) -> Result<(), Fail> {
-    let first = report(5, T, 10, 1)?;
-    let second = report(0, T, 46, 0)?;
-    let gathered = gather(rt.alloc(), fixed())?;
-    assert_eq!(rt; gathered.reports.as_slice(), [first].as_slice());
-    assert_eq!(rt; gathered.notes, notes(1));
-
-    let gathered = gather(rt.alloc(), variable())?;
-    assert_eq!(rt; gathered.reports.as_slice(), [second].as_slice());
-    assert_eq!(rt; gathered.notes, notes(1));
-
+    let alloc = rt.alloc();
+    let (first, second) = (report(5, T, 10, 1)?, report(0, T, 46, 0)?);
+    assert!(rt; holds(alloc, fixed(), &[first], notes(1))?);
+    assert!(rt; holds(alloc, variable(), &[second], notes(1))?);
     let both = joined(&rt, &[fixed(), variable()])?;
-    let gathered = gather(rt.alloc(), &both)?;
-    assert_eq!(rt; gathered.reports.as_slice(), [first, second].as_slice());
-    assert_eq!(rt; gathered.notes, notes(2));
-
-    let gathered = gather(rt.alloc(), b"")?;
-    assert_eq!(rt; gathered.reports.len(), 0);
-    assert_eq!(rt; gathered.notes, notes(0));
-
-    let gathered = gather(rt.alloc(), one_report())?;
-    assert_eq!(rt; gathered.reports.as_slice(), [first].as_slice());
-    assert_eq!(rt; gathered.notes, notes(0));
+    assert!(rt; holds(alloc, &both, &[first, second], notes(2))?);
+    assert!(rt; holds(alloc, b"", &[], notes(0))?);
+    assert!(rt; holds(alloc, one_report(), &[first], notes(0))?);
     Ok(())
+}
+
+// The first message 3,000 times.
+fn many_messages(alloc: Global) -> Result<Vec<u8>, Fail> {
+    let mut octets = Vec::new(alloc);
+    for _ in 0..3000 {
+        octets.extend_from_slice(fixed())?;
+    }
+    Ok(octets)
+}
+
+fn holds_many(alloc: Global, octets: &[u8]) -> Result<bool, Fail> {
+    let gathered = gather(alloc, octets)?;
+    Ok(gathered.reports.len() == 3000 && gathered.notes == notes(3000))
 }
 
 #[test]
 fn a_capture_of_several_pieces_is_read(rt: HostRuntime) -> Result<(), Fail> {
-    let mut octets = Vec::new(rt.alloc());
-    for _ in 0..3000 {
-        octets.extend_from_slice(fixed())?;
-    }
-    let gathered = gather(rt.alloc(), &octets)?;
-    assert_eq!(rt; gathered.reports.len(), 3000);
-    assert_eq!(rt; gathered.notes, notes(3000));
-
-    octets.extend_from_slice(b"\x00\x09\x00\x10\x00\x00\x00\x00\x00\x00\x00\x00\x00\x00\x00\x00")?;
-    octets.extend_from_slice(fixed())?;
+    let octets = many_messages(rt.alloc())?;
+    assert!(rt; holds_many(rt.alloc(), &octets)?);
+    let other = b"\x00\x09\x00\x10\x00\x00\x00\x00\x00\x00\x00\x00\x00\x00\x00\x00";
+    let octets = joined(&rt, &[&octets, other, fixed()])?;
     let fault = WireFault::BadVersion(9);
-    assert_eq!(rt; refused(&rt, &octets)?, wire(195_000, fault));
+    assert!(rt; is_refused(&rt, &octets, wire(195_000, fault)));
     Ok(())
 }
 
@@ -168,65 +170,71 @@ fn decode(at: u64, fault: DecodeFault) -> InputFault {
     InputFault::Decode { at, fault }
 }
 
-#[test]
-fn inputs_are_refused(rt: HostRuntime) -> Result<(), Fail> {
-    let both = joined(&rt, &[fixed(), variable()])?;
-    let cut = part(&both, 0, 111);
+// The first message with a template ID below 256.
+fn with_a_low_id(rt: &HostRuntime) -> Result<Vec<u8>, Fail> {
     let message = fixed();
-    let low = joined(
-        &rt,
+    joined(
+        rt,
         &[part(message, 0, 20), b"\x00\xff", part(message, 22, 65)],
-    )?;
-    let short = joined(
-        &rt,
+    )
+}
+
+// The first message with a set whose length is below that of its header.
+fn with_a_short_set(rt: &HostRuntime) -> Result<Vec<u8>, Fail> {
+    let message = fixed();
+    joined(
+        rt,
         &[part(message, 0, 18), b"\x00\x03", part(message, 20, 65)],
-    )?;
-    let after = joined(&rt, &[variable(), low.as_slice(), short.as_slice()])?;
-    let at_20 = DecodeFault::TemplateId { at: 20 };
-    let set_length = WireFault::SetLength { at: 16 };
+    )
+}
+
+#[test]
+fn inputs_are_cut(rt: HostRuntime) -> Result<(), Fail> {
+    let both = joined(&rt, &[fixed(), variable()])?;
     let is_short = WireFault::Short;
-    assert_eq!(rt; refused(&rt, cut)?, wire(65, is_short));
-    assert_eq!(rt; refused(&rt, &low)?, decode(0, at_20));
-    assert_eq!(rt; refused(&rt, &after)?, decode(47, at_20));
-    assert_eq!(rt; refused(&rt, &short)?, wire(0, set_length));
-    assert_eq!(rt; refused(&rt, b"TCA")?, wire(0, is_short));
+    assert!(rt; is_refused(&rt, part(&both, 0, 111), wire(65, is_short)));
+    assert!(rt; is_refused(&rt, b"TCA", wire(0, is_short)));
     let export = InputFault::Export(ExportFault::Cut);
-    assert_eq!(rt; refused(&rt, b"TCAX")?, export);
+    assert!(rt; is_refused(&rt, b"TCAX", export));
     Ok(())
 }
 
 #[test]
-fn records_without_a_template_have_no_place(rt: HostRuntime) -> Result<(), Fail> {
-    let define = message(&rt, 20, &[part(fixed(), 16, 40)])?;
+fn inputs_are_refused(rt: HostRuntime) -> Result<(), Fail> {
+    let (low, short) = (with_a_low_id(&rt)?, with_a_short_set(&rt)?);
+    let after = joined(&rt, &[variable(), low.as_slice(), short.as_slice()])?;
+    let at_20 = DecodeFault::TemplateId { at: 20 };
+    let set_length = WireFault::SetLength { at: 16 };
+    assert!(rt; is_refused(&rt, &low, decode(0, at_20)));
+    assert!(rt; is_refused(&rt, &after, decode(47, at_20)));
+    assert!(rt; is_refused(&rt, &short, wire(0, set_length)));
+    Ok(())
+}
+
+// Data of the first template, then of template 300, which is defined behind it, then of the first again; and the same
+// message once more.
+fn with_an_unknown_template(rt: &HostRuntime) -> Result<Vec<u8>, Fail> {
+    let define = message(rt, 20, &[part(fixed(), 16, 40)])?;
     let known = part(fixed(), 40, 65);
-    let unknown = set(&rt, 300, part(known, 4, 25))?;
-    let data = message(&rt, 20, &[known, unknown.as_slice(), known])?;
+    let unknown = set(rt, 300, part(known, 4, 25))?;
+    let data = message(rt, 20, &[known, unknown.as_slice(), known])?;
     let template =
         b"\x01\x2c\x00\x04\x01\x43\x00\x08\x00\xe0\x00\x08\x00\xc3\x00\x01\x00\x0a\x00\x04";
-    let template = set(&rt, 2, template)?;
-    let define_other = message(&rt, 21, &[template.as_slice()])?;
-    let octets = joined(
-        &rt,
-        &[
-            define.as_slice(),
-            data.as_slice(),
-            define_other.as_slice(),
-            data.as_slice(),
-        ],
-    )?;
-    let gathered = gather(rt.alloc(), &octets)?;
-    let wanted = [
-        report(20, T, 10, 1)?,
-        report(20, T, 10, 1)?,
-        report(21, T, 10, 1)?,
-        report(22, T, 10, 1)?,
-    ];
-    assert_eq!(rt; gathered.reports.as_slice(), wanted.as_slice());
-    let wanted = Notes {
+    let template = set(rt, 2, template)?;
+    let define_other = message(rt, 21, &[template.as_slice()])?;
+    joined(rt, &[&define, &data, &define_other, &data])
+}
+
+#[test]
+fn records_without_a_template_have_no_place(rt: HostRuntime) -> Result<(), Fail> {
+    let octets = with_an_unknown_template(&rt)?;
+    let first = report(20, T, 10, 1)?;
+    let wanted = [first, first, report(21, T, 10, 1)?, report(22, T, 10, 1)?];
+    let noted = Notes {
         unplaced: 1,
         ..notes(4)
     };
-    assert_eq!(rt; gathered.notes, wanted);
+    assert!(rt; holds(rt.alloc(), &octets, &wanted, noted)?);
     Ok(())
 }
 
@@ -249,18 +257,21 @@ fn records_of_options_have_a_place(rt: HostRuntime) -> Result<(), Fail> {
             skipped.as_slice(),
         ],
     )?;
-    let gathered = gather(rt.alloc(), &octets)?;
-    assert_eq!(rt;
-        gathered.reports.as_slice(),
-        [report(10, T, 10, 1)?].as_slice()
-    );
     let wanted = Notes {
         not_reports: [1, 0, 0, 0, 0, 0, 0],
         skipped: 2,
         ..notes(1)
     };
-    assert_eq!(rt; gathered.notes, wanted);
+    assert!(rt; holds(rt.alloc(), &octets, &[report(10, T, 10, 1)?], wanted)?);
     Ok(())
+}
+
+// The time of a record that has its octets and this field, or else the reason's number.
+fn time_told(rt: &HostRuntime, specifier: &[u8], time: &[u8]) -> Result<Result<u64, usize>, Fail> {
+    let specifiers = joined(rt, &[specifier, b"\x00\xe0\x00\x02"])?;
+    let record = joined(rt, &[time, b"\x05\xdc"])?;
+    let octets = one_record(rt, &specifiers, &record)?;
+    Ok(found(rt, &octets)?.map(|report| report.content().time))
 }
 
 #[test]
@@ -304,10 +315,7 @@ fn times_are_taken(rt: HostRuntime) -> Result<(), Fail> {
             Err(7),
         ),
     ] {
-        let specifiers = joined(&rt, &[specifiers.as_slice(), b"\x00\xe0\x00\x02"])?;
-        let record = joined(&rt, &[time, b"\x05\xdc"])?;
-        let found = found(&rt, one_record(&rt, &specifiers, &record)?.as_slice())?;
-        assert_eq!(rt; found.map(|report| report.content().time), wanted);
+        assert!(rt; time_told(&rt, specifiers, time)? == wanted);
     }
     Ok(())
 }
@@ -361,9 +369,20 @@ fn octets_are_taken(rt: HostRuntime) -> Result<(), Fail> {
         (b"\x00\xe0\x00\x03", b"\x01\x00\x27", Ok((65_575, 0))),
         (b"\x00\xe0\x00\x03", b"\x01\x00\x28", Err(5)),
     ] {
-        assert_eq!(rt; told(&rt, specifiers, values)?, wanted);
+        assert!(rt; told(&rt, specifiers, values)? == wanted);
     }
     Ok(())
+}
+
+// The same of these fields and a section of 1,500 octets with DSCP 46.
+fn told_by_section(
+    rt: &HostRuntime,
+    specifiers: &[u8],
+    values: &[u8],
+) -> Result<Result<(u32, u8), usize>, Fail> {
+    let specifiers = joined(rt, &[specifiers, b"\x01\x39\x00\x04"])?;
+    let values = joined(rt, &[values, b"\x45\xb8\x05\xdc"])?;
+    told(rt, &specifiers, &values)
 }
 
 #[test]
@@ -380,9 +399,7 @@ fn code_points_are_taken(rt: HostRuntime) -> Result<(), Fail> {
         (b"\x00\xc3\x00\x01", b"\x40", Err(6)),
         (b"\x00\x05\x00\x01\x00\xc3\x00\x00", b"\x38", Err(7)),
     ] {
-        let specifiers = joined(&rt, &[specifiers, b"\x01\x39\x00\x04"])?;
-        let values = joined(&rt, &[values, b"\x45\xb8\x05\xdc"])?;
-        assert_eq!(rt; told(&rt, &specifiers, &values)?, wanted);
+        assert!(rt; told_by_section(&rt, specifiers, values)? == wanted);
     }
     Ok(())
 }
@@ -394,45 +411,54 @@ fn read_message(rt: &HostRuntime, octets: &[u8]) -> Result<Outcome, Fail> {
     Ok(decoder.read(rt.alloc(), &message)?)
 }
 
+fn is_extracted(placed: &PlacedFields, wanted: Report) -> bool {
+    extract(placed) == Ok(wanted)
+}
+
+// Why no report is extracted as one of options, without its octets, and with an element of an enterprise for its time,
+// which is another element.
+fn lacks(placed: &mut PlacedFields) -> [Option<NotReport>; 3] {
+    placed.options = true;
+    let options = extract(placed).err();
+    placed.options = false;
+    placed.fields.truncate(1);
+    let sizeless = extract(placed).err();
+    if let Some(time) = placed.fields.first_mut() {
+        time.enterprise = Some(29305);
+    }
+    [options, sizeless, extract(placed).err()]
+}
+
 #[test]
 fn reports_are_extracted(rt: HostRuntime) -> Result<(), Fail> {
     let mut outcome = read_message(&rt, fixed())?;
     let Some(placed) = outcome.fields.first_mut() else {
         return Err(Fail::from("no record"));
     };
-    assert_eq!(rt; extract(placed), Ok(report(5, T, 10, 1)?));
-    placed.options = true;
-    assert_eq!(rt; extract(placed), Err(NotReport::Options));
-    placed.options = false;
-    placed.fields.truncate(1);
-    assert_eq!(rt; extract(placed), Err(NotReport::NoSize));
-    // An element of an enterprise is another one.
-    if let Some(time) = placed.fields.first_mut() {
-        time.enterprise = Some(29305);
-    }
-    assert_eq!(rt; extract(placed), Err(NotReport::NoTime));
+    assert!(rt; is_extracted(placed, report(5, T, 10, 1)?));
+    let reasons = [
+        Some(NotReport::Options),
+        Some(NotReport::NoSize),
+        Some(NotReport::NoTime),
+    ];
+    assert!(rt; lacks(placed) == reasons);
     Ok(())
 }
 
-#[test]
-fn reasons_are_counted_by_number(rt: HostRuntime) -> Result<(), Fail> {
-    let templates = part(fixed(), 16, 40);
+// The first template with five records, of which one is good.
+fn one_good_record(rt: &HostRuntime) -> Result<Vec<u8>, Fail> {
     let good = part(fixed(), 44, 65);
     let late = b"\x00\x01\x00\x00\x00\x00\x00\x00\0\0\0\0\0\0\x05\xdc\x0a\0\0\0\x01";
     let empty = b"\x00\x00\x01\x8b\xcf\xe5\x68\x00\0\0\0\0\0\0\0\0\x0a\0\0\0\x01";
     let coarse = b"\x00\x00\x01\x8b\xcf\xe5\x68\x00\0\0\0\0\0\0\x05\xdc\x40\0\0\0\x01";
-    let records = joined(
-        &rt,
-        &[
-            late.as_slice(),
-            good,
-            coarse.as_slice(),
-            empty.as_slice(),
-            coarse.as_slice(),
-        ],
-    )?;
-    let data = set(&rt, 256, &records)?;
-    let mut octets = message(&rt, 5, &[templates, data.as_slice()])?;
+    let records = joined(rt, &[late, good, coarse, empty, coarse])?;
+    let data = set(rt, 256, &records)?;
+    message(rt, 5, &[part(fixed(), 16, 40), data.as_slice()])
+}
+
+#[test]
+fn reasons_are_counted_by_number(rt: HostRuntime) -> Result<(), Fail> {
+    let first = one_good_record(&rt)?;
     let timeless = one_record(&rt, b"\x00\xe0\x00\x01", b"\x01")?;
     let sizeless = one_record(&rt, b"\x01\x42\x00\x04", b"\x65\x53\xf1\x00")?;
     let short = one_record(
@@ -440,21 +466,17 @@ fn reasons_are_counted_by_number(rt: HostRuntime) -> Result<(), Fail> {
         b"\x01\x42\x00\x03\x00\xe0\x00\x01",
         b"\x65\x53\xf1\x01",
     )?;
-    octets.extend_from_slice(&timeless)?;
-    octets.extend_from_slice(&sizeless)?;
-    octets.extend_from_slice(&sizeless)?;
-    octets.extend_from_slice(&short)?;
-    let gathered = gather(rt.alloc(), &octets)?;
-    assert_eq!(rt;
-        gathered.reports.as_slice(),
-        [report(6, T, 10, 1)?].as_slice()
-    );
+    let octets = joined(&rt, &[&first, &timeless, &sizeless, &sizeless, &short])?;
     let wanted = Notes {
         not_reports: [0, 1, 2, 1, 1, 2, 1],
         ..notes(5)
     };
-    assert_eq!(rt; gathered.notes, wanted);
+    assert!(rt; holds(rt.alloc(), &octets, &[report(6, T, 10, 1)?], wanted)?);
     Ok(())
+}
+
+fn says<F: Display + Drop>(alloc: Global, fault: F, text: &str) -> Result<bool, Fail> {
+    Ok(format!(in alloc; "{fault}")?.as_str() == text)
 }
 
 #[test]
@@ -483,8 +505,7 @@ fn input_faults_have_texts_and_numbers(rt: HostRuntime) -> Result<(), Fail> {
         ),
         (InputFault::Memory, 4, "out of memory"),
     ] {
-        assert_eq!(rt; fault.number(), number);
-        assert_eq!(rt; format!(in rt.alloc(); "{fault}")?.as_str(), text);
+        assert!(rt; fault.number() == number && says(rt.alloc(), fault, text)?);
     }
     Ok(())
 }
@@ -520,8 +541,7 @@ fn reasons_have_texts_and_numbers(rt: HostRuntime) -> Result<(), Fail> {
         ),
         (NotReport::BadDscp, 6, "the DSCP is above 63"),
     ] {
-        assert_eq!(rt; reason.number(), number);
-        assert_eq!(rt; format!(in rt.alloc(); "{reason}")?.as_str(), text);
+        assert!(rt; reason.number() == number && says(rt.alloc(), reason, text)?);
     }
     Ok(())
 }
