@@ -11,3 +11,4 @@ pub mod PlanOfTable
 pub mod Memory
 pub mod AccountsTogether
 pub mod Proper
+pub mod Equal

@@ -1,5 +1,5 @@
 //! The bill of a log under a plan.
-ghost use Rattle.std.specs.Prelude.{◌≡◌, IfOk, OnOk, List, [], length, map};
+ghost use Rattle.std.specs.Prelude.{◌≡◌, ◌↔◌, IfOk, IsTrue, OnOk, List, [], length, map};
 ghost use Rattle.std.specs.List.{AllByRecursion};
 ghost use Rattle.tca_report.specs.report.Reports.{PacketReport};
 ghost use Rattle.tca_log.specs.Disputes.{undisputed};
@@ -24,6 +24,30 @@ pub struct Bill {
     pub unassigned: u32,
     /// The sums of each account, in the plan's order.
     pub accounts: Tallies,
+}
+
+impl Bill {
+    /// Whether both say the same. It takes no memory.
+    pub fn is_same(&self, other: &Bill) -> bool
+        ensures { IsTrue result ↔ (self.now ≡ other.now) }
+    {
+        self.reports == other.reports
+            && self.disputed == other.disputed
+            && self.unassigned == other.unassigned
+            && self.accounts.is_same(&other.accounts)
+    }
+
+    /// The same bill once more.
+    pub fn copy(&self, alloc: Global) -> Result<Bill, AllocError>
+        ensures { IfOk result (λ b. b ≡ self.now) }
+    {
+        Ok(Bill {
+            reports: self.reports,
+            disputed: self.disputed,
+            unassigned: self.unassigned,
+            accounts: self.accounts.copy(alloc)?,
+        })
+    }
 }
 
 /// The bill of a log: each account's meter is fed the settled reports that it owns, in order, from time 0 on

@@ -1,8 +1,9 @@
 //! The sums of one period.
-ghost use Rattle.std.specs.Prelude.{◌≡◌, MatchBool, MatchOption};
+ghost use Rattle.std.specs.Prelude.{◌≡◌, ◌↔◌, IfOk, IsTrue, MatchBool, MatchOption};
 ghost use Rattle.tca_accounts.specs.Spans.{Ascend};
 
 use crate::sums::Sums;
+use std::alloc::{AllocError, Global};
 use std::marker::Model;
 
 /// The sums of a period.
@@ -58,6 +59,22 @@ impl Spans {
         ensures ascend { Ascend self.now }
     {
         &self.list
+    }
+
+    /// Whether both have the same spans. It takes no memory.
+    pub fn is_same(&self, other: &Spans) -> bool
+        ensures { IsTrue result ↔ (self.now ≡ other.now) }
+    {
+        self.list.as_slice() == other.list.as_slice()
+    }
+
+    /// The same spans once more.
+    pub fn copy(&self, alloc: Global) -> Result<Spans, AllocError>
+        ensures { IfOk result (λ s. s ≡ self.now) }
+    {
+        Ok(Spans {
+            list: Vec::from_slice(alloc, &self.list)?,
+        })
     }
 
     /// The spans as a list. It takes no memory.

@@ -58,7 +58,7 @@ longer_fronts (suc a) (suc b) (x ∷ xs) h k = ap (λ (l : List PacketReport). x
   most : (a b : ℕ) → suc (max a b) ≡ max (suc a) (suc b)
   most a b = omega arith
 
-same_itself : (x : PacketReport) → same_report x x ≡ true
+pub same_itself : (x : PacketReport) → same_report x x ≡ true
 same_itself x = rw (tied_itself report_total x) refl
 
 -- fronts of one list never differ

@@ -4,7 +4,9 @@ ghost use Rattle.tca_report.specs.report.Reports.{report_cmp};
 ghost use Rattle.tca_join.specs.Sets.{has};
 ghost use Rattle.tca_accounts.specs.Bills.{bill_of};
 ghost use Rattle.tca_replay.specs.Books.{AreSettled};
+ghost use Rattle.tca_join.specs.Chains.{differ_at};
 ghost use Rattle.tca_join.specs.Faults.{IsJoinFault};
+ghost use Rattle.tca_join.specs.Maps.{clash_key};
 ghost use Rattle.tca_gossip.specs.Replicas.{IsReplica, append_one, chain_of, least_of, merge_clash, merge_full, merged_with, new_replica, take_one};
 ghost use Rattle.tca_gossip.specs.Runs.{AreRuns, delta_of, first_fault, summary_count};
 ghost use Rattle.tca_gossip.specs.Coupling.{counts_of};
@@ -118,6 +120,14 @@ impl Contents {
     {
         let _rises = self.chains.keys();
         refusal(self.name, &self.chains, runs)
+    }
+
+    /// The least origin of which neither chain begins with the other. It takes no memory.
+    pub(crate) fn fork(&self, other: &Contents) -> Option<u32>
+        ensures { result ≡ clash_key (differ_at ⟦<Report as PartialEq>⟧.eq) self.now.replica.chains other.now.replica.chains }
+    {
+        let _rises = self.chains.keys();
+        origin_of(self.chains.refusal(&other.chains))
     }
 
     /// The least origin at which a merge with another's contents clashes. It takes no memory.

@@ -18,7 +18,7 @@ pub struct Taken {
 }
 
 /// Why an absorb was refused, which changes nothing, or stopped.
-#[derive(Debug, PartialEq, Eq, Drop, Error)]
+#[derive(Clone, Copy, Debug, PartialEq, Eq, Error)]
 pub enum AbsorbFault {
     /// A run starts past the chain of its origin.
     #[error("the run of origin {origin} starts at place {from}, past the {have} reports that are held")]

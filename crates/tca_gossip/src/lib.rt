@@ -26,11 +26,13 @@ mod replica;
 mod run;
 mod step;
 mod summary;
+#[cfg(test)]
+mod tests;
 mod world;
 
 pub use fault::{AbsorbFault, Taken, WorldFault};
 pub use laws::{machine_laws, merge_laws, shown_laws, step_laws};
 pub use replica::Replica;
-pub use run::{Delta, Run, Summary};
+pub use run::{Delta, Run, Summary, are_same_counts};
 pub use step::{Reply, Step};
 pub use world::World;

@@ -1,9 +1,11 @@
 //! A replica.
 ghost use Rattle.std.specs.Prelude.{◌≡◌, ◌≤◌, None, false, length, take, OnOk, OnErr, IfOk, IfErr};
 ghost use Rattle.tca_accounts.specs.Bills.{bill_of};
+ghost use Rattle.tca_join.specs.Chains.{differ_at};
 ghost use Rattle.tca_join.specs.Faults.{IsJoinFault};
+ghost use Rattle.tca_join.specs.Maps.{clash_key};
 ghost use Rattle.tca_gossip.specs.Replicas.{IsReplica, chain_of, fresh_of, merge_clash, merge_full, merged_with, new_replica, taken};
-ghost use Rattle.tca_gossip.specs.Runs.{AreRuns, IsOutcome, absorbed, delta_of, rests, summary_count};
+ghost use Rattle.tca_gossip.specs.Runs.{AreRuns, IsOutcome, absorbed, delta_of, rests, same_report, summary_count};
 ghost use Rattle.tca_gossip.specs.Coupling.{counts_of};
 ghost use Rattle.tca_gossip.specs.Answers.{IsStopAt, IsStopOf, outcome_of};
 
@@ -131,6 +133,14 @@ impl Replica {
         ensures fault { IfErr result (IsJoinFault (merge_clash ⟦<Report as PartialEq>⟧.eq self.old other.now) (merge_full self.old other.now)) }
     {
         self.contents.merge(&other.contents)
+    }
+
+    /// The least origin of which neither this chain nor the other's begins with the other one; `None` where each two agree. It
+    /// takes no memory.
+    pub fn fork(&self, other: &Replica) -> Option<u32>
+        ensures { result ≡ clash_key (differ_at same_report) self.now.chains other.now.chains }
+    {
+        self.contents.fork(&other.contents)
     }
 
     /// The bill of the log under the plan, as the book has it.

@@ -1,13 +1,31 @@
 //! What replicas send each other: runs of chains.
-ghost use Rattle.std.specs.Prelude.{◌≡◌, ◌<◌, true, false, IfSome, None, Some, MatchOption};
+ghost use Rattle.std.specs.Prelude.{◌≡◌, ◌<◌, ◌↔◌, true, false, IfOk, IfSome, IsTrue, None, Some, MatchOption};
 ghost use Rattle.tca_gossip.specs.Runs.{AreRuns};
 
+use std::alloc::{AllocError, Global};
 use std::marker::Model;
 use tca_join::{ByKey, MaxOf};
 use tca_report::Report;
 
 /// How long the chain of each origin is, with no key for an empty one.
 pub type Summary = ByKey<MaxOf>;
+
+/// Whether two summaries count the same of each origin. It takes no memory.
+pub fn are_same_counts(first: &Summary, second: &Summary) -> bool
+    ensures { IsTrue result ↔ (first.now ≡ second.now) }
+{
+    let (ours, theirs) = (first.entries(), second.entries());
+    if ours.len() != theirs.len() {
+        return false;
+    }
+    for i in 0..ours.len() {
+        let (one, other) = (&ours[i], &theirs[i]);
+        if one.0 != other.0 || one.1 != other.1 {
+            return false;
+        }
+    }
+    true
+}
 
 /// Reports of an origin's chain, from a place on, counted from 0.
 #[derive(Drop)]
@@ -46,6 +64,56 @@ impl Run {
         ensures { result.now ≡ self.now.reports }
     {
         &self.reports
+    }
+
+    /// Whether both have the same reports of one origin from one place on. It takes no memory.
+    pub fn is_same(&self, other: &Run) -> bool
+        ensures { IsTrue result ↔ (self.now ≡ other.now) }
+    {
+        if self.origin != other.origin {
+            return false;
+        }
+        if self.start != other.start {
+            return false;
+        }
+        self.reports.as_slice() == other.reports.as_slice()
+    }
+
+    /// Whether two lists have the same runs in the same order. It takes no memory.
+    pub fn are_same(first: &[Run], second: &[Run]) -> bool
+        ensures { IsTrue result ↔ (first.now ≡ second.now) }
+    {
+        if first.len() != second.len() {
+            return false;
+        }
+        for i in 0..first.len() {
+            if !first[i].is_same(&second[i]) {
+                return false;
+            }
+        }
+        true
+    }
+
+    /// The same run once more.
+    pub fn copy(&self, alloc: Global) -> Result<Run, AllocError>
+        ensures { IfOk result (λ r. r ≡ self.now) }
+    {
+        Ok(Run {
+            origin: self.origin,
+            start: self.start,
+            reports: Vec::from_slice(alloc, &self.reports)?,
+        })
+    }
+
+    /// The same runs once more.
+    pub fn copies(alloc: Global, runs: &[Run]) -> Result<Vec<Run>, AllocError>
+        ensures { IfOk result (λ list. list.items ≡ runs.now) }
+    {
+        let mut list = Vec::with_capacity(alloc, runs.len())?;
+        for run in runs {
+            list.push(run.copy(alloc)?)?;
+        }
+        Ok(list)
     }
 }
 
@@ -93,6 +161,22 @@ impl Delta {
         ensures right { AreRuns self.now }
     {
         &self.runs
+    }
+
+    /// Whether both have the same runs. It takes no memory.
+    pub fn is_same(&self, other: &Delta) -> bool
+        ensures { IsTrue result ↔ (self.now ≡ other.now) }
+    {
+        Run::are_same(&self.runs, &other.runs)
+    }
+
+    /// The same delta once more.
+    pub fn copy(&self, alloc: Global) -> Result<Delta, AllocError>
+        ensures { IfOk result (λ d. d ≡ self.now) }
+    {
+        Ok(Delta {
+            runs: Run::copies(alloc, &self.runs)?,
+        })
     }
 }
 

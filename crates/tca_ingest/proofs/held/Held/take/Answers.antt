@@ -1,0 +1,31 @@
+use Rattle.std.proofs.Common.{take, length, ap, ◌∙◌, arith}
+use Rattle.tca_ingest.specs.Entries.{Took, pass_of}
+use Rattle.tca_ingest.specs.EntryViews.{entry_views}
+use Rattle.tca_ingest.proofs.Histories.{push_took}
+use Rattle.tca_ingest.proofs.Told.{history_noted, whose_noted}
+use Rattle.tca_ingest.proofs.held.Held.take.Goals as goal
+
+pub invariant_of-self-2 : goal.invariant_of-self-2
+invariant_of-self-2 g c =
+    let plan = g.L.Side.plan in
+    let name = g.L.Side.called in
+    let t = c.take-taken.result in
+    let number = c.mine.inside.number in
+    let reports = c.args.reports.now in
+    let given = c.into_entries-entry.result in
+    let old = c.self.inside.journal.items in (
+      history_noted plan name c.take-taken.new.self old c.reserve.new.journal.items c.note.new.journal.items given (Took number (take t.taken reports) t.fresh t.stop)
+          (push_took plan name c.self.inside.replica (entry_views old) c.self.invariant.0 c.take-taken.new.self number reports t.taken t.fresh t.stop c.take-taken.ensures.state c.take-taken.ensures.fresh c.take-taken.ensures.stop)
+          c.reserve.ensures.journal c.note.ensures.journal (c.into_entries-entry.ensures ∙ ap (λ rs. Took number (take t.taken rs) t.fresh t.stop) c.in_ok-copies.ensures),
+      c.note.ensures.book,
+      c.self.invariant.2,
+      c.self.invariant.3,
+    )
+
+pub invariant_of-mine-2 : goal.invariant_of-mine-2
+invariant_of-mine-2 g c = (
+  c.note.ensures.share.1,
+  c.note.ensures.share.0,
+  omega (arith, c.note.ensures.places, c.note.ensures.grown, ap length c.reserve.ensures.places, ap length c.reserve.ensures.calls, c.mine.invariant.2),
+  whose_noted c.mine.inside.number c.mine.inside.calls.items c.reserve.new.calls.items c.note.new.calls.items c.into_entries-entry.result c.mine.invariant.3 c.reserve.ensures.calls c.note.ensures.calls (ap pass_of c.into_entries-entry.ensures),
+)
