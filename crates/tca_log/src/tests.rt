@@ -164,19 +164,27 @@ fn adds_all(alloc: Global, order: &[Report], list: &[Report], new: u32) -> Resul
     Ok(added && has_all(&log, list))
 }
 
+// The first rows in one of their orders, so many times.
+fn order_of(alloc: Global, count: usize, code: usize, times: u32) -> Result<Vec<Report>, Fail> {
+    let mut order = Vec::new(alloc);
+    for _ in 0..times {
+        let mut left = rows(alloc, count)?;
+        in_turn(&mut left, code, &mut order)?;
+    }
+    Ok(order)
+}
+
 // Whether an order of the first reports, each twice, gives one log by all three calls.
 fn is_one_log(alloc: Global, code: usize) -> Result<bool, Fail> {
-    let list = &rows(alloc, 3)?;
-    let mut order = Vec::new(alloc);
-    in_turn(&mut rows(alloc, 3)?, code, &mut order)?;
-    let united = unites_each(alloc, &order, list);
-    in_turn(&mut rows(alloc, 3)?, code, &mut order)?;
-    Ok(united && adds_all(alloc, &order, list, 3)? && agrees(alloc, &order, 0)?)
+    let list = rows(alloc, 3)?;
+    let once = order_of(alloc, 3, code, 1)?;
+    let twice = order_of(alloc, 3, code, 2)?;
+    let united = unites_each(alloc, &once, &list);
+    Ok(united && adds_all(alloc, &twice, &list, 3)? && agrees(alloc, &twice, 0)?)
 }
 
 fn agrees_in_turn(alloc: Global, count: usize, code: usize, disputed: u32) -> Result<bool, Fail> {
-    let mut order = Vec::new(alloc);
-    in_turn(&mut rows(alloc, count)?, code, &mut order)?;
+    let order = order_of(alloc, count, code, 1)?;
     agrees(alloc, &order, disputed)
 }
 
@@ -218,15 +226,19 @@ fn copies(alloc: Global) -> Result<bool, Fail> {
     Ok(added && has_all(&copy, &sorted) && copy.disputed() == 1)
 }
 
+fn disputes(alloc: Global) -> Result<bool, Fail> {
+    let list = rows(alloc, 6)?;
+    let mut log = Log::new(alloc);
+    let [_, _, _, late, second, third] = list.as_slice() else {
+        return Ok(false);
+    };
+    let alike = answers_late(&mut log, *late, *second, *third);
+    Ok(alike && (log.len(), log.disputed()) == (3, 1))
+}
+
 #[test]
 fn late_contents_dispute(rt: HostRuntime) -> Result<(), Fail> {
-    let list = rows(rt.alloc(), 6)?;
-    let mut log = Log::new(rt.alloc());
-    let [_, _, _, late, second, third] = list.as_slice() else {
-        return Err(Fail::from("six reports"));
-    };
-    assert!(rt; answers_late(&mut log, *late, *second, *third));
-    assert_eq!(rt; (log.len(), log.disputed()), (3, 1));
+    assert!(rt; disputes(rt.alloc())?);
     assert!(rt; copies(rt.alloc())?);
     Ok(())
 }
@@ -328,17 +340,23 @@ fn joins_to(first: &Log, second: &Log, list: &[Report]) -> bool {
     }
 }
 
+// A log that gets a list at once, of which so many are new.
+fn log_of(alloc: Global, list: &[Report], new: u32) -> Result<Log, Fail> {
+    let mut log = Log::new(alloc);
+    if log.add_all(Vec::from_slice(alloc, list)?) != Ok(new) {
+        return Err("another number of new reports".into());
+    }
+    Ok(log)
+}
+
 fn joins(alloc: Global) -> Result<bool, Fail> {
     let list = many(alloc)?;
     let lower = part(alloc, &list, 0, 400)?;
     let upper = part(alloc, &list, 200, 313)?;
-    let mut first = Log::new(alloc);
-    let mut second = Log::new(alloc);
-    let added = first.add_all(Vec::from_slice(alloc, &lower)?) == Ok(400)
-        && second.add_all(upper) == Ok(313);
+    let first = log_of(alloc, &lower, 400)?;
+    let second = log_of(alloc, &upper, 313)?;
     Ok(
-        added
-            && joins_to(&first, &second, &list)
+        joins_to(&first, &second, &list)
             && joins_to(&second, &first, &list)
             && joins_to(&first, &first, &lower),
     )
@@ -439,29 +457,39 @@ fn dispute_steps(alloc: Global, first: Report, second: Report) -> Result<Vec<Ste
 fn a_refused_dispute_leaves_the_log_as_it_was(rt: HostRuntime) -> Result<(), Fail> {
     let met = dispute_steps(rt.alloc(), report(3, 50, 600)?, report(3, 60, 601)?)?;
     // Refused to the reports, to the disputed identities' list of chunks, and to a chunk of these.
-    assert_eq!(rt; kept(rt.alloc(), &met)?.len(), 3);
+    assert!(rt; kept(rt.alloc(), &met)?.len() == 3);
     assert!(rt; met.contains(&Step::Done) && !met.contains(&Step::Wrong));
     Ok(())
 }
 
-// A second content of the second of three reports that came as one list, whose places ascend. All four are given in order.
-fn late_content_step(small: &LocalHeap, list: &[Report], all: &[Report]) -> Result<Step, Fail> {
+// What a log of three reports answers to a second content of the second. All four are given in order.
+fn late_answer(
+    log: &mut Log<&LocalHeap>,
+    small: &LocalHeap,
+    list: &[Report],
+    all: &[Report],
+) -> Step {
     let [_, second, _, content] = all else {
-        return Ok(Step::Wrong);
+        return Step::Wrong;
     };
+    match log.add(*content) {
+        Ok(answer) if answer != (Added::NewDispute { withdrawn: *second }) => Step::Wrong,
+        Ok(_) if !has_settled(log, all) => Step::Wrong,
+        Ok(_) => done(log, all, 1),
+        Err(fault) => refused(log, fault, list, small.used()),
+    }
+}
+
+// The same where the three came as one list, whose places ascend.
+fn late_content_step(small: &LocalHeap, list: &[Report], all: &[Report]) -> Step {
     let Ok(given) = Vec::from_slice(small, list) else {
-        return Ok(Step::Before);
+        return Step::Before;
     };
     let mut log = Log::new(small);
     if log.add_all(given).is_err() {
-        return Ok(Step::Before);
+        return Step::Before;
     }
-    Ok(match log.add(*content) {
-        Ok(answer) if answer != (Added::NewDispute { withdrawn: *second }) => Step::Wrong,
-        Ok(_) if !has_settled(&log, all) => Step::Wrong,
-        Ok(_) => done(&log, all, 1),
-        Err(fault) => refused(&log, fault, list, small.used()),
-    })
+    late_answer(&mut log, small, list, all)
 }
 
 fn late_content_steps(alloc: Global, content: Report) -> Result<Vec<Step>, Fail> {
@@ -471,7 +499,7 @@ fn late_content_steps(alloc: Global, content: Report) -> Result<Vec<Step>, Fail>
     let mut met = Vec::new(alloc);
     for size in 1..1024 {
         let small = LocalHeap::new(alloc, STEP * size)?;
-        let step = late_content_step(&small, &list, &all)?;
+        let step = late_content_step(&small, &list, &all);
         met.push(step)?;
         if step == Step::Done {
             break;
@@ -485,7 +513,7 @@ fn a_list_in_order_is_disputed_later(rt: HostRuntime) -> Result<(), Fail> {
     let met = late_content_steps(rt.alloc(), report(1, 300, 60)?)?;
     // Refused to the reports, to the index that is made now, to the disputed identities' list of chunks, and to a chunk of
     // these.
-    assert_eq!(rt; kept(rt.alloc(), &met)?.len(), 4);
+    assert!(rt; kept(rt.alloc(), &met)?.len() == 4);
     assert!(rt; met.contains(&Step::Done) && !met.contains(&Step::Wrong));
     Ok(())
 }
@@ -512,6 +540,18 @@ fn chunk_and_three(alloc: Global) -> Result<Vec<Report>, Fail> {
     Ok(list)
 }
 
+fn called<'a>(
+    log: &mut Log<&'a LocalHeap>,
+    call: Call,
+    other: &Log<&'a LocalHeap>,
+    given: Vec<Report, &'a LocalHeap>,
+) -> Result<u32, LogFault> {
+    match call {
+        Call::Union => log.union(other),
+        Call::AddAll => log.add_all(given),
+    }
+}
+
 // A call that takes more into a log in a small heap, where what it takes is in another one.
 fn call_step<'a>(
     (small, ample): (&'a LocalHeap, &'a LocalHeap),
@@ -528,11 +568,7 @@ fn call_step<'a>(
     if add_to(&mut log, lower).is_err() {
         return Ok(Step::Before);
     }
-    let answer = match call {
-        Call::Union => log.union(&other),
-        Call::AddAll => log.add_all(given),
-    };
-    Ok(match answer {
+    Ok(match called(&mut log, call, &other, given) {
         Ok(_) => done(&log, list, 1),
         Err(fault) => refused(&log, fault, lower, small.used()),
     })
@@ -629,20 +665,29 @@ fn repeats_each<A: Allocator + Copy>(log: &mut Log<A>, list: &[Report]) -> bool 
     true
 }
 
+// A log of the six worked rows.
+fn log_of_six<'a>(heap: &'a LocalHeap, list: &[Report]) -> Result<Log<&'a LocalHeap>, Fail> {
+    let mut log = Log::new(heap);
+    if log.add_all(Vec::from_slice(heap, list)?) != Ok(6) {
+        return Err("six new reports".into());
+    }
+    Ok(log)
+}
+
+// Whether a log in an exhausted heap has what it is given already.
+fn has_them_without_memory(alloc: Global, heap: &LocalHeap, list: &[Report]) -> Result<bool, Fail> {
+    let other = log_of_six(heap, list)?;
+    let mut log = log_of_six(heap, list)?;
+    let given = Vec::from_slice(heap, list)?;
+    let taken = exhausted(alloc, heap)?;
+    Ok(has_them_already(&mut log, heap, list, &other, given) && taken.len() > 0)
+}
+
 #[test]
 fn what_is_there_already_takes_no_memory(rt: HostRuntime) -> Result<(), Fail> {
     let heap = LocalHeap::new(rt.alloc(), 1 << 17)?;
     let list = rows(rt.alloc(), 6)?;
-    let mut other = Log::new(&heap);
-    let given = Vec::from_slice(&heap, &list)?;
-    assert_eq!(rt; other.add_all(given), Ok(6));
-    let mut log = Log::new(&heap);
-    let given = Vec::from_slice(&heap, &list)?;
-    assert_eq!(rt; log.add_all(given), Ok(6));
-    let given = Vec::from_slice(&heap, &list)?;
-    let taken = exhausted(rt.alloc(), &heap)?;
-    assert!(rt; has_them_already(&mut log, &heap, &list, &other, given));
-    assert!(rt; taken.len() > 0);
+    assert!(rt; has_them_without_memory(rt.alloc(), &heap, &list)?);
     Ok(())
 }
 
@@ -662,10 +707,8 @@ fn rows_are_put_and_withdrawn_without_memory(rt: HostRuntime) -> Result<(), Fail
     rows.put(77);
     assert!(rt; rows.contains(&78));
     rows.withdraw(&78);
-    assert_eq!(rt; (rows.len(), rows.rank(&80)), (256, 40));
-    assert!(rt; rows.reserve().is_err());
-    assert_eq!(rt; heap.used(), used);
-    assert!(rt; taken.len() > 0);
+    assert!(rt; (rows.len(), rows.rank(&80)) == (256, 40));
+    assert!(rt; rows.reserve().is_err() && heap.used() == used && taken.len() > 0);
     Ok(())
 }
 
@@ -690,7 +733,7 @@ fn exchanges(alloc: Global) -> Result<(usize, usize, usize), Fail> {
 
 #[test]
 fn containers_exchange_rows(rt: HostRuntime) -> Result<(), Fail> {
-    assert_eq!(rt; exchanges(rt.alloc())?, (300, 300, 150));
+    assert!(rt; exchanges(rt.alloc())? == (300, 300, 150));
     Ok(())
 }
 
@@ -704,8 +747,8 @@ fn faults_have_numbers_and_texts(rt: HostRuntime) -> Result<(), Fail> {
         ),
         (LogFault::Memory, 2, "no memory for more reports in the log"),
     ] {
-        assert_eq!(rt; fault.number(), number);
-        assert_eq!(rt; format!(in rt.alloc(); "{fault}")?.as_str(), text);
+        assert!(rt; fault.number() == number);
+        assert!(rt; format!(in rt.alloc(); "{fault}")?.as_str() == text);
     }
     Ok(())
 }
