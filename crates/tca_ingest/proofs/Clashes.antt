@@ -30,10 +30,10 @@ tells_both P Q (Some k) (Some n) p r =
     ] refl
 
 two_tell : (v w : ReplicaView) → IsReplica w → Tells (λ q. AgreeAt q v w) (clash_key (differ_at same_report) v.chains w.chains)
-two_tell v w r = told (clash_key (differ_at same_report) v.chains w.chains) refl where
-  told : (c : Option ℕ) → clash_key (differ_at same_report) v.chains w.chains ≡ c → Tells (λ q. AgreeAt q v w) c
-  told None e = λ q. clash_agree (get v.chains q) (get w.chains q) (clash_at (differ_at same_report) v.chains w.chains q e)
-  told (Some k) e =
+two_tell v w r = replayed (clash_key (differ_at same_report) v.chains w.chains) refl where
+  replayed : (c : Option ℕ) → clash_key (differ_at same_report) v.chains w.chains ≡ c → Tells (λ q. AgreeAt q v w) c
+  replayed None e = λ q. clash_agree (get v.chains q) (get w.chains q) (clash_at (differ_at same_report) v.chains w.chains q e)
+  replayed (Some k) e =
       let first = clash_is_least (List PacketReport) (differ_at same_report) v.chains w.chains k r.rises e in
       ((λ agree. first.here (agree_clash (get v.chains k) (get w.chains k) agree)), λ q l. clash_agree (get v.chains q) (get w.chains q) (first.below q l))
 
@@ -48,10 +48,10 @@ all_tells [] h = λ q. tt
 all_tells (v ∷ vs) h = tells_both (λ q. AllByRecursion (AgreeAt q v) vs) (λ q. Pairwise (AgreeAt q) vs) (clash_among v vs) (clash_all vs) (among_tells v vs h.1) (all_tells vs h.1)
 
 pub clash_is : (vs : List ReplicaView) → All IsReplica vs → IsClash vs (clash_all vs)
-clash_is vs all = told (clash_all vs) (all_tells vs (recursion_from_All IsReplica vs all)) where
-  told : (c : Option ℕ) → Tells (λ q. Pairwise (AgreeAt q) vs) c → IsClash vs c
-  told None h = λ i j d lt within q. from_pairwise (AgreeAt q) vs (h q) i j d lt within
-  told (Some k) h = record { here = λ pairs. h.0 (pairwise (AgreeAt k) vs pairs); least = λ q l. from_pairwise (AgreeAt q) vs (h.1 q l) }
+clash_is vs all = replayed (clash_all vs) (all_tells vs (recursion_from_All IsReplica vs all)) where
+  replayed : (c : Option ℕ) → Tells (λ q. Pairwise (AgreeAt q) vs) c → IsClash vs c
+  replayed None h = λ i j d lt within q. from_pairwise (AgreeAt q) vs (h q) i j d lt within
+  replayed (Some k) h = record { here = λ pairs. h.0 (pairwise (AgreeAt k) vs pairs); least = λ q l. from_pairwise (AgreeAt q) vs (h.1 q l) }
 
 -- the test of two replicas
 pub agree_is : (v w : ReplicaView) → IsReplica w → (clash_key (differ_at same_report) v.chains w.chains ≡ None) ↔ AgreeAll v w

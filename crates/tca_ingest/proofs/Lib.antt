@@ -14,6 +14,7 @@ pub mod Clashes
 pub mod Worlds
 pub mod States
 pub mod CloseSteps
-pub mod Told
+pub mod Replayed
 pub mod Matches
 pub mod Closings
+pub mod Collecting

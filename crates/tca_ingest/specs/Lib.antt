@@ -6,3 +6,4 @@ pub mod Shares
 pub mod EntryViews
 pub mod Faults
 pub mod Closing
+pub mod Works

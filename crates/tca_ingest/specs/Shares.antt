@@ -101,7 +101,7 @@ delta_since v since number = Sent number since (delta_of (summary_count since) v
 
 -- What a journal says of its replica: the name, the plan, the log, the own chain, those of the other origins, and the bill; and each
 -- entry is right.
-pub record IsTold (plan : AccountPlan) (name : ℕ) (v : ReplicaView) (journal : List EntryView) : Type 0 where
+pub record IsReplayed (plan : AccountPlan) (name : ℕ) (v : ReplicaView) (journal : List EntryView) : Type 0 where
   pub name_is : v.name ≡ name
   pub plan_is : v.plan ≡ plan
   pub log : v.log ≡ after name journal
@@ -124,4 +124,4 @@ pub record IsExchange (mine mine' theirs theirs' : PassView) (e : EntryView) (fr
 abbrev pub IsPartOfExchange : PassView → PassView → PassView → PassView → Type 0
 IsPartOfExchange mine mine' theirs theirs' =
     ((mine' ≡ mine) × (theirs' ≡ theirs)) ⊎ ((summary : List (ℕ × ℕ)) × (mine' ≡ with_call mine (Asked mine.number summary))
-        × ((theirs' ≡ theirs) ⊎ ((delta : List RunView) × (theirs' ≡ with_call theirs (Sent theirs.number summary delta)))))
+    × ((theirs' ≡ theirs) ⊎ ((delta : List RunView) × (theirs' ≡ with_call theirs (Sent theirs.number summary delta)))))

@@ -1,10 +1,10 @@
 //! What comes of a replica whose passes are given back.
-ghost use Rattle.std.specs.Prelude.{◌≡◌, ◌≤◌, IfOk, IfErr, length};
-ghost use Rattle.tca_ingest.specs.EntryViews.{entry_views};
+ghost use Rattle.std.specs.Prelude.{◌≡◌, List, IfOk, IfErr};
+ghost use Rattle.tca_ingest.specs.Entries.{EntryView};
 ghost use Rattle.tca_ingest.specs.Journals.{IsHistory};
-ghost use Rattle.tca_ingest.specs.Passes.{AreClosing, count_of};
+ghost use Rattle.tca_ingest.specs.Passes.{AreClosing};
 ghost use Rattle.tca_ingest.specs.Closing.{IsCloseFault};
-ghost use Rattle.tca_ingest.specs.Shares.{IsTold};
+ghost use Rattle.tca_ingest.specs.Shares.{IsReplayed};
 
 use crate::entry::Entry;
 use crate::fault::CloseFault;
@@ -58,7 +58,7 @@ impl<L: Side> Held<L> {
     pub fn close(self, passes: Vec<Pass<L>>) -> Result<Closed, Unheld<L>>
         ensures closing { IfOk result (λ c. AreClosing c.journal passes.items) }
         ensures history { IfOk result (λ c. IsHistory L.plan L.called c.replica c.journal) }
-        ensures told { IfOk result (λ c. IsTold L.plan L.called c.replica c.journal) }
+        ensures replayed { IfOk result (λ c. IsReplayed L.plan L.called c.replica c.journal) }
         ensures same { IfOk result (λ c. (c.replica ≡ self.replica) × (c.journal ≡ self.journal)) }
         ensures fault { IfErr result (λ u. IsCloseFault self.journal passes.items u.fault) }
         ensures back { IfErr result (λ u. (u.held ≡ self) × (u.passes ≡ passes)) }
@@ -84,16 +84,19 @@ impl<L: Side> Shared<L> {
     pub fn close(self, passes: Vec<Pass<L>>) -> Result<Closed, Unclosed<L>>
         ensures closing { IfOk result (λ c. AreClosing c.journal passes.items) }
         ensures history { IfOk result (λ c. IsHistory L.plan L.called c.replica c.journal) }
-        ensures told { IfOk result (λ c. IsTold L.plan L.called c.replica c.journal) }
+        ensures replayed { IfOk result (λ c. IsReplayed L.plan L.called c.replica c.journal) }
+        ensures fault { IfErr result (λ u. (journal : List EntryView) × IsCloseFault journal passes.items u.fault) }
         ensures back { IfErr result (λ u. u.passes ≡ passes) }
     {
         match self.held.into_inner().close(passes) {
             Ok(closed) => Ok(closed),
-            Err(Unheld {
-                fault,
-                held,
-                passes,
-            }) => Err(Unclosed {
+            Err(
+                Unheld {
+                    fault,
+                    held,
+                    passes,
+                },
+            ) => Err(Unclosed {
                 fault,
                 shared: Shared {
                     held: Mutex::new(held),

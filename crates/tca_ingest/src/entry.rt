@@ -27,9 +27,15 @@ pub enum Entry {
         result: Result<u64, AbsorbFault>,
     },
     /// The bill.
-    Answered { pass: u32, bill: Bill },
+    Answered {
+        pass: u32,
+        bill: Bill,
+    },
     /// How long each chain is.
-    Asked { pass: u32, summary: Summary },
+    Asked {
+        pass: u32,
+        summary: Summary,
+    },
     /// What is held past a summary.
     Sent {
         pass: u32,
@@ -80,13 +86,7 @@ impl Entry {
     }
 
     // Whether it is a take that says this.
-    fn is_take(
-        &self,
-        number: u32,
-        taken: &[Report],
-        new: u64,
-        cause: Option<LogFault>,
-    ) -> bool
+    fn is_take(&self, number: u32, taken: &[Report], new: u64, cause: Option<LogFault>) -> bool
         ensures { IsTrue result ↔ (Took number taken.now new cause ≡ entry_view self.now) }
     {
         match self {
@@ -95,9 +95,7 @@ impl Entry {
                 reports,
                 fresh,
                 stop,
-            } => {
-                number == *pass && new == *fresh && cause == *stop && are_same(taken, reports)
-            }
+            } => { number == *pass && new == *fresh && cause == *stop && are_same(taken, reports) }
             _ => false,
         }
     }
@@ -115,32 +113,32 @@ impl Entry {
     }
 
     // Whether it is a statement that says this.
-    fn is_statement(&self, number: u32, said: &Bill) -> bool
-        ensures { IsTrue result ↔ (Answered number said.now ≡ entry_view self.now) }
+    fn is_statement(&self, number: u32, answer: &Bill) -> bool
+        ensures { IsTrue result ↔ (Answered number answer.now ≡ entry_view self.now) }
     {
         match self {
-            Entry::Answered { pass, bill } => number == *pass && said.is_same(bill),
+            Entry::Answered { pass, bill } => number == *pass && answer.is_same(bill),
             _ => false,
         }
     }
 
     // Whether it is a summary that says this.
-    fn is_summary(&self, number: u32, said: &Summary) -> bool
-        ensures { IsTrue result ↔ (Asked number said.now ≡ entry_view self.now) }
+    fn is_summary(&self, number: u32, answer: &Summary) -> bool
+        ensures { IsTrue result ↔ (Asked number answer.now ≡ entry_view self.now) }
     {
         match self {
-            Entry::Asked { pass, summary } => number == *pass && are_same_counts(said, summary),
+            Entry::Asked { pass, summary } => number == *pass && are_same_counts(answer, summary),
             _ => false,
         }
     }
 
     // Whether it is a delta that says this.
-    fn is_delta(&self, number: u32, asked: &Summary, said: &Delta) -> bool
-        ensures { IsTrue result ↔ (Sent number asked.now said.now ≡ entry_view self.now) }
+    fn is_delta(&self, number: u32, asked: &Summary, answer: &Delta) -> bool
+        ensures { IsTrue result ↔ (Sent number asked.now answer.now ≡ entry_view self.now) }
     {
         match self {
             Entry::Sent { pass, since, delta } => {
-                number == *pass && are_same_counts(asked, since) && said.is_same(delta)
+                number == *pass && are_same_counts(asked, since) && answer.is_same(delta)
             }
             _ => false,
         }

@@ -1,6 +1,6 @@
 //! Why a call on a shared replica, or its close, is refused.
 ghost use Rattle.std.specs.Prelude.{◌≡◌};
-ghost use Rattle.tca_ingest.specs.Faults.{close_number, share_number};
+ghost use Rattle.tca_ingest.specs.Faults.{close_number, share_number, work_number};
 
 use std::alloc::AllocError;
 use thiserror::Error;
@@ -67,5 +67,52 @@ impl CloseFault {
             CloseFault::Differs { .. } => 2,
             CloseFault::Clash { .. } => 3,
         }
+    }
+}
+
+/// Why workers didn't do all jobs, or brought other results than the passes have. Some jobs may have been done.
+#[derive(Clone, Copy, Debug, PartialEq, Eq, Error)]
+pub enum WorkFault {
+    /// This job has no result.
+    #[error("job {0} has no result")]
+    JobMissing(u32),
+    /// A result of this job is of no input, of another input or a second one, or its entry isn't in the list of its pass as often as
+    /// in the results up to it. Where the number is that of all jobs, the passes have entries that no result has.
+    #[error("the result of job {0} is of another input, or the passes have other entries")]
+    Stranger(u32),
+    /// A thread couldn't be started.
+    #[error("a thread could not be started")]
+    NoThread,
+    /// 65,536 passes were made.
+    #[error("no more passes: a replica has at most 65536")]
+    PassesOut,
+    /// A growth was refused.
+    #[error("no memory for the workers")]
+    Memory,
+}
+
+impl WorkFault {
+    /// The number that stands for the fault in a program's messages.
+    pub fn number(&self) -> u8
+        ensures { result ≡ work_number self.now }
+    {
+        match self {
+            WorkFault::JobMissing(_) => 1,
+            WorkFault::Stranger(_) => 2,
+            WorkFault::NoThread => 3,
+            WorkFault::PassesOut => 4,
+            WorkFault::Memory => 5,
+        }
+    }
+}
+
+impl From<AllocError> for WorkFault {
+    ghost use Rattle.std.specs.Prelude.{◌≡◌};
+    ghost use Rattle.tca_ingest.specs.declared.fault.WorkFault.TheVariants.{Memory};
+
+    ghost from_gives = { λ _ e. e ≡ Memory };
+
+    fn from(_refused: AllocError) -> WorkFault {
+        WorkFault::Memory
     }
 }

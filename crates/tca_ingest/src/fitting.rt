@@ -12,10 +12,7 @@ use crate::pass::Pass;
 use crate::side::Side;
 
 /// Passes have no more entries than the journal: each entry was counted in its ledger when it was written down in both.
-pub(crate) fn within<L: Side>(
-    held: Held<L>,
-    passes: Vec<Pass<L>>,
-) -> (Held<L>, Vec<Pass<L>>)
+pub(crate) fn within<L: Side>(held: Held<L>, passes: Vec<Pass<L>>) -> (Held<L>, Vec<Pass<L>>)
     ensures same { (result.0 ≡ held) × (result.1 ≡ passes) }
     ensures within { count_of passes.items ≤ length held.journal }
 {
@@ -26,8 +23,8 @@ pub(crate) fn within<L: Side>(
     unreachable!()
 }
 
-// What the ledger says of the passes: all shares together have no more than the book. Nothing calls it at run time, since its answer
-// is that what was counted is so.
+// What the ledger says of the passes: all their shares together have no more than the book. It is called only where passes have more
+// entries than the journal, and its answer is that there is no such case; so it never runs.
 fn audit<L: Side>(held: Held<L>, passes: Vec<Pass<L>>)
     ensures { count_of passes.items ≤ length held.journal }
 {

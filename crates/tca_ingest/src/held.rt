@@ -3,7 +3,7 @@ ghost use Rattle.std.specs.Prelude.{◌≡◌, ◌≢◌, ◌+◌, ◌≤◌, �
 ghost use Rattle.tca_ingest.specs.Entries.{pass_of};
 ghost use Rattle.tca_ingest.specs.EntryViews.{entry_view, entry_views};
 ghost use Rattle.tca_ingest.specs.Journals.{IsHistory, after_entry};
-ghost use Rattle.tca_ingest.specs.Shares.{Appends, IsAbsorbInto, IsTakeInto, IsTold, delta_since, most_entries, most_passes, new_held, statement_of, summary_of};
+ghost use Rattle.tca_ingest.specs.Shares.{Appends, IsAbsorbInto, IsTakeInto, IsReplayed, delta_since, most_entries, most_passes, new_held, statement_of, summary_of};
 
 use crate::copies::{EntryCopies, ReportCopies, RunCopies};
 use crate::entry::{Entry, Receipt};
@@ -96,7 +96,7 @@ impl<L: Side> Held<L> {
     pub fn journal(&self) -> &[Entry]
         ensures calls { entry_views result.now ≡ self.now.journal }
         ensures history { IsHistory L.plan L.called self.now.replica self.now.journal }
-        ensures told { IsTold L.plan L.called self.now.replica self.now.journal }
+        ensures replayed { IsReplayed L.plan L.called self.now.replica self.now.journal }
     {
         &self.journal
     }
@@ -105,7 +105,7 @@ impl<L: Side> Held<L> {
     pub fn replica(&self) -> &Replica
         ensures replica { result.now ≡ self.now.replica }
         ensures history { IsHistory L.plan L.called self.now.replica self.now.journal }
-        ensures told { IsTold L.plan L.called self.now.replica self.now.journal }
+        ensures replayed { IsReplayed L.plan L.called self.now.replica self.now.journal }
     {
         &self.replica
     }
@@ -157,7 +157,7 @@ impl<L: Side> Held<L> {
         requires stays { after_entry self.old.replica (entry_view entry) ≡ self.old.replica }
         requires whose { pass_of (entry_view entry) ≡ mine.old.number }
         ensures appends { IfOk result (λ r. Appends self.old self.new mine.old mine.new (entry_view r.entry) r.front) }
-        ensures said { IfOk result (λ r. entry_view r.entry ≡ entry_view entry) }
+        ensures exact { IfOk result (λ r. entry_view r.entry ≡ entry_view entry) }
         ensures fault { IfErr result (λ f. f ≡ ShareFault.Memory) }
         ensures err { OnErr result ((self.new ≡ self.old) × (mine.new ≡ mine.old)) }
     {
@@ -177,7 +177,7 @@ impl<L: Side> Held<L> {
     /// growth was refused for the bill.
     pub fn statement(&mut self, mine: &mut Pass<L>) -> Result<Receipt, ShareFault>
         ensures appends { IfOk result (λ r. Appends self.old self.new mine.old mine.new (entry_view r.entry) r.front) }
-        ensures said { IfOk result (λ r. entry_view r.entry ≡ statement_of self.old.replica mine.old.number) }
+        ensures exact { IfOk result (λ r. entry_view r.entry ≡ statement_of self.old.replica mine.old.number) }
         ensures full { (result ≡ Err ShareFault.JournalFull) ↔ (most_entries ≤ length self.old.journal) }
         ensures fault { IfErr result (λ f. f ≢ ShareFault.PassesOut) }
         ensures err { OnErr result ((self.new ≡ self.old) × (mine.new ≡ mine.old)) }
@@ -199,7 +199,7 @@ impl<L: Side> Held<L> {
     /// a growth was refused for the summary.
     pub fn summary(&mut self, mine: &mut Pass<L>) -> Result<Receipt, ShareFault>
         ensures appends { IfOk result (λ r. Appends self.old self.new mine.old mine.new (entry_view r.entry) r.front) }
-        ensures said { IfOk result (λ r. entry_view r.entry ≡ summary_of self.old.replica mine.old.number) }
+        ensures exact { IfOk result (λ r. entry_view r.entry ≡ summary_of self.old.replica mine.old.number) }
         ensures full { (result ≡ Err ShareFault.JournalFull) ↔ (most_entries ≤ length self.old.journal) }
         ensures fault { IfErr result (λ f. f ≢ ShareFault.PassesOut) }
         ensures err { OnErr result ((self.new ≡ self.old) × (mine.new ≡ mine.old)) }
@@ -221,7 +221,7 @@ impl<L: Side> Held<L> {
     /// a growth was refused for the delta.
     pub fn delta(&mut self, mine: &mut Pass<L>, since: &Summary) -> Result<Receipt, ShareFault>
         ensures appends { IfOk result (λ r. Appends self.old self.new mine.old mine.new (entry_view r.entry) r.front) }
-        ensures said { IfOk result (λ r. entry_view r.entry ≡ delta_since self.old.replica since.now mine.old.number) }
+        ensures exact { IfOk result (λ r. entry_view r.entry ≡ delta_since self.old.replica since.now mine.old.number) }
         ensures full { (result ≡ Err ShareFault.JournalFull) ↔ (most_entries ≤ length self.old.journal) }
         ensures fault { IfErr result (λ f. f ≢ ShareFault.PassesOut) }
         ensures err { OnErr result ((self.new ≡ self.old) × (mine.new ≡ mine.old)) }
@@ -281,7 +281,7 @@ impl<L: Side> Held<L> {
         ensures replica { result.0 ≡ self.replica }
         ensures journal { entry_views result.1.items ≡ self.journal }
         ensures history { IsHistory L.plan L.called self.replica self.journal }
-        ensures told { IsTold L.plan L.called self.replica self.journal }
+        ensures replayed { IsReplayed L.plan L.called self.replica self.journal }
     {
         let Held {
             replica,

@@ -13,30 +13,42 @@
 //! - `shared`: the calls by threads, and the exchange between two replicas;
 //! - `close`: what comes of passes that are given back; `fitting`: whether they are all that there were; `closed`: many replicas
 //!   that nobody shares any more;
-//! - `fault`: why a call or a close is refused;
+//! - `workers`: threads that take inputs into a replica; `worker`: what one of them does; `job`: one input and what came of it; `collect`:
+//!   the results of all; `gate`: what is called as they go;
+//! - `fault`: why a call, a close or a run of workers is refused;
 //! - `laws`: what a journal says of its replica and of its passes.
 #![tactic(auto)]
 
 mod close;
 mod closed;
+mod collect;
 mod copies;
 mod entry;
 mod fault;
 mod fitting;
+mod gate;
 mod held;
+mod job;
 mod laws;
 mod note;
 mod pass;
 mod shared;
 mod side;
+mod worker;
+mod workers;
 
 pub use close::{Closed, Unclosed, Unheld};
 pub use closed::close_all;
 pub use entry::{Entry, Receipt};
-pub use fault::{CloseFault, ShareFault};
+pub use fault::{CloseFault, ShareFault, WorkFault};
+pub use gate::{Gate, NoGate};
 pub use held::Held;
+pub use job::{Done, JobFault};
 pub use laws::{close_laws, closed_laws, entry_laws, history_laws, list_laws};
 pub use pass::Pass;
 pub use shared::{Shared, exchange};
 pub use side::Side;
+pub use workers::{WorkRefused, Worked, work, work_on};
 
+#[cfg(test)]
+mod tests;

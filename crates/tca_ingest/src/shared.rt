@@ -5,6 +5,7 @@ ghost use Rattle.tca_ingest.specs.Shares.{IsAbsorb, IsDelta, IsExchange, IsNoted
 
 use crate::entry::{Entry, Receipt};
 use crate::fault::ShareFault;
+use crate::gate::Gate;
 use crate::held::Held;
 use crate::pass::Pass;
 use crate::side::Side;
@@ -59,10 +60,29 @@ impl<L: Side> Shared<L> {
         self.held.lock(rt).take(mine, reports)
     }
 
+    // As `take`, with a word to the gate once the lock is held.
+    pub(crate) fn take_inside<R: Wait, G: Gate>(
+        &self,
+        rt: &R,
+        mine: &mut Pass<L>,
+        reports: &[Report],
+        gate: &G,
+        job: u32,
+    ) -> Result<Receipt, ShareFault>
+        ensures noted { IfOk result (λ r. IsNoted mine.old mine.new (entry_view r.entry) r.front) }
+        ensures took { IfOk result (λ r. IsTake reports.now mine.old.number (entry_view r.entry)) }
+        ensures fault { IfErr result (λ f. f ≢ ShareFault.PassesOut) }
+        ensures err { OnErr result (mine.new ≡ mine.old) }
+    {
+        let mut held = self.held.lock(rt);
+        gate.inside(job);
+        held.take(mine, reports)
+    }
+
     /// The bill.
     pub fn statement<R: Wait>(&self, rt: &R, mine: &mut Pass<L>) -> Result<Receipt, ShareFault>
         ensures noted { IfOk result (λ r. IsNoted mine.old mine.new (entry_view r.entry) r.front) }
-        ensures said { IfOk result (λ r. IsStatement mine.old.number (entry_view r.entry)) }
+        ensures exact { IfOk result (λ r. IsStatement mine.old.number (entry_view r.entry)) }
         ensures fault { IfErr result (λ f. f ≢ ShareFault.PassesOut) }
         ensures err { OnErr result (mine.new ≡ mine.old) }
     {
@@ -87,7 +107,7 @@ impl<L: Side> Shared<L> {
     /// How long each chain is.
     pub fn summary<R: Wait>(&self, rt: &R, mine: &mut Pass<L>) -> Result<Receipt, ShareFault>
         ensures noted { IfOk result (λ r. IsNoted mine.old mine.new (entry_view r.entry) r.front) }
-        ensures said { IfOk result (λ r. IsSummaryEntry mine.old.number (entry_view r.entry)) }
+        ensures exact { IfOk result (λ r. IsSummaryEntry mine.old.number (entry_view r.entry)) }
         ensures fault { IfErr result (λ f. f ≢ ShareFault.PassesOut) }
         ensures err { OnErr result (mine.new ≡ mine.old) }
     {
@@ -102,7 +122,7 @@ impl<L: Side> Shared<L> {
         since: &Summary,
     ) -> Result<Receipt, ShareFault>
         ensures noted { IfOk result (λ r. IsNoted mine.old mine.new (entry_view r.entry) r.front) }
-        ensures said { IfOk result (λ r. IsDelta since.now mine.old.number (entry_view r.entry)) }
+        ensures exact { IfOk result (λ r. IsDelta since.now mine.old.number (entry_view r.entry)) }
         ensures fault { IfErr result (λ f. f ≢ ShareFault.PassesOut) }
         ensures err { OnErr result (mine.new ≡ mine.old) }
     {

@@ -2,7 +2,7 @@ use Rattle.std.proofs.Common.{length, ap, ◌∙◌, arith}
 use Rattle.tca_ingest.specs.Entries.{Absorbed, pass_of}
 use Rattle.tca_ingest.specs.EntryViews.{entry_views}
 use Rattle.tca_ingest.proofs.Histories.{push_absorbed}
-use Rattle.tca_ingest.proofs.Told.{history_noted, whose_noted}
+use Rattle.tca_ingest.proofs.Replayed.{history_noted, whose_noted}
 use Rattle.tca_ingest.proofs.held.Held.absorb.Goals as goal
 
 pub invariant_of-self-2 : goal.invariant_of-self-2

@@ -2,7 +2,7 @@ use Rattle.std.proofs.Common.{take, length, ap, ◌∙◌, arith}
 use Rattle.tca_ingest.specs.Entries.{Took, pass_of}
 use Rattle.tca_ingest.specs.EntryViews.{entry_views}
 use Rattle.tca_ingest.proofs.Histories.{push_took}
-use Rattle.tca_ingest.proofs.Told.{history_noted, whose_noted}
+use Rattle.tca_ingest.proofs.Replayed.{history_noted, whose_noted}
 use Rattle.tca_ingest.proofs.held.Held.take.Goals as goal
 
 pub invariant_of-self-2 : goal.invariant_of-self-2

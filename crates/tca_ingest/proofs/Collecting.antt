@@ -1,0 +1,113 @@
+-- Inputs and their results, place by place, and entries that are taken out one by one.
+use Rattle.std.proofs.Common.{◌≡◌, ℕ, zero, suc, ◌+◌, ◌<◌, List, [], ◌∷◌, ◌++◌, length, get_or, set, take, ap, sym, ◌∙◌, subst, arith, map, refl, add-one}
+use Rattle.std.specs.List.{AllByRecursion, AllZip, remove}
+use Rattle.std.specs.List.Sorted.{IsPermutation}
+use Rattle.std.proofs.lemmas.List.{take_more, append-nil, append_assoc}
+use Rattle.std.proofs.lemmas.List.Sorted.{IsPermutation-map, IsPermutation-remove, IsPermutation-sym, IsPermutation-trans, IsPermutation-append_right}
+use Rattle.std.specs.declared.vec.Vec.{Vec}
+use denote.Bor.{Bor}
+use Rattle.tca_ingest.specs.Entries.{EntryView}
+use Rattle.tca_ingest.specs.EntryViews.{entry_view}
+use Rattle.tca_ingest.specs.Passes.{PassView}
+use Rattle.tca_ingest.specs.Works.{AreNumberedFrom, AreResults, AreSliceResults, IsResult, entries_in, entry_in, all_calls, views_of}
+use Rattle.tca_ingest.specs.declared.entry.Entry.{Entry}
+use Rattle.tca_ingest.specs.declared.job.Done.{Done}
+
+pub zip_push : {A B : Type 0} (R : A → B → Type 0) (xs : List A) (ys : List B) (x : A) (y : B) → AllZip R xs ys → R x y → AllZip R (xs ++ x ∷ []) (ys ++ y ∷ [])
+zip_push R [] [] x y all here = (here, tt)
+zip_push R [] (b ∷ ys) x y all here = absurd all
+zip_push R (a ∷ xs) [] x y all here = absurd all
+zip_push R (a ∷ xs) (b ∷ ys) x y all here = (all.0, zip_push R xs ys x y all.1 here)
+
+pub zip_set : {A B : Type 0} (R : A → B → Type 0) (xs : List A) (ys : List B) (i : ℕ) (d : A) (y : B) → AllZip R xs ys → i < length xs → R (get_or xs i d) y → AllZip R xs (set ys i y)
+zip_set R [] ys i d y all low here = absurd (omega (arith, low))
+zip_set R (a ∷ xs) [] i d y all low here = absurd all
+zip_set R (a ∷ xs) (b ∷ ys) zero d y all low here = (here, all.1)
+zip_set R (a ∷ xs) (b ∷ ys) (suc i) d y all low here = (all.0, zip_set R xs ys i d y all.1 (omega (arith, low)) here)
+
+-- one more of the first list
+pub zip_more : {A B : Type 0} (R : A → B → Type 0) (xs : List A) (i : ℕ) (d : A) (ys : List B) (y : B) → i < length xs → AllZip R (take i xs) ys → R (get_or xs i d) y → AllZip R (take (i + 1) xs) (ys ++ y ∷ [])
+zip_more R xs i d ys y low all here = subst (λ zs. AllZip R zs (ys ++ y ∷ [])) (sym (take_more xs i d low)) (zip_push R (take i xs) ys (get_or xs i d) y all here)
+
+zip_next : {A B : Type 0} (R : A → B → Type 0) (xs : List A) (i : ℕ) (ys : List B) (y : B) → ((x : A) → R x y) → i < length xs → AllZip R (take i xs) ys → AllZip R (take (suc i) xs) (ys ++ y ∷ [])
+zip_next R [] i ys y any low all = absurd (omega (arith, low))
+zip_next R (x ∷ xs) zero [] y any low all = (any x, tt)
+zip_next R (x ∷ xs) zero (b ∷ ys) y any low all = absurd all
+zip_next R (x ∷ xs) (suc i) [] y any low all = absurd all
+zip_next R (x ∷ xs) (suc i) (b ∷ ys) y any low all = (all.0, zip_next R xs i ys y any (omega (arith, low)) all.1)
+
+-- one more of the first list, with an item that goes with any
+pub zip_any : {A B : Type 0} (R : A → B → Type 0) (xs : List A) (i : ℕ) (ys : List B) (y : B) → ((x : A) → R x y) → i < length xs → AllZip R (take i xs) ys → AllZip R (take (i + 1) xs) (ys ++ y ∷ [])
+zip_any R xs i ys y any low all = rw add-one (zip_next R xs i ys y any low all)
+
+pub zip_through : {A B C : Type 0} (R : A → B → Type 0) (S : B → C → Type 0) (T : A → C → Type 0) → ((a : A) (b : B) (c : C) → R a b → S b c → T a c)
+    → (xs : List A) (ys : List B) (zs : List C) → AllZip R xs ys → AllZip S ys zs → AllZip T xs zs
+zip_through R S T step [] [] [] one two = tt
+zip_through R S T step [] [] (z ∷ zs) one two = absurd two
+zip_through R S T step [] (y ∷ ys) zs one two = absurd one
+zip_through R S T step (x ∷ xs) [] zs one two = absurd one
+zip_through R S T step (x ∷ xs) (y ∷ ys) [] one two = absurd two
+zip_through R S T step (x ∷ xs) (y ∷ ys) (z ∷ zs) one two = (step x y z one.0 two.0, zip_through R S T step xs ys zs one.1 two.1)
+
+pub entries_in-push : (ds : List Done) (d : Done) → entries_in (ds ++ d ∷ []) ≡ entries_in ds ++ entry_in d.result
+unfolding entries_in
+entries_in-push [] d = append-nil (entry_in d.result)
+entries_in-push (x ∷ ds) d = ap (λ es. entry_in x.result ++ es) (entries_in-push ds d) ∙ sym (append_assoc (entry_in x.result) (entries_in ds) (entry_in d.result))
+
+pub all_calls-push : (ps : List PassView) (p : PassView) → all_calls (ps ++ p ∷ []) ≡ all_calls ps ++ p.calls
+unfolding all_calls
+all_calls-push [] p = append-nil p.calls
+all_calls-push (q ∷ ps) p = ap (λ es. q.calls ++ es) (all_calls-push ps p) ∙ sym (append_assoc q.calls (all_calls ps) p.calls)
+
+-- one pass more, x, which stands at i
+pub calls_more : (ps : List PassView) (i : ℕ) (x : PassView) (old new calls : List EntryView) → i < length ps → x ≡ get_or ps i x → old ≡ all_calls (take i ps) → new ≡ old ++ calls → calls ≡ x.calls → new ≡ all_calls (take (i + 1) ps)
+calls_more ps i x old new calls low is so_far more its =
+    let last : all_calls (take (i + 1) ps) ≡ all_calls (take i ps) ++ (get_or ps i x).calls = ap all_calls (take_more ps i x low) ∙ all_calls-push (take i ps) (get_or ps i x) in
+    more ∙ ap (λ es. es ++ calls) so_far ∙ ap (λ es. all_calls (take i ps) ++ es) (its ∙ ap (λ p. p.calls) is) ∙ sym last
+
+-- one entry taken out
+pub strikes : (xs ys : List (Bor Entry)) (i : ℕ) (x : Bor Entry) (e : EntryView) → i < length xs → x ≡ get_or xs i x → entry_view x.now ≡ e → ys ≡ remove xs i → IsPermutation (views_of xs) (e ∷ views_of ys)
+strikes xs ys i x e low is says rest =
+    let whole = IsPermutation-map (λ (b : Bor Entry). entry_view b.now) xs (x ∷ remove xs i) (IsPermutation-remove xs i x low is) in
+    subst (λ zs. IsPermutation (views_of xs) (e ∷ views_of zs)) (sym rest) (subst (λ s. IsPermutation (views_of xs) (s ∷ views_of (remove xs i))) says whole)
+
+-- the results up to the next one
+pub strike_more : (ds : List Done) (i : ℕ) (d : Done) (old new all : List EntryView) → i < length ds → IsPermutation (entries_in (take i ds) ++ old) all → IsPermutation old (entry_in (get_or ds i d).result ++ new)
+    → IsPermutation (entries_in (take (i + 1) ds) ++ new) all
+strike_more ds i d old new all low so_far here =
+    let done = entries_in (take i ds) in
+    let its = entry_in (get_or ds i d).result in
+    let same : entries_in (take (i + 1) ds) ≡ done ++ its = ap entries_in (take_more ds i d low) ∙ entries_in-push (take i ds) (get_or ds i d) in
+    let whole : entries_in (take (i + 1) ds) ++ new ≡ done ++ (its ++ new) = ap (λ es. es ++ new) same ∙ append_assoc done its new in
+    subst (λ es. IsPermutation es all) (sym whole) (IsPermutation-trans (done ++ (its ++ new)) (done ++ old) all (IsPermutation-append_right done (its ++ new) old (IsPermutation-sym old (its ++ new) here)) so_far)
+
+-- one more of which it holds
+pub all_push : {A : Type 0} (P : A → Type 0) (xs : List A) (x : A) → AllByRecursion P xs → P x → AllByRecursion P (xs ++ x ∷ [])
+all_push P [] x all here = (here, tt)
+all_push P (y ∷ xs) x all here = (all.0, all_push P xs x all.1 here)
+
+pub all_more : {A : Type 0} (P : A → Type 0) (xs : List A) (i : ℕ) (d : A) → i < length xs → AllByRecursion P (take i xs) → P (get_or xs i d) → AllByRecursion P (take (i + 1) xs)
+all_more P xs i d low all here = subst (AllByRecursion P) (sym (take_more xs i d low)) (all_push P (take i xs) (get_or xs i d) all here)
+
+-- as many as those that they are of
+pub zip_length : {A B : Type 0} (R : A → B → Type 0) (xs : List A) (ys : List B) → AllZip R xs ys → length ys ≡ length xs
+zip_length R [] [] all = refl
+zip_length R [] (b ∷ ys) all = absurd all
+zip_length R (a ∷ xs) [] all = absurd all
+zip_length R (a ∷ xs) (b ∷ ys) all = ap suc (zip_length R xs ys all.1)
+
+pub numbered_push : (n : ℕ) (ds : List Done) (d : Done) → AreNumberedFrom n ds → d.job ≡ n + length ds → AreNumberedFrom n (ds ++ d ∷ [])
+numbered_push n [] d all here = (here ∙ omega (arith), tt)
+numbered_push n (x ∷ ds) d all here = (all.0, numbered_push (suc n) ds d all.1 (here ∙ omega (arith)))
+
+-- inputs that are borrowed have the results of the inputs
+pub results_of : {A : Type 0} (slices : List (Bor (List ℕ))) (inputs : List (Vec ℕ A)) (done : List Done) → map (λ s. s.now) slices ≡ map (λ v. v.items) inputs → AreSliceResults slices done → AreResults inputs done
+results_of [] [] [] same all = tt
+results_of [] [] (d ∷ ds) same all = absurd all
+results_of [] (v ∷ vs) ds same all = absurd cc
+results_of (s ∷ ss) [] ds same all = absurd cc
+results_of (s ∷ ss) (v ∷ vs) [] same all = absurd all
+results_of (s ∷ ss) (v ∷ vs) (d ∷ ds) same all =
+    let here : s.now ≡ v.items = cc same in
+    let rest : map (λ (b : Bor (List ℕ)). b.now) ss ≡ map (λ (w : Vec ℕ _). w.items) vs = cc same in
+    (subst (λ octets. IsResult octets d.result) here all.0, results_of ss vs ds rest all.1)

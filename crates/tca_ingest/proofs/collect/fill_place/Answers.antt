@@ -1,0 +1,13 @@
+use Rattle.std.proofs.Common.{◌≡◌, ℕ, List, Some, [], slice_index_or, rules, sym, subst}
+use denote.Bor.{Bor}
+use Rattle.tca_ingest.specs.Works.{IsResult, IsResultAt}
+use Rattle.tca_ingest.proofs.Collecting.{zip_set}
+use Rattle.tca_ingest.proofs.collect.fill_place.Goals as goal
+
+pub returns : goal.returns
+returns c =
+    let given = c.of_job.inside in
+    let none : Bor (List ℕ) = record { ref_ptr = (0, 0); now = [] } in
+    let same : (slice_index_or c.args.inputs.now given.job none).now ≡ given.input.now = search rules in
+    zip_set (λ (input : Bor (List ℕ)) place. IsResultAt input.now place) c.args.inputs.now c.args.places.now.items given.job none (Some given.result) c.requires c.if-at-inputs.false
+    (subst (λ octets. IsResult octets given.result) (sym same) c.of_job.invariant)

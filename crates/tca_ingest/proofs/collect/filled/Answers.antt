@@ -1,0 +1,35 @@
+use Rattle.std.proofs.Common.{◌≡◌, ◌<◌, Some, Option, Result, length, rules, sym, ap, ◌∙◌, subst, ◌++◌, ◌∷◌, [], arith}
+use Rattle.std.specs.List.{AllZip}
+use Rattle.std.proofs.lemmas.Iterator.Adapters.{YieldsList-from_vec}
+use Rattle.std.proofs.lemmas.Iterator.Consumers.{YieldsList-end, YieldsList-turn}
+use Rattle.std.proofs.lemmas.List.{map-id}
+use Rattle.tca_ingest.specs.Works.{IsResult, IsResultAt, AreNumbered}
+use Rattle.tca_ingest.specs.declared.job.Done.{Done}
+use Rattle.tca_ingest.proofs.Collecting.{numbered_push, zip_length, zip_push, zip_through}
+use Rattle.tca_ingest.proofs.collect.filled.Goals as goal
+
+pub loop-place-preserved : goal.loop-place-preserved
+loop-place-preserved c =
+    let l = c.loop-place in
+    let one : Done = record { job = c.number_of-job.result; result = c.in-Some-place.result } in
+    let road = YieldsList-from_vec {s = c.into_iter-place-iterator.result} c.args.places.items (search rules) (search rules) in
+    let low = (YieldsList-turn road l.yielded l.place-iterator l.yielded_by c.next.result c.next.new.self c.in-Some.place c.in-Some.is c.next.ensures.steps).0 in
+    let places = zip_length (λ input place. IsResultAt input.now place) c.args.inputs.now c.args.places.items c.requires.results in
+    let so_far = zip_length (λ place d. place ≡ Some d.result) l.yielded l.done.items l.invariant.2 in
+    let counted : c.len-in-loop-place.result ≡ length l.done.items = search rules in
+    let number : c.number_of-job.result ≡ length l.done.items = c.number_of-job.ensures (omega (arith, counted, low, places, so_far, c.requires.count)) ∙ counted in (
+      tt,
+      tt,
+      subst (AllZip (λ place d. place ≡ Some d.result) (l.yielded ++ c.in-Some.place ∷ [])) (sym c.in_ok-put.ensures)
+          (zip_push (λ place d. place ≡ Some d.result) l.yielded l.done.items c.in-Some.place one l.invariant.2 c.in-Some-place.is),
+      subst AreNumbered (sym c.in_ok-put.ensures) (numbered_push 0 l.done.items one l.invariant.3 (number ∙ omega (arith))),
+    )
+
+pub returns-clause-done : goal.returns-clause-done
+returns-clause-done c =
+    let road = YieldsList-from_vec {s = c.into_iter-place-iterator.result} c.args.places.items (search rules) (search rules) in
+    let whole : c.loop-place.yielded ≡ c.args.places.items = sym (map-id c.loop-place.yielded) ∙ (YieldsList-end road c.loop-place.yielded c.loop-place.place-iterator c.loop-place.yielded_by c.next.result c.next.new.self c.in-None.is c.next.ensures.steps).0 in
+    zip_through (λ input place. IsResultAt input.now place) (λ place d. place ≡ Some d.result) (λ input d. IsResult input.now d.result)
+    (λ input place d fits is. subst (IsResultAt input.now) is fits)
+    c.args.inputs.now c.args.places.items c.loop-place.done.items c.requires.results
+    (subst (λ places. AllZip (λ place d. place ≡ Some d.result) places c.loop-place.done.items) whole c.loop-place.invariant.2)

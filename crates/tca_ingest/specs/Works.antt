@@ -1,0 +1,83 @@
+-- What workers answer: the result of each input, and the entries of all results.
+use Rattle.std.specs.Prelude.{◌≡◌, ◌≢◌, ℕ, suc, ◌++◌, List, [], ◌∷◌, Option, None, Some, Result, Ok, Err, map}
+use Rattle.std.specs.List.{AllByRecursion, AllZip}
+use Rattle.std.specs.declared.vec.Vec.{Vec}
+use denote.Bor.{Bor}
+use Rattle.tca_report.specs.report.Reports.{PacketReport}
+use Rattle.tca_report.specs.input.Inputs.{input_of}
+use Rattle.tca_report.specs.input.Gathered.{gathered_of}
+use Rattle.tca_report.specs.declared.input.InputFault.{InputFault}
+use Rattle.tca_report.specs.declared.input.InputFault.TheVariants.{Memory}
+use Rattle.tca_report.specs.declared.input.Notes.{Notes}
+use Rattle.tca_ingest.specs.Entries.{EntryView, pass_of}
+use Rattle.tca_ingest.specs.EntryViews.{entry_view}
+use Rattle.tca_ingest.specs.Passes.{PassView}
+use Rattle.tca_ingest.specs.Shares.{IsTake}
+use Rattle.tca_ingest.specs.declared.entry.Entry.{Entry}
+use Rattle.tca_ingest.specs.declared.entry.Receipt.{Receipt}
+use Rattle.tca_ingest.specs.declared.job.JobFault.{JobFault}
+use Rattle.tca_ingest.specs.declared.job.JobFault.TheVariants.{Input, Share}
+use Rattle.tca_ingest.specs.declared.job.Done.{Done}
+
+-- what an input holds: its reports and the notes that go with them, or why it is refused
+abbrev pub contents_of : List ℕ → Result (List PacketReport × Notes) InputFault
+contents_of octets = gathered_of (input_of octets)
+
+-- An input that is read was given to one take, whose entry lists the first of its reports, all where it did not stop; its notes come
+-- with it. An input that is refused is refused for what is wrong with it, or for want of memory, and nothing is taken. A replica
+-- refuses a take only of an input that is read.
+abbrev pub IsResult : List ℕ → Result (Notes × Receipt) JobFault → Type 0
+IsResult octets (Ok r) = (reports : List PacketReport) × (contents_of octets ≡ Ok (reports, r.0)) × ((pass : ℕ) × IsTake reports pass (entry_view r.1.entry))
+IsResult octets (Err (Input fault)) = fault ≢ Memory → contents_of octets ≡ Err fault
+IsResult octets (Err (Share fault)) = (reports : List PacketReport) × (notes : Notes) × (contents_of octets ≡ Ok (reports, notes))
+
+-- the result of a job: the input and what came of it
+pub record ResultView : Type 0 where
+  pub job : ℕ
+  pub input : List ℕ
+  pub result : Result (Notes × Receipt) JobFault
+
+-- a place that has a result has one of its input
+abbrev pub IsResultAt : List ℕ → Option (Result (Notes × Receipt) JobFault) → Type 0
+IsResultAt octets None = Unit {0}
+IsResultAt octets (Some result) = IsResult octets result
+
+abbrev pub AreResultsAt : List (Bor (List ℕ)) → List (Option (Result (Notes × Receipt) JobFault)) → Type 0
+AreResultsAt inputs places = AllZip (λ input place. IsResultAt input.now place) inputs places
+
+-- each input has its result, in order; the inputs may be borrowed
+abbrev pub AreSliceResults : List (Bor (List ℕ)) → List Done → Type 0
+AreSliceResults inputs done = AllZip (λ input d. IsResult input.now d.result) inputs done
+
+abbrev pub AreResults : {A : Type 0} → List (Vec ℕ A) → List Done → Type 0
+AreResults inputs done = AllZip (λ input d. IsResult input.items d.result) inputs done
+
+-- the results have the numbers of their jobs, in order from this one on
+abbrev pub AreNumberedFrom : ℕ → List Done → Type 0
+AreNumberedFrom n [] = Unit {0}
+AreNumberedFrom n (d ∷ ds) = (d.job ≡ n) × AreNumberedFrom (suc n) ds
+
+abbrev pub AreNumbered : List Done → Type 0
+AreNumbered done = AreNumberedFrom 0 done
+
+-- the entry that a result has
+abbrev pub entry_in : Result (Notes × Receipt) JobFault → List EntryView
+entry_in (Ok r) = entry_view r.1.entry ∷ []
+entry_in (Err fault) = []
+
+-- the entries of all results, in order
+unfoldable pub entries_in : List Done → List EntryView
+entries_in [] = []
+entries_in (d ∷ ds) = entry_in d.result ++ entries_in ds
+
+-- the entries of all passes
+unfoldable pub all_calls : List PassView → List EntryView
+all_calls [] = []
+all_calls (p ∷ ps) = p.calls ++ all_calls ps
+
+-- the calls of each pass have its number
+abbrev pub AreOwn : List PassView → Type 0
+AreOwn passes = AllByRecursion (λ p. AllByRecursion (λ e. pass_of e ≡ p.number) p.calls) passes
+
+abbrev pub views_of : List (Bor Entry) → List EntryView
+views_of es = map (λ e. entry_view e.now) es

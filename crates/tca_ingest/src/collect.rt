@@ -1,0 +1,188 @@
+//! What a run of workers brought: the result of each job, and whether the workers' passes have just these.
+ghost use Rattle.std.specs.Prelude.{◌≡◌, ◌<◌, ◌^◌, ◌++◌, IfOk, IfSome, OnOk, IsNone, true, [], ◌∷◌, length, slice_index_or};
+ghost use Rattle.std.specs.List.Sorted.{IsPermutation};
+ghost use denote.Bor.{Bor};
+ghost use Rattle.tca_ingest.specs.declared.entry.Entry.{Entry};
+ghost use Rattle.tca_ingest.specs.EntryViews.{entry_view, entry_views};
+ghost use Rattle.tca_ingest.specs.Works.{AreNumbered, AreOwn, AreResultsAt, AreSliceResults, all_calls, entries_in, entry_in, views_of};
+
+use crate::entry::{Entry, Receipt};
+use crate::fault::WorkFault;
+use crate::job::{Done, JobFault, JobResult};
+use crate::pass::Pass;
+use crate::side::Side;
+use crossbeam_channel::Receiver;
+use std::alloc::{AllocError, Global};
+use std::sync::Wait;
+use tca_report::Notes;
+
+// A place for the result of a job.
+type Place = Option<Result<(Notes, Receipt), JobFault>>;
+
+/// The results that came, in the order of their jobs. `Stranger` names a job that isn't one, that has a result already, or whose
+/// result is of another input; `JobMissing` the least job without a result.
+pub(crate) fn collect<R: Wait>(
+    rt: &R,
+    alloc: Global,
+    inputs: &[&[u8]],
+    results: Receiver<JobResult<'_>>,
+) -> Result<Vec<Done>, WorkFault>
+    requires { length inputs.now < 2 ^ 32 }
+    ensures done { IfOk result (λ done. AreSliceResults inputs.now done.items) }
+    ensures jobs { IfOk result (λ done. AreNumbered done.items) }
+{
+    let mut places = empty_places(alloc, inputs)?;
+    for _ in rt.forever() {
+        let Ok(result) = results.recv(rt) else {
+            break;
+        };
+        fill_place(inputs, &mut places, result)?;
+    }
+    filled(alloc, inputs, places)
+}
+
+// A place for each input.
+fn empty_places(alloc: Global, inputs: &[&[u8]]) -> Result<Vec<Place>, AllocError>
+    ensures { IfOk result (λ places. AreResultsAt inputs.now places.items) }
+{
+    let mut places = Vec::with_capacity(alloc, inputs.len())?;
+    for input in inputs {
+        let _ = input;
+        places.push(None)?;
+    }
+    Ok(places)
+}
+
+// Puts a result where its job is.
+fn fill_place(
+    inputs: &[&[u8]],
+    places: &mut Vec<Place>,
+    of_job: JobResult<'_>,
+) -> Result<(), WorkFault>
+    requires { AreResultsAt inputs.now places.old.items }
+    ensures { AreResultsAt inputs.now places.new.items }
+{
+    let JobResult { job, input, result } = of_job;
+    let at = job as usize;
+    if at >= inputs.len() || at >= places.len() || places[at].is_some() {
+        return Err(WorkFault::Stranger(job));
+    }
+    let wanted = inputs[at];
+    if wanted != input {
+        return Err(WorkFault::Stranger(job));
+    }
+    places[at] = Some(result);
+    Ok(())
+}
+
+// The results, where each job has one.
+fn filled(alloc: Global, inputs: &[&[u8]], places: Vec<Place>) -> Result<Vec<Done>, WorkFault>
+    requires results { AreResultsAt inputs.now places.items }
+    requires count { length inputs.now < 2 ^ 32 }
+    ensures done { IfOk result (λ done. AreSliceResults inputs.now done.items) }
+    ensures jobs { IfOk result (λ done. AreNumbered done.items) }
+{
+    let mut done = Vec::with_capacity(alloc, places.len())?;
+    for place in places {
+        let job = number_of(done.len());
+        let Some(result) = place else {
+            return Err(WorkFault::JobMissing(job));
+        };
+        put(&mut done, Done { job, result })?;
+    }
+    Ok(done)
+}
+
+// Adds a result.
+fn put(done: &mut Vec<Done>, one: Done) -> Result<(), WorkFault>
+    ensures { OnOk result (done.new.items ≡ done.old.items ++ one ∷ []) }
+{
+    match done.push(one) {
+        Ok(()) => Ok(()),
+        Err(_) => Err(WorkFault::Memory),
+    }
+}
+
+/// Why the passes don't have just the entries of the receipts, each as often: `Stranger` names the least job whose entry they lack,
+/// or else, where they have more, the number of jobs.
+#[tactic(auto, unfolding(crate::specs::Works::entries_in))]
+pub(crate) fn stranger_of<L: Side>(
+    alloc: Global,
+    done: &[Done],
+    passes: &[Pass<L>],
+) -> Option<WorkFault>
+    ensures entries { IsNone result → IsPermutation (entries_in done.now) (all_calls passes.now) }
+    ensures own { IsNone result → AreOwn passes.now }
+{
+    let Ok(mut left) = calls_in(alloc, passes) else {
+        return Some(WorkFault::Memory);
+    };
+    for job in 0..done.len() {
+        if !strike(&mut left, &done[job].result) {
+            return Some(WorkFault::Stranger(number_of(job)));
+        }
+    }
+    if left.is_empty() {
+        None
+    } else {
+        Some(WorkFault::Stranger(number_of(done.len())))
+    }
+}
+
+// Takes the entry of a result out, if it has one. False where it is not there.
+fn strike(left: &mut Vec<&Entry>, answer: &Result<(Notes, Receipt), JobFault>) -> bool
+    ensures { result ≡ true → IsPermutation (views_of left.old.items) (entry_in answer.now ++ views_of left.new.items) }
+{
+    let Ok((_, receipt)) = answer else {
+        return true;
+    };
+    match place_of(left, &receipt.entry) {
+        Some(at) => {
+            left.remove(at);
+            true
+        }
+        None => false,
+    }
+}
+
+// All entries of the passes.
+#[tactic(auto, unfolding(crate::specs::Works::all_calls))]
+fn calls_in<'a, L: Side>(alloc: Global, passes: &'a [Pass<L>]) -> Result<Vec<&'a Entry>, AllocError>
+    ensures calls { IfOk result (λ left. views_of left.items ≡ all_calls passes.now) }
+    ensures own { IfOk result (λ _. AreOwn passes.now) }
+{
+    let mut left = Vec::new(alloc);
+    for pass in passes {
+        add_calls(&mut left, pass.calls())?;
+    }
+    Ok(left)
+}
+
+// Adds the entries of one pass.
+fn add_calls<'a>(left: &mut Vec<&'a Entry>, calls: &'a [Entry]) -> Result<(), AllocError>
+    ensures { OnOk result (views_of left.new.items ≡ views_of left.old.items ++ entry_views calls.now) }
+{
+    for entry in calls {
+        left.push(entry)?;
+    }
+    Ok(())
+}
+
+// Where an entry stands.
+fn place_of(left: &[&Entry], entry: &Entry) -> Option<usize>
+    ensures { IfSome result (λ at. (at < length left.now) × ((d : Bor Entry) → entry_view (slice_index_or left.now at d).now ≡ entry_view entry.now)) }
+{
+    for at in 0..left.len() {
+        if left[at].is_same(entry) {
+            return Some(at);
+        }
+    }
+    None
+}
+
+// The number of a job. There are fewer than 2^32.
+fn number_of(job: usize) -> u32
+    ensures { job < 2 ^ 32 → result ≡ job }
+{
+    u32::try_from(job).unwrap_or(u32::MAX)
+}

@@ -1,0 +1,91 @@
+//! One input for a worker, and what comes of it.
+ghost use Rattle.std.specs.Prelude.{◌≡◌};
+ghost use Rattle.tca_ingest.specs.Faults.{job_number};
+
+use crate::entry::Receipt;
+use crate::fault::ShareFault;
+use crate::gate::Gate;
+use crate::pass::Pass;
+use crate::shared::Shared;
+use crate::side::Side;
+use std::alloc::Global;
+use std::marker::Model;
+use std::sync::Wait;
+use tca_report::{Gathered, InputFault, Notes, gather};
+use thiserror::Error;
+
+/// Why nothing of an input was taken.
+#[derive(Clone, Copy, Debug, PartialEq, Eq, Error)]
+pub enum JobFault {
+    /// The input is refused.
+    #[error("{0}")]
+    Input(InputFault),
+    /// The replica refused the take.
+    #[error("{0}")]
+    Share(ShareFault),
+}
+
+impl JobFault {
+    /// The number that stands for the fault in a program's messages.
+    pub fn number(&self) -> u8
+        ensures { result ≡ job_number self.now }
+    {
+        match self {
+            JobFault::Input(_) => 1,
+            JobFault::Share(_) => 2,
+        }
+    }
+}
+
+/// What came of a job.
+#[derive(Drop)]
+pub struct Done {
+    /// The number of the job, which is the place of its input, counted from 0.
+    pub job: u32,
+    /// The notes of the input, and the receipt of its take.
+    pub result: Result<(Notes, Receipt), JobFault>,
+}
+
+/// A worker's result, with the input that it is of.
+#[derive(Drop)]
+pub(crate) struct JobResult<'a> {
+    pub(crate) job: u32,
+    pub(crate) input: &'a [u8],
+    pub(crate) result: Result<(Notes, Receipt), JobFault>,
+}
+
+impl<'a> Model for JobResult<'a> {
+    ghost use Rattle.tca_ingest.specs.Works.{IsResult, ResultView};
+
+    ghost Value = { ResultView };
+
+    ghost view = { λ r. record { job = r.job; input = r.input.now; result = r.result } };
+
+    ghost invariant = { λ r. IsResult r.input.now r.result };
+}
+
+/// Does a job: reads its input, and takes the reports.
+pub(crate) fn do_job<'a, L: Side, R: Wait, G: Gate>(
+    rt: &R,
+    alloc: Global,
+    shared: &Shared<L>,
+    gate: &G,
+    mine: &mut Pass<L>,
+    job: u32,
+    input: &'a [u8],
+) -> JobResult<'a>
+    ensures { result.job ≡ job }
+{
+    gate.before(job);
+    let result = match gather(alloc, input) {
+        Err(fault) => Err(JobFault::Input(fault)),
+        Ok(Gathered { reports, notes }) => {
+            match shared.take_inside(rt, mine, &reports, gate, job) {
+                Ok(receipt) => Ok((notes, receipt)),
+                Err(fault) => Err(JobFault::Share(fault)),
+            }
+        }
+    };
+    gate.after(job);
+    JobResult { job, input, result }
+}

@@ -1,0 +1,215 @@
+//! Two shared replicas that tell each other what they hold, and closed ones that don't agree.
+ghost use Rattle.std.specs.Prelude.{◌≡◌};
+
+use super::{FIRST, PARTS, SECOND, THIRD, alone, plan, reports, states_three, take};
+use crate::{CloseFault, Closed, Entry, Pass, Shared, Side, close_all, exchange};
+use std::alloc::{AllocError, Global};
+use std::marker::Brand;
+use std::sync::Wait;
+use std::sync::ledger::Blank;
+use std::test::Fail;
+use tca_accounts::Plan;
+use tca_gossip::{AbsorbFault, Delta, Run};
+
+// The replica's answer to an absorb.
+fn answer(entry: &Entry) -> Option<Result<u64, AbsorbFault>> {
+    match entry {
+        Entry::Absorbed { result, .. } => Some(*result),
+        _ => None,
+    }
+}
+
+// Whether an exchange appends so many reports, and its absorb is the entry of this front.
+fn tells<I: Side, F: Side, R: Wait>(
+    rt: &R,
+    into: (&Shared<I>, &mut Pass<I>),
+    from: (&Shared<F>, &mut Pass<F>),
+    front: u64,
+    count: u64,
+) -> Result<bool, Fail> {
+    let receipt = exchange(rt, into.0, into.1, from.0, from.1)?;
+    Ok(receipt.front == front && answer(&receipt.entry) == Some(Ok(count)))
+}
+
+// Whether the eighth call is the statement of the first three rows.
+fn ends<L: Side, R: Wait>(rt: &R, shared: &Shared<L>, pass: &mut Pass<L>) -> Result<bool, Fail> {
+    let receipt = shared.statement(rt, pass)?;
+    Ok(receipt.front == 8 && states_three(&receipt.entry))
+}
+
+// Two replicas that took two reports each, one of them the same, tell each other twice.
+fn tell_each_other<I: Side, F: Side, R: Wait>(
+    rt: &R,
+    alloc: Global,
+    one: (&Shared<I>, &mut Pass<I>),
+    two: (&Shared<F>, &mut Pass<F>),
+) -> Result<bool, Fail> {
+    let ((into, mine), (from, theirs)) = (one, two);
+    let first = take(rt, alloc, into, mine, &[FIRST, SECOND])?;
+    let second = take(rt, alloc, from, theirs, &[SECOND, THIRD])?;
+    let agreed = tells(rt, (into, mine), (from, theirs), 3, 2)?;
+    let back = tells(rt, (from, theirs), (into, mine), 4, 2)?;
+    let again = tells(rt, (into, mine), (from, theirs), 6, 0)?;
+    let back_again = tells(rt, (from, theirs), (into, mine), 7, 0)?;
+    let ended = ends(rt, into, mine)?;
+    let other_ended = ends(rt, from, theirs)?;
+    let taken = first == Some(1) && second == Some(1);
+    Ok(taken && agreed && back && again && back_again && ended && other_ended)
+}
+
+// Closes with one pass.
+fn closed<L: Side>(alloc: Global, shared: Shared<L>, pass: Pass<L>) -> Result<Closed, Fail> {
+    Ok(shared.close(alone(alloc, pass)?).ok().ok_or("a close")?)
+}
+
+// Two closed replicas, as one list.
+fn both(alloc: Global, one: Closed, two: Closed) -> Result<Vec<Closed>, AllocError> {
+    let mut both = Vec::new(alloc);
+    both.push(one)?;
+    both.push(two)?;
+    Ok(both)
+}
+
+// Whether two replicas that tell each other close, with three reports each, and agree.
+fn agree<I: Side, F: Side, R: Wait>(
+    rt: &R,
+    alloc: Global,
+    into: Shared<I>,
+    from: Shared<F>,
+) -> Result<bool, Fail> {
+    let (mut mine, mut theirs) = (into.pass(rt)?, from.pass(rt)?);
+    let agreed = tell_each_other(rt, alloc, (&into, &mut mine), (&from, &mut theirs))?;
+    let (one, two) = (closed(alloc, into, mine)?, closed(alloc, from, theirs)?);
+    let whole = one.replica.log().len() == 3 && two.replica.log().len() == 3;
+    let both = both(alloc, one, two)?;
+    Ok(agreed && whole && close_all(&both).is_ok())
+}
+
+fn agreed<I: Side, F: Side, R: Wait>(
+    rt: &R,
+    alloc: Global,
+    one: (Blank, u32, Plan),
+    two: (Blank, u32, Plan),
+) -> Result<bool, Fail>
+    requires name { (one.0.name ≡ I.name) × (two.0.name ≡ F.name) }
+    requires parts { (one.0.parts ≡ I.parts) × (I.parts ≡ 65537) × (two.0.parts ≡ F.parts) × (F.parts ≡ 65537) }
+    requires called { (one.1 ≡ I.called) × (two.1 ≡ F.called) }
+    requires plan { (one.2 ≡ I.plan) × (two.2 ≡ F.plan) }
+{
+    let into = Shared::<I>::new(alloc, one.0, one.1, one.2)?;
+    let from = Shared::<F>::new(alloc, two.0, two.1, two.2)?;
+    agree(rt, alloc, into, from)
+}
+
+#[test]
+fn replicas_tell_each_other_what_they_hold(rt: HostRuntime) -> Result<(), Fail> {
+    let one = (Blank::new(PARTS), 1, plan(rt.alloc())?);
+    let two = (Blank::new(PARTS), 2, plan(rt.alloc())?);
+    assert!(rt; agreed::<Brand, Brand, _>(&rt, rt.alloc(), one, two)?);
+    Ok(())
+}
+
+// A delta of one run.
+fn one_run(
+    alloc: Global,
+    origin: u32,
+    start: u32,
+    rows: &[(u32, u32, u32)],
+) -> Result<Delta, Fail> {
+    let mut runs = Vec::new(alloc);
+    runs.push(Run {
+        origin,
+        start,
+        reports: reports(alloc, rows)?,
+    })?;
+    Ok(Delta::of(runs).ok_or("a delta")?)
+}
+
+// Whether the absorb of a delta of one run is refused with this fault.
+fn refuses<L: Side, R: Wait>(
+    rt: &R,
+    shared: &Shared<L>,
+    pass: &mut Pass<L>,
+    delta: &Delta,
+    fault: AbsorbFault,
+) -> Result<bool, Fail> {
+    let receipt = shared.absorb(rt, pass, delta)?;
+    Ok(answer(&receipt.entry) == Some(Err(fault)))
+}
+
+// A run past what is held is a gap, and one of the own name that ends past the own chain is ahead of it.
+fn stays<L: Side, R: Wait>(rt: &R, alloc: Global, shared: Shared<L>) -> Result<bool, Fail> {
+    let mut pass = shared.pass(rt)?;
+    let taken = take(rt, alloc, &shared, &mut pass, &[FIRST, SECOND])?;
+    let past = one_run(alloc, 2, 2, &[])?;
+    let gap = AbsorbFault::Gap {
+        origin: 2,
+        have: 0,
+        from: 2,
+    };
+    let far = refuses(rt, &shared, &mut pass, &past, gap)?;
+    let longer = one_run(alloc, 1, 0, &[FIRST, SECOND, THIRD])?;
+    let own = AbsorbFault::OwnAhead { have: 2, said: 3 };
+    let ahead = refuses(rt, &shared, &mut pass, &longer, own)?;
+    let closed = closed(alloc, shared, pass)?;
+    let same = closed.replica.log().len() == 2 && closed.replica.chain(1).len() == 2;
+    Ok(taken == Some(1) && far && ahead && same && closed.journal.len() == 3)
+}
+
+fn stays_as_it_was<L: Side, R: Wait>(
+    rt: &R,
+    alloc: Global,
+    blank: Blank,
+    name: u32,
+    plan: Plan,
+) -> Result<bool, Fail>
+    requires name { blank.name ≡ L.name }
+    requires parts { (blank.parts ≡ L.parts) × (L.parts ≡ 65537) }
+    requires called { name ≡ L.called }
+    requires plan { plan ≡ L.plan }
+{
+    let shared = Shared::<L>::new(alloc, blank, name, plan)?;
+    stays(rt, alloc, shared)
+}
+
+#[test]
+fn a_refused_absorb_changes_nothing(rt: HostRuntime) -> Result<(), Fail> {
+    let plan = plan(rt.alloc())?;
+    assert!(rt; stays_as_it_was::<Brand, _>(&rt, rt.alloc(), Blank::new(PARTS), 1, plan)?);
+    Ok(())
+}
+
+// A closed replica that took these.
+fn with<L: Side, R: Wait>(
+    rt: &R,
+    alloc: Global,
+    blank: Blank,
+    name: u32,
+    plan: Plan,
+    rows: &[(u32, u32, u32)],
+) -> Result<Closed, Fail>
+    requires name { blank.name ≡ L.name }
+    requires parts { (blank.parts ≡ L.parts) × (L.parts ≡ 65537) }
+    requires called { name ≡ L.called }
+    requires plan { plan ≡ L.plan }
+{
+    let shared = Shared::<L>::new(alloc, blank, name, plan)?;
+    let mut pass = shared.pass(rt)?;
+    take(rt, alloc, &shared, &mut pass, rows)?;
+    closed(alloc, shared, pass)
+}
+
+#[test]
+fn closed_replicas_of_one_name_clash(rt: HostRuntime) -> Result<(), Fail> {
+    let alloc = rt.alloc();
+    let plan_of_one = plan(alloc)?;
+    let one = with::<Brand, _>(&rt, alloc, Blank::new(PARTS), 1, plan_of_one, &[FIRST])?;
+    let plan_of_two = plan(alloc)?;
+    let two = with::<Brand, _>(&rt, alloc, Blank::new(PARTS), 1, plan_of_two, &[SECOND])?;
+    assert_eq!(rt;
+        close_all(&both(alloc, one, two)?),
+        Err(CloseFault::Clash { origin: 1 })
+    );
+    assert_eq!(rt; close_all(&[]), Ok(()));
+    Ok(())
+}

@@ -1,0 +1,146 @@
+//! Two threads on one replica.
+ghost use Rattle.std.specs.Prelude.{◌≡◌};
+
+use super::{FIRST, PARTS, SECOND, THIRD, alone, plan, reports};
+use crate::{Closed, Entry, Pass, Shared, Side};
+use std::alloc::{AllocError, Global};
+use std::marker::Brand;
+use std::sync::Wait;
+use std::sync::ledger::Blank;
+use std::test::Fail;
+use std::thread;
+use std::thread::Threads;
+use tca_accounts::Plan;
+use tca_gossip::{Delta, Replica, Run};
+use tca_log::Log;
+use tca_report::Report;
+
+// What two threads give one replica: a list each, and a delta that both absorb.
+#[derive(Drop)]
+struct Day {
+    some: Vec<Report>,
+    others: Vec<Report>,
+    delta: Delta,
+}
+
+fn planned(alloc: Global) -> Result<Day, Fail> {
+    let mut runs = Vec::new(alloc);
+    runs.push(Run {
+        origin: 2,
+        start: 0,
+        reports: reports(alloc, &[THIRD, (9, 3, 40)])?,
+    })?;
+    Ok(Day {
+        some: reports(alloc, &[FIRST, SECOND, (5, 7, 90)])?,
+        others: reports(alloc, &[SECOND, THIRD, (6, 8, 70), (5, 9, 60)])?,
+        delta: Delta::of(runs).ok_or("a delta")?,
+    })
+}
+
+// Whether an entry is an absorb that went to its end.
+fn is_whole(entry: &Entry) -> bool {
+    match entry {
+        Entry::Absorbed { result, .. } => result.is_ok(),
+        _ => false,
+    }
+}
+
+// Takes reports one by one, asking for the statement after each, and absorbs a delta; answers whether nothing was refused.
+fn works<L: Side, R: Wait>(
+    rt: &R,
+    shared: &Shared<L>,
+    pass: &mut Pass<L>,
+    list: &[Report],
+    delta: &Delta,
+) -> bool {
+    for report in list {
+        let one = [*report];
+        if shared.take(rt, pass, &one).is_err() || shared.statement(rt, pass).is_err() {
+            return false;
+        }
+    }
+    match shared.absorb(rt, pass, delta) {
+        Ok(receipt) => is_whole(&receipt.entry),
+        Err(_) => false,
+    }
+}
+
+// Two threads work on one replica; answers whether nothing was refused.
+fn at_once<L: Side + Send + Sync, R: Threads + Wait + Sync>(
+    rt: &R,
+    shared: &Shared<L>,
+    first: &mut Pass<L>,
+    second: &mut Pass<L>,
+    day: &Day,
+) -> bool {
+    let (one, other) = thread::join(
+        rt,
+        move || works(rt, shared, first, &day.some, &day.delta),
+        move || works(rt, shared, second, &day.others, &day.delta),
+    );
+    one && other
+}
+
+// Whether two logs have the same reports.
+fn are_same(one: &Log, other: &Log) -> bool {
+    if one.len() != other.len() {
+        return false;
+    }
+    for report in one.reports() {
+        if !other.contains(report) {
+            return false;
+        }
+    }
+    true
+}
+
+// Whether the replica is as one that a single thread gave all of it, with this many entries.
+fn is_as_plain(closed: &Closed, plain: &mut Replica, day: &Day) -> Result<bool, AllocError> {
+    plain.take(&day.some);
+    plain.take(&day.others);
+    let absorbed = plain.absorb(&day.delta).is_ok();
+    let same_bill = closed.replica.totals()?.is_same(&plain.totals()?);
+    let whole = closed.journal.len() == 16 && absorbed;
+    Ok(whole && same_bill && are_same(closed.replica.log(), plain.log()))
+}
+
+// Two threads share a replica, which is closed then and compared with a plain one.
+fn shares<L: Side + Send + Sync, R: Threads + Wait + Sync>(
+    rt: &R,
+    alloc: Global,
+    shared: Shared<L>,
+    plain: Replica,
+) -> Result<bool, Fail> {
+    let day = planned(alloc)?;
+    let (mut first, mut second) = (shared.pass(rt)?, shared.pass(rt)?);
+    let worked = at_once(rt, &shared, &mut first, &mut second, &day);
+    let mut passes = alone(alloc, second)?;
+    passes.push(first)?;
+    let closed = shared.close(passes).ok().ok_or("a close")?;
+    let mut other = plain;
+    Ok(worked && is_as_plain(&closed, &mut other, &day)?)
+}
+
+fn by_two<L: Side + Send + Sync, R: Threads + Wait + Sync>(
+    rt: &R,
+    alloc: Global,
+    blank: Blank,
+    name: u32,
+    plan: Plan,
+) -> Result<bool, Fail>
+    requires name { blank.name ≡ L.name }
+    requires parts { (blank.parts ≡ L.parts) × (L.parts ≡ 65537) }
+    requires called { name ≡ L.called }
+    requires plan { plan ≡ L.plan }
+{
+    let plain = Replica::new(alloc, name, plan.copy(alloc)?)?;
+    let shared = Shared::<L>::new(alloc, blank, name, plan)?;
+    shares(rt, alloc, shared, plain)
+}
+
+#[test]
+fn two_threads_share_a_replica(rt: HostRuntime) -> Result<(), Fail> {
+    let plan = plan(rt.alloc())?;
+    assert!(rt; by_two::<Brand, _>(&rt, rt.alloc(), Blank::new(PARTS), 1, plan)?);
+    Ok(())
+}

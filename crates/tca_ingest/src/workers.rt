@@ -1,0 +1,278 @@
+//! Threads that take inputs into one shared replica.
+ghost use Rattle.std.specs.Prelude.{◌≡◌, ◌≢◌, ◌⊎◌, ◌+◌, ◌<◌, ◌≤◌, ◌^◌, IfErr, IfOk, OnOk, length, map, vec_capacity, vec_len};
+ghost use Rattle.std.specs.List.Sorted.{IsPermutation};
+ghost use Rattle.tca_ingest.specs.Works.{AreNumbered, AreOwn, AreResults, AreSliceResults, all_calls, entries_in};
+
+use crate::collect::{collect, stranger_of};
+use crate::fault::WorkFault;
+use crate::gate::Gate;
+use crate::job::{Done, JobResult};
+use crate::pass::Pass;
+use crate::shared::Shared;
+use crate::side::Side;
+use crate::worker::{Ends, Setting, do_jobs};
+use crossbeam_channel::{Receiver, Sender, unbounded};
+use std::alloc::{AllocError, Global};
+use std::sync::Wait;
+use std::sync::atomic::{AtomicBool, Ordering};
+use std::thread;
+use std::thread::{JoinHandle, Scope, Threads};
+
+/// The results in the order of their jobs, and the workers' passes.
+#[derive(Drop)]
+pub struct Worked<L: Side> {
+    pub done: Vec<Done>,
+    pub passes: Vec<Pass<L>>,
+}
+
+/// What a refused call hands back: all passes that it made. Some jobs may have been done, and then the passes have their entries.
+#[derive(Drop)]
+pub struct WorkRefused<L: Side> {
+    pub fault: WorkFault,
+    pub passes: Vec<Pass<L>>,
+}
+
+/// Does each input as a job, by this many threads, each with a pass of its own. Job `n` is input `n`: it is gathered, and its reports
+/// are taken by one `take`. An input that is refused is the fault of its job, and the others go on.
+///
+/// All passes are made before the first thread is started, and all threads are joined before a result is looked at. `PassesOut` comes
+/// where the replica has no more passes, `NoThread` where a thread couldn't be started, and `Memory` where a growth was refused, other
+/// than one that a job needed. `JobMissing` and `Stranger` come where the results aren't one for each input, or the passes have other
+/// entries than the results; no use of this crate leads there. All hand back each pass that was made.
+pub fn work<L: Side + Send + Sync, R: Threads + Wait + Sync, G: Gate>(
+    rt: &R,
+    alloc: Global,
+    shared: &Shared<L>,
+    inputs: &[Vec<u8>],
+    gate: &G,
+    workers: u32,
+) -> Result<Worked<L>, WorkRefused<L>>
+    requires workers { (1 ≤ workers) × (workers ≤ 64) }
+    requires inputs { length inputs.now < 2 ^ 32 }
+    ensures done { IfOk result (λ w. AreResults inputs.now w.done.items) }
+    ensures jobs { IfOk result (λ w. AreNumbered w.done.items) }
+    ensures entries { IfOk result (λ w. IsPermutation (entries_in w.done.items) (all_calls w.passes.items)) }
+    ensures own { IfOk result (λ w. AreOwn w.passes.items) }
+    ensures passes { IfOk result (λ w. length w.passes.items ≡ workers) }
+    ensures back { IfErr result (λ r. r.fault ≢ WorkFault.PassesOut → r.fault ≢ WorkFault.Memory → length r.passes.items ≡ workers) }
+{
+    match slices_of(alloc, inputs) {
+        Ok(slices) => work_on(rt, alloc, shared, &slices, gate, workers),
+        Err(_) => Err(WorkRefused {
+            fault: WorkFault::Memory,
+            passes: Vec::new(alloc),
+        }),
+    }
+}
+
+// The inputs, borrowed.
+fn slices_of<'a>(alloc: Global, inputs: &'a [Vec<u8>]) -> Result<Vec<&'a [u8]>, AllocError>
+    ensures { IfOk result (λ slices. map (λ s. s.now) slices.items ≡ map (λ v. v.items) inputs.now) }
+{
+    let mut slices = Vec::with_capacity(alloc, inputs.len())?;
+    for input in inputs {
+        slices.push(input.as_slice())?;
+    }
+    Ok(slices)
+}
+
+/// Does inputs that are borrowed as jobs, as `work` does.
+pub fn work_on<L: Side + Send + Sync, R: Threads + Wait + Sync, G: Gate>(
+    rt: &R,
+    alloc: Global,
+    shared: &Shared<L>,
+    inputs: &[&[u8]],
+    gate: &G,
+    workers: u32,
+) -> Result<Worked<L>, WorkRefused<L>>
+    requires workers { (1 ≤ workers) × (workers ≤ 64) }
+    requires inputs { length inputs.now < 2 ^ 32 }
+    ensures done { IfOk result (λ w. AreSliceResults inputs.now w.done.items) }
+    ensures jobs { IfOk result (λ w. AreNumbered w.done.items) }
+    ensures entries { IfOk result (λ w. IsPermutation (entries_in w.done.items) (all_calls w.passes.items)) }
+    ensures own { IfOk result (λ w. AreOwn w.passes.items) }
+    ensures passes { IfOk result (λ w. length w.passes.items ≡ workers) }
+    ensures back { IfErr result (λ r. r.fault ≢ WorkFault.PassesOut → r.fault ≢ WorkFault.Memory → length r.passes.items ≡ workers) }
+{
+    let mut passes = Vec::new(alloc);
+    let halted = AtomicBool::new(false);
+    let setting = Setting {
+        rt,
+        alloc,
+        shared,
+        gate,
+        inputs,
+        halted: &halted,
+    };
+    match done_by(&setting, workers, &mut passes) {
+        Ok(done) => Ok(Worked { done, passes }),
+        Err(fault) => Err(WorkRefused { fault, passes }),
+    }
+}
+
+// The results of all jobs. The passes that it makes are there in each case.
+fn done_by<'a, L: Side + Send + Sync, R: Threads + Wait + Sync, G: Gate>(
+    setting: &Setting<'a, L, R, G>,
+    workers: u32,
+    passes: &mut Vec<Pass<L>>,
+) -> Result<Vec<Done>, WorkFault>
+    requires inputs { length setting.now.inputs.now < 2 ^ 32 }
+    requires passes { vec_len passes.old ≡ 0 }
+    ensures done { IfOk result (λ done. AreSliceResults setting.now.inputs.now done.items) }
+    ensures jobs { IfOk result (λ done. AreNumbered done.items) }
+    ensures entries { IfOk result (λ done. IsPermutation (entries_in done.items) (all_calls passes.new.items)) }
+    ensures own { OnOk result (AreOwn passes.new.items) }
+    ensures passes { OnOk result (vec_len passes.new ≡ workers) }
+    ensures back { IfErr result (λ f. f ≢ WorkFault.PassesOut → f ≢ WorkFault.Memory → vec_len passes.new ≡ workers) }
+{
+    let alloc = setting.alloc;
+    make_passes(setting.rt, setting.shared, workers, passes)?;
+    let (job_numbers, jobs) = unbounded(alloc)?;
+    let (results, from_workers) = unbounded(alloc)?;
+    send_jobs(setting.rt, job_numbers, setting.inputs.len())?;
+    let ends = ends_of(alloc, jobs, results, passes.len())?;
+    run_all(setting, passes, ends)?;
+    if setting.halted.load(Ordering::SeqCst) {
+        return Err(WorkFault::Memory);
+    }
+    let done = collect(setting.rt, alloc, setting.inputs, from_workers)?;
+    match stranger_of(alloc, &done, passes) {
+        Some(fault) => Err(fault),
+        None => Ok(done),
+    }
+}
+
+// Makes this many passes.
+fn make_passes<L: Side, R: Wait>(
+    rt: &R,
+    shared: &Shared<L>,
+    count: u32,
+    passes: &mut Vec<Pass<L>>,
+) -> Result<(), WorkFault>
+    ensures count { OnOk result (vec_len passes.new ≡ vec_len passes.old + count) }
+    ensures fault { IfErr result (λ f. (f ≡ WorkFault.PassesOut) ⊎ (f ≡ WorkFault.Memory)) }
+{
+    for _ in 0..count {
+        passes.reserve(1)?;
+        match shared.pass(rt) {
+            Ok(pass) => passes.push_reserved(pass),
+            Err(_) => return Err(WorkFault::PassesOut),
+        }
+    }
+    Ok(())
+}
+
+// Sends the numbers of this many jobs, and closes the channel.
+fn send_jobs<R: Wait>(rt: &R, jobs: Sender<u32>, count: usize) -> Result<(), WorkFault>
+    requires { count < 2 ^ 32 }
+{
+    for job in 0..count {
+        if jobs.send(rt, job as u32).is_err() {
+            return Err(WorkFault::Memory);
+        }
+    }
+    Ok(())
+}
+
+// The ends of the two channels for this many workers. No others are left.
+fn ends_of<'a>(
+    alloc: Global,
+    jobs: Receiver<u32>,
+    results: Sender<JobResult<'a>>,
+    count: usize,
+) -> Result<Vec<Ends<'a>>, AllocError> {
+    let mut ends = Vec::with_capacity(alloc, count)?;
+    for _ in 0..count {
+        let mine = Ends {
+            jobs: jobs.clone()?,
+            results: results.clone()?,
+        };
+        ends.push(mine)?;
+    }
+    Ok(ends)
+}
+
+// Has the passes' workers do all jobs.
+fn run_all<'a, L: Side + Send + Sync, R: Threads + Wait + Sync, G: Gate>(
+    setting: &Setting<'a, L, R, G>,
+    passes: &mut Vec<Pass<L>>,
+    ends: Vec<Ends<'a>>,
+) -> Result<(), WorkFault>
+    ensures { vec_len passes.new ≡ vec_len passes.old }
+{
+    let given = std::mem::replace(passes, Vec::new(setting.alloc));
+    let (outcome, back) = thread::scope(
+        thread::scope_env(),
+        setting.rt,
+        |scope| -> (Result<(), WorkFault>, Vec<Pass<L>>)
+            ensures { vec_len result.1 ≡ vec_len given }
+        { run_in(scope, setting, given, ends) },
+    );
+    *passes = back;
+    outcome
+}
+
+// Starts a worker for each pass, joins them, and gives the passes back.
+fn run_in<'s, 'a: 's, E, L: Side + Send + Sync, R: Threads + Wait + Sync, G: Gate>(
+    scope: &Scope<'s, E>,
+    setting: &'s Setting<'a, L, R, G>,
+    passes: Vec<Pass<L>>,
+    ends: Vec<Ends<'a>>,
+) -> (Result<(), WorkFault>, Vec<Pass<L>>)
+    ensures { vec_len result.1 ≡ vec_len passes }
+{
+    let mut passes = passes;
+    let Ok(mut running) = Vec::with_capacity(setting.alloc, passes.len()) else {
+        return (Err(WorkFault::Memory), passes);
+    };
+    let outcome = start_all(scope, setting, &mut passes, ends, &mut running);
+    join_all(setting.rt, running, &mut passes);
+    (outcome, passes)
+}
+
+// Starts a worker for each pass, from the last on. Where a thread can't be started the run is halted, and the passes that are left
+// stay there.
+fn start_all<'s, 'a: 's, E, L: Side + Send + Sync, R: Wait + Sync, G: Gate>(
+    scope: &Scope<'s, E>,
+    setting: &'s Setting<'a, L, R, G>,
+    passes: &mut Vec<Pass<L>>,
+    ends: Vec<Ends<'a>>,
+    running: &mut Vec<JoinHandle<Pass<L>>>,
+) -> Result<(), WorkFault>
+    requires { vec_len passes.old + vec_len running.old ≤ vec_capacity running.old }
+    ensures count { vec_len passes.new + vec_len running.new ≡ vec_len passes.old + vec_len running.old }
+    ensures capacity { vec_capacity passes.new ≡ vec_capacity passes.old }
+{
+    for mine in ends {
+        let Some(pass) = passes.pop() else {
+            break;
+        };
+        match scope.spawn(move || do_jobs(setting, pass, mine)) {
+            Ok(handle) => running.push_reserved(handle),
+            Err(refused) => {
+                setting.halted.store(true, Ordering::SeqCst);
+                passes.push_reserved((refused.value)());
+                return Err(WorkFault::NoThread);
+            }
+        }
+    }
+    Ok(())
+}
+
+// Joins all workers, from the last on, and puts their passes back.
+fn join_all<L: Side, R: Threads>(
+    rt: &R,
+    running: Vec<JoinHandle<Pass<L>>>,
+    passes: &mut Vec<Pass<L>>,
+)
+    requires { vec_len passes.old + vec_len running ≤ vec_capacity passes.old }
+    ensures { vec_len passes.new ≡ vec_len passes.old + vec_len running }
+{
+    let mut left = running;
+    for _ in 0..left.len() {
+        let Some(handle) = left.pop() else {
+            break;
+        };
+        passes.push_reserved(handle.join(rt));
+    }
+}
