@@ -1,5 +1,5 @@
--- Log, chains and book go on agreeing.
-use Rattle.std.proofs.Common.{◌≡◌, ◌≢◌, ◌≤◌, ◌<◌, ℕ, Bool, true, false, cond, nat_lt, Option, None, Some, List, [], ◌∷◌, ◌++◌, ◌==◌, length, refl, sym, ap, ◌∙◌, subst, arith}
+-- Log, chains and bill go on agreeing.
+use Rattle.std.proofs.Common.{◌≡◌, ◌≢◌, ◌≤◌, ◌<◌, ℕ, Bool, true, false, true≢false, cond, nat_lt, Option, None, Some, List, [], ◌∷◌, ◌++◌, ◌==◌, length, refl, sym, ap, ◌∙◌, subst, arith}
 use Rattle.std.proofs.lemmas.Bool.{eqb-true, eqb-false, ltb-false}
 use Rattle.tca_report.specs.report.Reports.{PacketReport, report_cmp}
 use Rattle.tca_join.specs.Sets.{has, in_order}
@@ -11,32 +11,35 @@ use Rattle.tca_join.proofs.Differ.{longer_covers}
 use Rattle.tca_join.proofs.Unions.{union_longer}
 use Rattle.tca_report.proofs.lemmas.report.Order.{report_total, report_exact}
 use Rattle.tca_accounts.specs.Plans.{AccountPlan}
-use Rattle.tca_replay.specs.Books.{BookView, Fits}
 use Rattle.tca_gossip.specs.Replicas.{ReplicaView, IsReplica, append_one, chain_of, least_of, merge_clash, merged_with, new_replica, or_empty}
-use Rattle.tca_gossip.specs.Kept.{AreContents, IsOwnWithin, held_in, replica_of}
+use Rattle.tca_gossip.specs.Kept.{AreContents, IsOwnWithin, held_in, replica_of, BillingView, Bills}
 use Rattle.tca_gossip.proofs.Takes.{replica_append, replica_opened}
 use Rattle.tca_gossip.proofs.Sizes.{own_within}
 use Rattle.tca_gossip.proofs.Merges.{replica_merged}
 use Rattle.tca_gossip.proofs.Plains.{held_merged}
 use Rattle.tca_gossip.proofs.Worlds.{or_join}
 
-pub nothing_agrees : (name : ℕ) (book : BookView) → Fits [] book → AreContents name [] [] book
-nothing_agrees name book fits = record { rises = tt; replica = replica_opened book.plan name; within = omega arith; fits = fits }
+-- the bill of any log, where no book is kept
+pub without_book : (log : List PacketReport) (billing : BillingView) → billing.kept ≡ false → Bills log billing
+without_book log billing none kept = absurd (true≢false (sym kept ∙ none))
+
+pub nothing_agrees : (name : ℕ) (billing : BillingView) → Bills [] billing → AreContents name [] [] billing
+nothing_agrees name billing fits = record { rises = tt; replica = replica_opened billing.plan name; within = omega arith; fits = fits }
 
 -- the same reports in chains and log
 same_replica : (name : ℕ) (log : List PacketReport) (chains more : List (ℕ × ChainView PacketReport)) (plan next : AccountPlan) → held_in more ≡ held_in chains → next ≡ plan → replica_of name next log more ≡ replica_of name plan log chains
 same_replica name log chains more plan next held planned = λ i. record { name = name; plan = planned i; log = log; chains = held i }
 
-pub room_agrees : (name : ℕ) (log : List PacketReport) (chains more : List (ℕ × ChainView PacketReport)) (book next : BookView) → AreContents name log chains book → Rises more → held_in more ≡ held_in chains → next.plan ≡ book.plan → Fits log next → AreContents name log more next
-room_agrees name log chains more book next are rises held planned fits =
-    let same = sym (same_replica name log chains more book.plan next.plan held planned) in
+pub room_agrees : (name : ℕ) (log : List PacketReport) (chains more : List (ℕ × ChainView PacketReport)) (billing next : BillingView) → AreContents name log chains billing → Rises more → held_in more ≡ held_in chains → next.plan ≡ billing.plan → Bills log next → AreContents name log more next
+room_agrees name log chains more billing next are rises held planned fits =
+    let same = sym (same_replica name log chains more billing.plan next.plan held planned) in
     record { rises = rises; replica = subst IsReplica same are.replica; within = subst IsOwnWithin same are.within; fits = fits }
 
 -- a report more
-pub report_agrees : (name : ℕ) (log : List PacketReport) (chains more : List (ℕ × ChainView PacketReport)) (book next : BookView) (o : ℕ) (r : PacketReport) → AreContents name log chains book → Rises more → held_in more ≡ put (λ w u. w ++ u) o (r ∷ []) (held_in chains)
-    → next.plan ≡ book.plan → Fits (put_report report_cmp r log) next → (o ≡ name → has report_cmp log r ≡ false) → AreContents name (put_report report_cmp r log) more next
-report_agrees name log chains more book next o r are rises held planned fits new =
-    let v = replica_of name book.plan log chains in
+pub report_agrees : (name : ℕ) (log : List PacketReport) (chains more : List (ℕ × ChainView PacketReport)) (billing next : BillingView) (o : ℕ) (r : PacketReport) → AreContents name log chains billing → Rises more → held_in more ≡ put (λ w u. w ++ u) o (r ∷ []) (held_in chains)
+    → next.plan ≡ billing.plan → Bills (put_report report_cmp r log) next → (o ≡ name → has report_cmp log r ≡ false) → AreContents name (put_report report_cmp r log) more next
+report_agrees name log chains more billing next o r are rises held planned fits new =
+    let v = replica_of name billing.plan log chains in
     let same : append_one v (o, r) ≡ replica_of name next.plan (put_report report_cmp r log) more = λ i. record { name = name; plan = sym planned i; log = put_report report_cmp r log; chains = sym held i } in
     record {
       rises = rises;
@@ -78,11 +81,11 @@ module _ (eq : PacketReport → PacketReport → Bool) (exact : (x y : PacketRep
         grows : (a b c d : ℕ) → a ≡ b → b ≤ c → c ≤ d → a ≤ d
         grows a b c d e f g = omega (arith, e, f, g)
 
-  pub merged_agrees : (name other_name : ℕ) (log other_log : List PacketReport) (chains others : List (ℕ × ChainView PacketReport)) (book other next : BookView) → AreContents name log chains book → AreContents other_name other_log others other
-      → merge_clash eq (replica_of name book.plan log chains) (replica_of other_name other.plan other_log others) ≡ None → next.plan ≡ book.plan → Fits (in_order report_cmp (log ++ other_log)) next
+  pub merged_agrees : (name other_name : ℕ) (log other_log : List PacketReport) (chains others : List (ℕ × ChainView PacketReport)) (billing other next : BillingView) → AreContents name log chains billing → AreContents other_name other_log others other
+      → merge_clash eq (replica_of name billing.plan log chains) (replica_of other_name other.plan other_log others) ≡ None → next.plan ≡ billing.plan → Bills (in_order report_cmp (log ++ other_log)) next
       → AreContents name (in_order report_cmp (log ++ other_log)) (merged chain_joined chains others) next
-  merged_agrees name other_name log other_log chains others book other next are are_others none planned fits =
-      let v = replica_of name book.plan log chains in
+  merged_agrees name other_name log other_log chains others billing other next are are_others none planned fits =
+      let v = replica_of name billing.plan log chains in
       let w = replica_of other_name other.plan other_log others in
       let held = held_merged chains others are.rises are_others.rises in
       let same : merged_with v w ≡ replica_of name next.plan (in_order report_cmp (log ++ other_log)) (merged chain_joined chains others) = λ i. record { name = name; plan = sym planned i; log = in_order report_cmp (log ++ other_log); chains = sym held i } in

@@ -17,9 +17,8 @@ use Rattle.tca_join.proofs.Search.{put_again}
 use Rattle.tca_join.proofs.Merge.{in_order_alike}
 use Rattle.tca_join.proofs.Firsts.{only_map}
 use Rattle.tca_accounts.specs.Plans.{AccountPlan}
-use Rattle.tca_replay.specs.Books.{BookView, Fits}
 use Rattle.tca_gossip.specs.Replicas.{ReplicaView, IsReplica, or_empty, chain_of, append_one, appended, fresh_of, with_origin, taken, of, reports_in}
-use Rattle.tca_gossip.specs.Kept.{AreContents, IsOwnWithin, chain_items, kept_of, held_in, replica_of}
+use Rattle.tca_gossip.specs.Kept.{AreContents, IsOwnWithin, chain_items, kept_of, held_in, replica_of, BillingView, Bills}
 use Rattle.tca_gossip.proofs.Appends.{appended_name, appended_plan, appended_rises, chain_appended, log_appended, of_tagged, of_other, reports_tagged}
 use Rattle.tca_gossip.proofs.Plains.{some_chain, rises_held, get_held, chain_held, kept_set}
 use Rattle.tca_gossip.proofs.Sizes.{put_new}
@@ -110,10 +109,10 @@ own_grows v ps rises within grows =
       sums a b c d e p q s = omega (arith, p, q, s)
 
 -- chains and a log that got these are those of the replica to which these were appended
-module _ (name : ℕ) (log more : List PacketReport) (es fs : List (ℕ × ChainView PacketReport)) (book : BookView) (are : AreContents name log es book) (ps : List (ℕ × PacketReport)) (rises : Rises fs)
+module _ (name : ℕ) (log more : List PacketReport) (es fs : List (ℕ × ChainView PacketReport)) (billing : BillingView) (are : AreContents name log es billing) (ps : List (ℕ × PacketReport)) (rises : Rises fs)
     (chains : (q : ℕ) → kept_of fs q ≡ kept_of es q ++ of q ps) (logs : more ≡ in_order report_cmp (log ++ reports_in ps)) where
   abbrev before : ReplicaView
-  before = replica_of name book.plan log es
+  before = replica_of name billing.plan log es
 
   held_are : held_in fs ≡ (appended before ps).chains
   held_are =
@@ -121,48 +120,48 @@ module _ (name : ℕ) (log more : List PacketReport) (es fs : List (ℕ × Chain
       only_map (List PacketReport) (held_in fs) (appended before ps).chains (rises_held fs rises) (appended_rises before ps kept) (λ q.
       get_held fs q rises
       ∙ ap some_chain (chains q ∙ ap (λ (l : List PacketReport). l ++ of q ps) (sym (chain_held es q are.rises)) ∙ sym (chain_appended before ps q kept))
-      ∙ sym (plain_appended before ps kept (plain_held name book.plan log es are.rises) q))
+      ∙ sym (plain_appended before ps kept (plain_held name billing.plan log es are.rises) q))
 
-  pub now_is : replica_of name book.plan more fs ≡ appended before ps
+  pub now_is : replica_of name billing.plan more fs ≡ appended before ps
   now_is =
       let logs_are = logs ∙ sym (log_appended before ps are.replica.log_rises) in
       λ i. record { name = sym (appended_name before ps) i; plan = sym (appended_plan before ps) i; log = logs_are i; chains = held_are i }
 
-  pub now_replica : IsReplica (replica_of name book.plan more fs)
+  pub now_replica : IsReplica (replica_of name billing.plan more fs)
   now_replica = subst IsReplica (sym now_is) (replica_appended before ps are.replica)
 
-  pub now_within : length (of name ps) + length log ≤ length more → IsOwnWithin (replica_of name book.plan more fs)
+  pub now_within : length (of name ps) + length log ≤ length more → IsOwnWithin (replica_of name billing.plan more fs)
   now_within all =
       let logs_are : more ≡ (appended before ps).log = logs ∙ sym (log_appended before ps are.replica.log_rises) in
       subst IsOwnWithin (sym now_is) (own_grows before ps (rises_held es are.rises) are.within (subst (λ (l : List PacketReport). length (of name ps) + length log ≤ length l) logs_are all))
 
 -- and where all are of the own name
-module _ (name : ℕ) (log more : List PacketReport) (es fs : List (ℕ × ChainView PacketReport)) (book : BookView) (are : AreContents name log es book) (rs : List PacketReport) (rises : Rises fs)
+module _ (name : ℕ) (log more : List PacketReport) (es fs : List (ℕ × ChainView PacketReport)) (billing : BillingView) (are : AreContents name log es billing) (rs : List PacketReport) (rises : Rises fs)
     (chains : (q : ℕ) → kept_of fs q ≡ kept_of es q ++ of q (with_origin name rs)) (logs : more ≡ in_order report_cmp (log ++ rs)) where
   own_logs : more ≡ in_order report_cmp (log ++ reports_in (with_origin name rs))
   own_logs = logs ∙ ap (λ (l : List PacketReport). in_order report_cmp (log ++ l)) (sym (reports_tagged name rs))
 
-  pub own_is : replica_of name book.plan more fs ≡ appended (replica_of name book.plan log es) (with_origin name rs)
-  own_is = now_is name log more es fs book are (with_origin name rs) rises chains own_logs
+  pub own_is : replica_of name billing.plan more fs ≡ appended (replica_of name billing.plan log es) (with_origin name rs)
+  own_is = now_is name log more es fs billing are (with_origin name rs) rises chains own_logs
 
-  pub own_replica : IsReplica (replica_of name book.plan more fs)
-  own_replica = now_replica name log more es fs book are (with_origin name rs) rises chains own_logs
+  pub own_replica : IsReplica (replica_of name billing.plan more fs)
+  own_replica = now_replica name log more es fs billing are (with_origin name rs) rises chains own_logs
 
-  pub own_within_all : length rs + length log ≤ length more → IsOwnWithin (replica_of name book.plan more fs)
-  own_within_all all = now_within name log more es fs book are (with_origin name rs) rises chains own_logs (subst (λ (l : List PacketReport). length l + length log ≤ length more) (sym (of_tagged name rs)) all)
+  pub own_within_all : length rs + length log ≤ length more → IsOwnWithin (replica_of name billing.plan more fs)
+  own_within_all all = now_within name log more es fs billing are (with_origin name rs) rises chains own_logs (subst (λ (l : List PacketReport). length l + length log ≤ length more) (sym (of_tagged name rs)) all)
 
 -- there is room in the own chain for as many as are new to the log
-pub own_room : (name : ℕ) (log : List PacketReport) (es : List (ℕ × ChainView PacketReport)) (book : BookView) (n new total : ℕ) → AreContents name log es book → n ≤ new → new + length log ≡ total → total ≤ 4194304 → length (kept_of es name) + n ≤ 4194304
-own_room name log es book n new total are enough count few =
+pub own_room : (name : ℕ) (log : List PacketReport) (es : List (ℕ × ChainView PacketReport)) (billing : BillingView) (n new total : ℕ) → AreContents name log es billing → n ≤ new → new + length log ≡ total → total ≤ 4194304 → length (kept_of es name) + n ≤ 4194304
+own_room name log es billing n new total are enough count few =
     let own : length (kept_of es name) ≤ length log = subst (λ (l : List PacketReport). length l ≤ length log) (chain_held es name are.rises) are.within in
     sums (length (kept_of es name)) (length log) n new total own enough count few where
       sums : (a b n new total : ℕ) → a ≤ b → n ≤ new → new + b ≡ total → total ≤ 4194304 → a + n ≤ 4194304
       sums a b n new total p q s t = omega (arith, p, q, s, t)
 
--- log, chains and book in place of others
-pub refilled : (name : ℕ) (plan : AccountPlan) (log : List PacketReport) (es : List (ℕ × ChainView PacketReport)) (book : BookView) → Rises es → IsReplica (replica_of name plan log es) → IsOwnWithin (replica_of name plan log es) → book.plan ≡ plan → Fits log book → AreContents name log es book
-refilled name plan log es book rises replica within planned fits =
-    let same : replica_of name plan log es ≡ replica_of name book.plan log es = ap (λ (p : AccountPlan). replica_of name p log es) (sym planned) in
+-- log, chains and bill in place of others
+pub refilled : (name : ℕ) (plan : AccountPlan) (log : List PacketReport) (es : List (ℕ × ChainView PacketReport)) (billing : BillingView) → Rises es → IsReplica (replica_of name plan log es) → IsOwnWithin (replica_of name plan log es) → billing.plan ≡ plan → Bills log billing → AreContents name log es billing
+refilled name plan log es billing rises replica within planned fits =
+    let same : replica_of name plan log es ≡ replica_of name billing.plan log es = ap (λ (p : AccountPlan). replica_of name p log es) (sym planned) in
     record { rises = rises; replica = subst IsReplica same replica; within = subst IsOwnWithin same within; fits = fits }
 
 -- how many reports there are once each stands once

@@ -10,10 +10,9 @@ use Rattle.tca_join.specs.Sets.{in_order}
 use Rattle.tca_join.specs.Chains.{ChainView}
 use Rattle.tca_join.specs.Maps.{Rises}
 use Rattle.tca_join.proofs.Unions.{union_longer}
-use Rattle.tca_replay.specs.Books.{BookView}
 use Rattle.tca_gossip.specs.Replicas.{ReplicaView, IsReplica, chain_of, appended, with_origin, of, reports_in}
 use Rattle.tca_gossip.specs.Runs.{RunView, AreRuns, first_fault, rest_of, rests}
-use Rattle.tca_gossip.specs.Kept.{AreContents, IsOwnWithin, kept_of, replica_of}
+use Rattle.tca_gossip.specs.Kept.{AreContents, IsOwnWithin, kept_of, replica_of, BillingView}
 use Rattle.tca_gossip.proofs.Appends.{of_append, reports_append, reports_tagged}
 use Rattle.tca_gossip.proofs.Plains.{chain_held}
 use Rattle.tca_gossip.proofs.AbsorbSteps.{none_before, none_own, rests_next}
@@ -79,22 +78,22 @@ pub list_last : (old now : List PacketReport) (held : ℕ → List PacketReport)
 list_last old now held runs i h so_far = so_far ∙ ap (λ (l : List RunView). old ++ reports_in (rests held l)) (take_whole i runs h)
 
 -- chains and a log that got what runs have past the chains
-module _ (name : ℕ) (log more : List PacketReport) (es fs : List (ℕ × ChainView PacketReport)) (book : BookView) (are : AreContents name log es book) (runs : List RunView) (rises : Rises fs)
+module _ (name : ℕ) (log more : List PacketReport) (es fs : List (ℕ × ChainView PacketReport)) (billing : BillingView) (are : AreContents name log es billing) (runs : List RunView) (rises : Rises fs)
     (chains : (q : ℕ) → kept_of fs q ≡ kept_of es q ++ of q (rests (kept_of es) runs)) (logs : more ≡ in_order report_cmp (log ++ reports_in (rests (kept_of es) runs))) where
   abbrev before : ReplicaView
-  before = replica_of name book.plan log es
+  before = replica_of name billing.plan log es
 
   held_same : kept_of es ≡ chain_of before
   held_same = λ i o. (sym (chain_held es o are.rises)) i
 
-  pub runs_are : replica_of name book.plan more fs ≡ appended before (rests (chain_of before) runs)
-  runs_are = now_is name log more es fs book are (rests (kept_of es) runs) rises chains logs ∙ ap (λ (held : ℕ → List PacketReport). appended before (rests held runs)) held_same
+  pub runs_are : replica_of name billing.plan more fs ≡ appended before (rests (chain_of before) runs)
+  runs_are = now_is name log more es fs billing are (rests (kept_of es) runs) rises chains logs ∙ ap (λ (held : ℕ → List PacketReport). appended before (rests held runs)) held_same
 
-  pub runs_replica : IsReplica (replica_of name book.plan more fs)
-  runs_replica = now_replica name log more es fs book are (rests (kept_of es) runs) rises chains logs
+  pub runs_replica : IsReplica (replica_of name billing.plan more fs)
+  runs_replica = now_replica name log more es fs billing are (rests (kept_of es) runs) rises chains logs
 
-  pub runs_within : first_fault name (chain_of before) runs ≡ None → IsOwnWithin (replica_of name book.plan more fs)
+  pub runs_within : first_fault name (chain_of before) runs ≡ None → IsOwnWithin (replica_of name billing.plan more fs)
   runs_within none =
       let own : of name (rests (kept_of es) runs) ≡ [] = none_own name (kept_of es) runs (ap (λ (held : ℕ → List PacketReport). first_fault name held runs) held_same ∙ none) in
       let grows = union_longer report_cmp report_total report_exact log (reports_in (rests (kept_of es) runs)) are.replica.log_rises in
-      now_within name log more es fs book are (rests (kept_of es) runs) rises chains logs (omega (arith, ap length own, grows, ap length logs))
+      now_within name log more es fs billing are (rests (kept_of es) runs) rises chains logs (omega (arith, ap length own, grows, ap length logs))

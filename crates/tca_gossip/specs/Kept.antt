@@ -1,13 +1,13 @@
 -- How a replica keeps its chains: by origin, each with or without room for one report more, and empty ones among them. Only the
 -- inside of this crate cites it.
-use Rattle.std.specs.Prelude.{◌≡◌, ℕ, ◌≤◌, Option, None, Some, List, [], ◌∷◌, length}
+use Rattle.std.specs.Prelude.{◌≡◌, ℕ, ◌≤◌, Bool, true, Option, None, Some, List, [], ◌∷◌, length}
 use Rattle.tca_join.specs.declared.fault.JoinFault.{JoinFault}
 use Rattle.tca_join.specs.declared.fault.JoinFault.TheVariants.{Clash, Full, Memory}
 use Rattle.tca_report.specs.report.Reports.{PacketReport}
 use Rattle.tca_join.specs.Chains.{ChainView}
 use Rattle.tca_join.specs.Maps.{get, Rises}
 use Rattle.tca_accounts.specs.Plans.{AccountPlan}
-use Rattle.tca_replay.specs.Books.{BookView, Fits}
+use Rattle.tca_replay.specs.Books.{AreSettled, BookView, Fits}
 use Rattle.tca_gossip.specs.Replicas.{ReplicaView, IsReplica, chain_of}
 
 -- the reports of a chain, none where there is no chain
@@ -37,17 +37,31 @@ replica_of name plan log chains = record { name = name; plan = plan; log = log; 
 abbrev pub IsOwnWithin : ReplicaView → Type 0
 IsOwnWithin v = length (chain_of v v.name) ≤ length v.log
 
--- a replica and its book
-pub record ContentsView : Type 0 where
-  pub replica : ReplicaView
+-- the bill of a log under a plan: by a book, where one is kept
+pub record BillingView : Type 0 where
+  pub plan : AccountPlan
+  pub kept : Bool
   pub book : BookView
 
--- log, chains and book agree: the log is the set of all reports of the chains, and the book is of that set
-pub record AreContents (name : ℕ) (log : List PacketReport) (chains : List (ℕ × ChainView PacketReport)) (book : BookView) : Type 0 where
+-- a book that is kept is of this log
+abbrev pub Bills : List PacketReport → BillingView → Type 0
+Bills log b = b.kept ≡ true → Fits log b.book
+
+-- a book that is kept has metered all its rows
+abbrev pub IsSettled : BillingView → Type 0
+IsSettled b = b.kept ≡ true → AreSettled b.book.lanes
+
+-- a replica and its bill
+pub record ContentsView : Type 0 where
+  pub replica : ReplicaView
+  pub billing : BillingView
+
+-- log, chains and bill agree: the log is the set of all reports of the chains, and the bill is of that set
+pub record AreContents (name : ℕ) (log : List PacketReport) (chains : List (ℕ × ChainView PacketReport)) (billing : BillingView) : Type 0 where
   pub rises : Rises chains
-  pub replica : IsReplica (replica_of name book.plan log chains)
-  pub within : IsOwnWithin (replica_of name book.plan log chains)
-  pub fits : Fits log book
+  pub replica : IsReplica (replica_of name billing.plan log chains)
+  pub within : IsOwnWithin (replica_of name billing.plan log chains)
+  pub fits : Bills log billing
 
 -- the key that a clash names
 abbrev pub clash_in : Option JoinFault → Option ℕ

@@ -1,7 +1,7 @@
 //! Many reports at once.
 //!
-//! Copies of the log and the chains get them all, and then take the place of both, with a book that is made for the new log. The log
-//! sorts them once and the book meters once, where one by one each report is searched for, put in its place and noted in its lane.
+//! Copies of the log and the chains get them all, and then take the place of both, without a book. The log sorts them once, and they
+//! are metered when the bill is asked, where one by one each report is searched for, put in its place and noted in its lane.
 //! Until the copies take the place nothing has changed. So where there is no room for that, the reports can still be taken one by
 //! one, which names the first that has no room.
 ghost use Rattle.std.specs.Prelude.{◌≡◌, ℕ, ◌+◌, ◌≤◌, ◌++◌, length, true, false, IfOk, OnErr, OnOk, None};
@@ -61,7 +61,7 @@ impl Contents {
         let mut chains = self.chains.copy()?;
         extend(self.alloc, &mut chains, self.name, reports)?;
         let _rises = chains.keys();
-        self.refill(log, chains)?;
+        self.refill(log, chains);
         Ok(true)
     }
 
@@ -95,7 +95,7 @@ impl Contents {
         let _rises = chains.keys();
         let mut log = self.log.copy()?;
         log.add_all(list)?;
-        self.refill(log, chains)?;
+        self.refill(log, chains);
         Ok(())
     }
 }

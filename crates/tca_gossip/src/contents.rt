@@ -1,9 +1,8 @@
-//! Log, chains and book of a replica, which agree after each call.
+//! Log, chains and bill of a replica, which agree after each call.
 ghost use Rattle.std.specs.Prelude.{◌≡◌, ◌≢◌, ◌⊎◌, ◌<◌, ◌≤◌, [], length, true, false, not, OnOk, OnErr, IfOk, IfErr, IfSome, None};
 ghost use Rattle.tca_report.specs.report.Reports.{report_cmp};
 ghost use Rattle.tca_join.specs.Sets.{has};
 ghost use Rattle.tca_accounts.specs.Bills.{bill_of};
-ghost use Rattle.tca_replay.specs.Books.{AreSettled};
 ghost use Rattle.tca_join.specs.Chains.{differ_at};
 ghost use Rattle.tca_join.specs.Faults.{IsJoinFault};
 ghost use Rattle.tca_join.specs.Maps.{clash_key};
@@ -11,9 +10,10 @@ ghost use Rattle.tca_gossip.specs.Replicas.{IsReplica, append_one, chain_of, lea
 ghost use Rattle.tca_gossip.specs.Runs.{AreRuns, delta_of, first_fault, summary_count};
 ghost use Rattle.tca_gossip.specs.Coupling.{counts_of};
 ghost use Rattle.tca_gossip.specs.Answers.{IsRefusal, IsRefusedFor, fault_view};
-ghost use Rattle.tca_gossip.specs.Kept.{IsOwnWithin, clash_in, replica_of};
+ghost use Rattle.tca_gossip.specs.Kept.{IsOwnWithin, IsSettled, clash_in, replica_of};
 
 use crate::absorb::refusal;
+use crate::billing::Billing;
 use crate::chains::{kept, push, reserve};
 use crate::delta::delta_for;
 use crate::fault::AbsorbFault;
@@ -25,11 +25,7 @@ use tca_accounts::{Bill, Plan};
 use tca_join::{ByKey, Chain, Join, JoinFault};
 use tca_log::rows::LIMIT;
 use tca_log::{Log, LogFault};
-use tca_replay::Book;
 use tca_report::Report;
-
-/// After how many rows a book's lanes have a mark.
-const ROWS_A_MARK: u32 = 256;
 
 /// What a replica holds.
 #[derive(Drop)]
@@ -38,7 +34,7 @@ pub(crate) struct Contents {
     pub(crate) name: u32,
     pub(crate) log: Log,
     pub(crate) chains: ByKey<Chain<Report>>,
-    book: Book,
+    billing: Billing,
 }
 
 impl Model for Contents {
@@ -46,23 +42,23 @@ impl Model for Contents {
 
     ghost Value = { ContentsView };
 
-    ghost view = { λ c. record { replica = replica_of c.name c.book.plan c.log c.chains; book = c.book } };
+    ghost view = { λ c. record { replica = replica_of c.name c.billing.plan c.log c.chains; billing = c.billing } };
 
-    ghost invariant = { λ c. AreContents c.name c.log c.chains c.book };
+    ghost invariant = { λ c. AreContents c.name c.log c.chains c.billing };
 }
 
 impl Contents {
     /// Nothing.
     pub(crate) fn new(alloc: Global, name: u32, plan: Plan) -> Result<Contents, AllocError>
         ensures replica { IfOk result (λ c. c.replica ≡ new_replica plan name) }
-        ensures settled { IfOk result (λ c. AreSettled c.book.lanes) }
+        ensures settled { IfOk result (λ c. IsSettled c.billing) }
     {
         Ok(Contents {
             alloc,
             name,
             log: Log::new(alloc),
             chains: ByKey::new(alloc),
-            book: Book::new(alloc, plan, ROWS_A_MARK)?,
+            billing: Billing::new(alloc, plan)?,
         })
     }
 
@@ -87,13 +83,13 @@ impl Contents {
         if !held && self.log.len() as usize >= LIMIT {
             return Err(LogFault::Full);
         }
-        self.book.ready(&report)?;
+        self.billing.ready(self.alloc, &self.log, &report)?;
         reserve(self.alloc, &mut self.chains, origin)?;
         let _rises = self.log.reports();
         let added = self.log.add(report)?;
         let _count = self.log.len();
         push(&mut self.chains, origin, report);
-        self.book.apply(report, added);
+        self.billing.apply(report, added);
         Ok(())
     }
 
@@ -145,7 +141,7 @@ impl Contents {
     /// Joins these contents with those of another: all, or nothing.
     pub(crate) fn merge(&mut self, other: &Contents) -> Result<(), JoinFault>
         ensures ok { OnOk result (self.new.replica ≡ merged_with self.old.replica other.now.replica) }
-        ensures settled { OnOk result (AreSettled self.new.book.lanes) }
+        ensures settled { OnOk result (IsSettled self.new.billing) }
         ensures compatible { OnOk result (merge_clash ⟦<Report as PartialEq>⟧.eq self.old.replica other.now.replica ≡ None) }
         ensures within { OnOk result (merge_full self.old.replica other.now.replica ≡ false) }
         ensures err { OnErr result (self.new ≡ self.old) }
@@ -165,28 +161,22 @@ impl Contents {
         if let Err(fault) = log.join_from(&other.log) {
             return Err(fault);
         }
-        self.book.refit(self.alloc, &log)?;
+        self.billing.release(self.alloc);
         self.chains = chains;
         self.log = log;
         Ok(())
     }
 
-    /// Takes another log and other chains in place of these, with a book for that log: all of it, or nothing.
-    pub(crate) fn refill(
-        &mut self,
-        all: Log,
-        chains: ByKey<Chain<Report>>,
-    ) -> Result<(), AllocError>
+    /// Takes another log and other chains in place of these.
+    pub(crate) fn refill(&mut self, all: Log, chains: ByKey<Chain<Report>>)
         requires replica { IsReplica (replica_of self.old.replica.name self.old.replica.plan all chains) }
         requires within { IsOwnWithin (replica_of self.old.replica.name self.old.replica.plan all chains) }
-        ensures ok { OnOk result (self.new.replica ≡ replica_of self.old.replica.name self.old.replica.plan all chains) }
-        ensures err { OnErr result (self.new ≡ self.old) }
+        ensures { self.new.replica ≡ replica_of self.old.replica.name self.old.replica.plan all chains }
     {
         let _rises = chains.keys();
-        self.book.refit(self.alloc, &all)?;
+        self.billing.release(self.alloc);
         self.chains = chains;
         self.log = all;
-        Ok(())
     }
 
     /// How long each chain is, without empty ones.
@@ -206,17 +196,17 @@ impl Contents {
     /// Meters again what changed. It takes no memory.
     pub(crate) fn settle(&mut self)
         ensures replica { self.new.replica ≡ self.old.replica }
-        ensures settled { AreSettled self.new.book.lanes }
+        ensures settled { IsSettled self.new.billing }
     {
-        self.book.settle();
+        self.billing.settle();
     }
 
     /// The bill of the log.
     pub(crate) fn totals(&self) -> Result<Bill, AllocError>
-        requires { AreSettled self.now.book.lanes }
+        requires { IsSettled self.now.billing }
         ensures { IfOk result (λ bill. bill ≡ bill_of self.now.replica.plan self.now.replica.log) }
     {
-        self.book.totals(self.alloc)
+        self.billing.totals(self.alloc, &self.log)
     }
 
     /// What holds of each.

@@ -5,7 +5,8 @@
 //! the chains that are held, or refused before any change. A merge is all or nothing. Whatever is refused for want of memory, the
 //! answer names what is held, and the same call with memory completes it.
 //!
-//! - `replica`: its calls; `contents`: log, chains and book, which agree after each; `chains`: the chains by origin;
+//! - `replica`: its calls; `contents`: log, chains and bill, which agree after each; `chains`: the chains by origin; `billing`: the bill
+//!   of the log, by a book or from the log;
 //! - `at_once`: many reports at once, which is faster than one by one where a list is long beside the log;
 //! - `run`: what replicas send each other; `summary` and `delta`: what one sends; `absorb`: what one does with what comes;
 //! - `world`: replicas that are run by a list of steps; `step`: what is done there, and what comes of it; `message`: what is sent
@@ -16,6 +17,7 @@
 
 mod absorb;
 mod at_once;
+mod billing;
 mod chains;
 mod contents;
 mod delta;

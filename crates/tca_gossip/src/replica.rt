@@ -23,21 +23,22 @@ use tca_report::Report;
 /// What one collector holds: for each origin a chain of reports, in the order in which they were new there, and the log that is
 /// the set of them all. Its own chain is what its own `take` got new.
 ///
-/// A book beside the log keeps the bill, so that a late report costs what follows it and not the whole history.
+/// A book beside the log keeps the bill, so that a late report costs what follows it and not the whole history. After a list that
+/// was taken at once there is no book until a single report comes, and the bill is made from the log when it is asked.
 #[derive(Drop)]
 pub struct Replica {
     contents: Contents,
 }
 
 impl Model for Replica {
-    ghost use Rattle.tca_replay.specs.Books.{AreSettled};
+    ghost use Rattle.tca_gossip.specs.Kept.{IsSettled};
     ghost use Rattle.tca_gossip.specs.Replicas.{ReplicaView};
 
     ghost Value = { ReplicaView };
 
     ghost view = { λ r. r.contents.replica };
 
-    ghost invariant = { λ r. AreSettled r.contents.book.lanes };
+    ghost invariant = { λ r. IsSettled r.contents.billing };
 }
 
 impl Replica {
@@ -143,7 +144,7 @@ impl Replica {
         self.contents.fork(&other.contents)
     }
 
-    /// The bill of the log under the plan, as the book has it.
+    /// The bill of the log under the plan.
     pub fn totals(&self) -> Result<Bill, AllocError>
         ensures { IfOk result (λ bill. bill ≡ bill_of self.now.plan self.now.log) }
     {

@@ -65,6 +65,13 @@ impl<A: Allocator + Copy> Book<A> {
         })
     }
 
+    /// The plan whose accounts the lanes are of.
+    pub fn plan(&self) -> &Plan
+        ensures { result.now ≡ self.now.plan }
+    {
+        &self.plan
+    }
+
     /// Makes all room for one report, whatever the log will answer to it. `AllocError` comes where a growth was refused, and
     /// leaves the book as it was.
     pub fn ready(&mut self, report: &Report) -> Result<(), AllocError>

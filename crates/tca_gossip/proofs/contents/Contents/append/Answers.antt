@@ -1,7 +1,6 @@
-use Rattle.std.proofs.Common.{◌≡◌, ◌<◌, ◌∙◌, false, length, ap, sym, subst, arith}
+use Rattle.std.proofs.Common.{◌≡◌, ◌<◌, ◌∙◌, false, length, refl, sym, subst, arith}
 use Rattle.tca_report.specs.report.Reports.{report_cmp}
 use Rattle.tca_join.specs.Sets.{has}
-use Rattle.tca_replay.specs.Books.{BookView}
 use Rattle.tca_gossip.specs.Replicas.{ReplicaView}
 use Rattle.tca_gossip.specs.Kept.{replica_of, kept_of}
 use Rattle.tca_gossip.proofs.Plains.{chain_held}
@@ -9,17 +8,21 @@ use Rattle.tca_gossip.proofs.Agreeing.{room_agrees, report_agrees, few_reports}
 use Rattle.tca_gossip.proofs.contents.Contents.append.Goals as goal
 use Rattle.tca_gossip.proofs.contents.Contents.append.Goals.{else-not-held-via-then-not-held+else-len-ge-LIMIT, else-not-held-via-else-not-held}
 
+pub invariant_of-self : goal.invariant_of-self
+invariant_of-self c =
+    room_agrees c.self.inside.name c.self.inside.log c.self.inside.chains c.self.inside.chains c.self.inside.billing c.ready.new.self c.self.invariant c.self.invariant.rises refl c.ready.ensures.plan c.ready.ensures.bills
+
 pub invariant_of-self-in_err-reserve : goal.invariant_of-self-in_err-reserve
 invariant_of-self-in_err-reserve c =
-    room_agrees c.self.inside.name c.self.inside.log c.self.inside.chains c.reserve.new.chains c.self.inside.book c.ready.new.self c.self.invariant c.reserve.ensures.rises c.reserve.ensures.held (ap (λ (b : BookView). b.plan) c.in_ok-ready.ensures.ok) (c.in_ok-ready.ensures.fits c.self.inside.log c.self.invariant.fits)
+    room_agrees c.self.inside.name c.self.inside.log c.self.inside.chains c.reserve.new.chains c.self.inside.billing c.ready.new.self c.self.invariant c.reserve.ensures.rises c.reserve.ensures.held c.ready.ensures.plan c.ready.ensures.bills
 
 pub invariant_of-self-in_err-added : goal.invariant_of-self-in_err-added
 invariant_of-self-in_err-added c =
-    rw c.in_err-added.ensures.err (room_agrees c.self.inside.name c.self.inside.log c.self.inside.chains c.reserve.new.chains c.self.inside.book c.ready.new.self c.self.invariant c.reserve.ensures.rises c.reserve.ensures.held (ap (λ (b : BookView). b.plan) c.in_ok-ready.ensures.ok) (c.in_ok-ready.ensures.fits c.self.inside.log c.self.invariant.fits))
+    rw c.in_err-added.ensures.err (room_agrees c.self.inside.name c.self.inside.log c.self.inside.chains c.reserve.new.chains c.self.inside.billing c.ready.new.self c.self.invariant c.reserve.ensures.rises c.reserve.ensures.held c.ready.ensures.plan c.ready.ensures.bills)
 
 pub push-requires-clause-few : goal.push-requires-clause-few
 push-requires-clause-few c =
-    let v : ReplicaView = replica_of c.self.inside.name c.self.inside.book.plan c.self.inside.log c.self.inside.chains in
+    let v : ReplicaView = replica_of c.self.inside.name c.self.inside.billing.plan c.self.inside.log c.self.inside.chains in
     let room : has report_cmp c.self.inside.log c.args.report ≡ false → length c.self.inside.log < 4194304 = λ none. elim c.else-not-held.branch [
       | else-not-held-via-then-not-held+else-len-ge-LIMIT w ↦ omega (arith, w.if-len-ge-LIMIT.false, w.len.ensures.length)
       | else-not-held-via-else-not-held w ↦ absurd (cc)
@@ -31,7 +34,7 @@ push-requires-clause-few c =
 pub invariant_of-self-2 : goal.invariant_of-self-2
 invariant_of-self-2 c =
     let own = rw (← c.self.view_is) at c.requires.own in
-    rw c.in_ok-added.ensures.ok (report_agrees c.self.inside.name c.self.inside.log c.self.inside.chains c.push.new.chains c.self.inside.book c.apply.new.self c.args.origin c.args.report c.self.invariant c.push.ensures.rises (rw c.reserve.ensures.held at c.push.ensures.held)
-    (ap (λ (b : BookView). b.plan) c.apply.ensures.book ∙ ap (λ (b : BookView). b.plan) c.in_ok-ready.ensures.ok)
-    (c.apply.ensures.fits c.self.inside.log c.reports-rises.ensures.rises (c.in_ok-ready.ensures.fits c.self.inside.log c.self.invariant.fits) c.in_ok-added.ensures.answer)
+    rw c.in_ok-added.ensures.ok (report_agrees c.self.inside.name c.self.inside.log c.self.inside.chains c.push.new.chains c.self.inside.billing c.apply.new.self c.args.origin c.args.report c.self.invariant c.push.ensures.rises (rw c.reserve.ensures.held at c.push.ensures.held)
+    (c.apply.ensures.plan ∙ c.ready.ensures.plan)
+    (c.apply.ensures.bills c.self.inside.log c.reports-rises.ensures.rises c.ready.ensures.bills c.in_ok-added.ensures.answer)
     own)

@@ -9,7 +9,7 @@ use Rattle.tca_join.specs.declared.fault.JoinFault.TheVariants.{Memory}
 use Rattle.tca_log.specs.LogJoin.{log_full}
 use Rattle.tca_gossip.specs.Replicas.{ReplicaView, chain_of, merge_clash, merged_with}
 use Rattle.tca_gossip.specs.Kept.{held_in, replica_of}
-use Rattle.tca_gossip.proofs.Agreeing.{merged_agrees, neither}
+use Rattle.tca_gossip.proofs.Agreeing.{merged_agrees, neither, without_book}
 use Rattle.tca_gossip.proofs.Clashing.{memory_alone, within_limit}
 use Rattle.tca_gossip.proofs.Exact.{exact_report}
 use Rattle.tca_gossip.proofs.Plains.{held_merged}
@@ -19,8 +19,8 @@ pub returns-in-Err-clause-fault : goal.returns-in-Err-clause-fault
 returns-in-Err-clause-fault c =
     let es = c.self.inside.chains in
     let fs = c.other.inside.chains in
-    let v : ReplicaView = replica_of c.self.inside.name c.self.inside.book.plan c.self.inside.log es in
-    let w : ReplicaView = replica_of c.other.inside.name c.other.inside.book.plan c.other.inside.log fs in
+    let v : ReplicaView = replica_of c.self.inside.name c.self.inside.billing.plan c.self.inside.log es in
+    let w : ReplicaView = replica_of c.other.inside.name c.other.inside.billing.plan c.other.inside.log fs in
     let none : merge_clash report_eq.ghosts.eq v w ≡ None = rw (← c.self.view_is, ← c.other.view_is) at (sym c.clash.ensures ∙ c.in_default.is) in
     let within : log_full c.self.inside.log c.other.inside.log ≡ false = within_limit (log_full c.self.inside.log c.other.inside.log) (sym c.refusal.ensures ∙ c.in_default-refusal.is) in
     let fault : IsJoinFault (clash_key (chain_clash report_eq.ghosts.eq) es fs) (map_full chain_full es fs) c.in-Err.fault = rw c.in_ok-chains.ensures at c.in-Err.ensures.fault in
@@ -28,17 +28,16 @@ returns-in-Err-clause-fault c =
     let memory = memory_alone report_eq.ghosts.eq es fs c.self.invariant.rises c.in-Err.fault fault no_chain in
     rw (memory, ← c.self.view_is, ← c.other.view_is) (none, within)
 
-pub invariant_of-self-2 : goal.invariant_of-self-2
-invariant_of-self-2 c =
+pub invariant_of-self : goal.invariant_of-self
+invariant_of-self c =
     let es = c.self.inside.chains in
     let fs = c.other.inside.chains in
-    let v : ReplicaView = replica_of c.self.inside.name c.self.inside.book.plan c.self.inside.log es in
-    let w : ReplicaView = replica_of c.other.inside.name c.other.inside.book.plan c.other.inside.log fs in
+    let v : ReplicaView = replica_of c.self.inside.name c.self.inside.billing.plan c.self.inside.log es in
+    let w : ReplicaView = replica_of c.other.inside.name c.other.inside.billing.plan c.other.inside.log fs in
     let none : merge_clash report_eq.ghosts.eq v w ≡ None = rw (← c.self.view_is, ← c.other.view_is) at (sym c.clash.ensures ∙ c.in_default.is) in
     let chains : c.join_from.new.self ≡ merged chain_joined es fs = rw c.in_ok-chains.ensures at c.in_default-join_from.ensures.ok in
     let log : c.join_from-2.new.self ≡ in_order report_cmp (c.self.inside.log ++ c.other.inside.log) = rw c.in_ok-log.ensures at c.in_default-join_from-2.ensures.ok in
-    let fits = rw log at c.in_ok-refit.ensures.fits in
-    rw (chains, log) (merged_agrees report_eq.ghosts.eq exact_report c.self.inside.name c.other.inside.name c.self.inside.log c.other.inside.log es fs c.self.inside.book c.other.inside.book c.refit.new.self c.self.invariant c.other.invariant none c.refit.ensures.plan fits)
+    rw (chains, log) (merged_agrees report_eq.ghosts.eq exact_report c.self.inside.name c.other.inside.name c.self.inside.log c.other.inside.log es fs c.self.inside.billing c.other.inside.billing c.release.new.self c.self.invariant c.other.invariant none c.release.ensures.plan (without_book _ c.release.new.self c.release.ensures.kept))
 
 pub returns-clause-ok : goal.returns-clause-ok
 returns-clause-ok c =
@@ -47,4 +46,4 @@ returns-clause-ok c =
     let chains : c.join_from.new.self ≡ merged chain_joined es fs = rw c.in_ok-chains.ensures at c.in_default-join_from.ensures.ok in
     let log : c.join_from-2.new.self ≡ in_order report_cmp (c.self.inside.log ++ c.other.inside.log) = rw c.in_ok-log.ensures at c.in_default-join_from-2.ensures.ok in
     let held : held_in c.join_from.new.self ≡ merged longer (held_in es) (held_in fs) = ap held_in chains ∙ held_merged es fs c.self.invariant.rises c.other.invariant.rises in
-    rw (← c.self.view_is, ← c.other.view_is) (λ i. record { name = c.self.inside.name; plan = c.refit.ensures.plan i; log = log i; chains = held i })
+    rw (← c.self.view_is, ← c.other.view_is) (λ i. record { name = c.self.inside.name; plan = c.release.ensures.plan i; log = log i; chains = held i })

@@ -1,0 +1,117 @@
+//! The bill of a log: kept by a book, or made from the log when it is asked.
+ghost use Rattle.std.specs.Prelude.{◌≡◌, List, IfOk, OnOk, false, true};
+ghost use Rattle.std.specs.List.Sorted.{IsStrictlySortedBy};
+ghost use Rattle.tca_join.specs.Sets.{put};
+ghost use Rattle.tca_report.specs.report.Reports.{PacketReport, report_cmp};
+ghost use Rattle.tca_log.specs.Disputes as disputes;
+ghost use Rattle.tca_accounts.specs.Bills.{bill_of};
+ghost use Rattle.tca_replay.specs.Books.{IsReady, Takes};
+ghost use Rattle.tca_gossip.specs.Kept.{Bills, IsSettled};
+
+use std::alloc::{AllocError, Global};
+use std::marker::Model;
+use tca_accounts::{Bill, Plan, bill_all};
+use tca_log::{Added, Log};
+use tca_replay::Book;
+use tca_report::Report;
+
+/// After how many rows a book's lanes have a mark.
+const ROWS_A_MARK: u32 = 256;
+
+/// The bill of a log. A book keeps it, so that a late report costs what follows it. After many reports at once no book is kept
+/// until a single report comes: whoever takes a few long lists meters the log once, when the bill is asked, and not once a list.
+#[derive(Drop)]
+pub(crate) struct Billing {
+    book: Book,
+    is_kept: bool,
+}
+
+impl Model for Billing {
+    ghost use Rattle.tca_gossip.specs.Kept.{BillingView};
+
+    ghost Value = { BillingView };
+
+    ghost view = { λ b. record { plan = b.book.plan; kept = b.is_kept; book = b.book } };
+}
+
+impl Billing {
+    ghost use Rattle.std.specs.Prelude.{[]};
+
+    /// The bill of no reports.
+    pub(crate) fn new(alloc: Global, plan: Plan) -> Result<Billing, AllocError>
+        ensures plan { IfOk result (λ b. b.plan ≡ plan) }
+        ensures bills { IfOk result (Bills []) }
+        ensures settled { IfOk result IsSettled }
+    {
+        Ok(Billing {
+            book: Book::new(alloc, plan, ROWS_A_MARK)?,
+            is_kept: true,
+        })
+    }
+
+    /// Makes all room for one report, and the log's book where none is kept.
+    pub(crate) fn ready(
+        &mut self,
+        alloc: Global,
+        log: &Log,
+        report: &Report,
+    ) -> Result<(), AllocError>
+        requires { Bills log.now self.old }
+        ensures plan { self.new.plan ≡ self.old.plan }
+        ensures kept { OnOk result (self.new.kept ≡ true) }
+        ensures room { OnOk result (IsReady self.new.book report.now) }
+        ensures bills { Bills log.now self.new }
+    {
+        if !self.is_kept {
+            self.book.refit(alloc, log)?;
+            self.is_kept = true;
+        }
+        self.book.ready(report)
+    }
+
+    /// Applies what a log answered to a report, where there is room for it. It takes no memory.
+    pub(crate) fn apply(&mut self, report: Report, added: Added)
+        requires kept { self.old.kept ≡ true }
+        requires ready { IsReady self.old.book report }
+        requires takes { Takes self.old.book report added }
+        ensures plan { self.new.plan ≡ self.old.plan }
+        ensures bills { (rs : List PacketReport) → IsStrictlySortedBy report_cmp rs → Bills rs self.old → added ≡ disputes.added rs report → Bills (put report_cmp report rs) self.new }
+    {
+        self.book.apply(report, added);
+    }
+
+    /// Meters again what changed. It takes no memory.
+    pub(crate) fn settle(&mut self)
+        ensures plan { self.new.plan ≡ self.old.plan }
+        ensures settled { IsSettled self.new }
+        ensures bills { (rs : List PacketReport) → Bills rs self.old → Bills rs self.new }
+    {
+        if self.is_kept {
+            self.book.settle();
+        }
+    }
+
+    /// Keeps no book any more, so that this is the bill of any log. What the book held is given back where that takes no memory.
+    pub(crate) fn release(&mut self, alloc: Global)
+        ensures plan { self.new.plan ≡ self.old.plan }
+        ensures kept { self.new.kept ≡ false }
+    {
+        if self.is_kept {
+            let _held = self.book.refit(alloc, &Log::new(alloc));
+            self.is_kept = false;
+        }
+    }
+
+    /// The bill of the log.
+    pub(crate) fn totals(&self, alloc: Global, log: &Log) -> Result<Bill, AllocError>
+        requires bills { Bills log.now self.now }
+        requires settled { IsSettled self.now }
+        ensures { IfOk result (λ bill. bill ≡ bill_of self.now.plan log.now) }
+    {
+        if self.is_kept {
+            self.book.totals(alloc)
+        } else {
+            bill_all(alloc, self.book.plan(), log)
+        }
+    }
+}
