@@ -15,6 +15,7 @@ use Rattle.tca_ingest.specs.Passes.{PassView}
 use Rattle.tca_ingest.specs.Shares.{IsTake}
 use Rattle.tca_ingest.specs.declared.entry.Entry.{Entry}
 use Rattle.tca_ingest.specs.declared.entry.Receipt.{Receipt}
+use Rattle.tca_ingest.specs.declared.fault.ShareFault.TheVariants.{PassesOut}
 use Rattle.tca_ingest.specs.declared.job.JobFault.{JobFault}
 use Rattle.tca_ingest.specs.declared.job.JobFault.TheVariants.{Input, Share}
 use Rattle.tca_ingest.specs.declared.job.Done.{Done}
@@ -25,11 +26,11 @@ contents_of octets = gathered_of (input_of octets)
 
 -- An input that is read was given to one take, whose entry lists the first of its reports, all where it did not stop; its notes come
 -- with it. An input that is refused is refused for what is wrong with it, or for want of memory, and nothing is taken. A replica
--- refuses a take only of an input that is read.
+-- refuses a take only of an input that is read, and never for want of passes.
 abbrev pub IsResult : List ℕ → Result (Notes × Receipt) JobFault → Type 0
 IsResult octets (Ok r) = (reports : List PacketReport) × (contents_of octets ≡ Ok (reports, r.0)) × ((pass : ℕ) × IsTake reports pass (entry_view r.1.entry))
 IsResult octets (Err (Input fault)) = fault ≢ Memory → contents_of octets ≡ Err fault
-IsResult octets (Err (Share fault)) = (reports : List PacketReport) × (notes : Notes) × (contents_of octets ≡ Ok (reports, notes))
+IsResult octets (Err (Share fault)) = (fault ≢ PassesOut) × ((reports : List PacketReport) × (notes : Notes) × (contents_of octets ≡ Ok (reports, notes)))
 
 -- the result of a job: the input and what came of it
 pub record ResultView : Type 0 where

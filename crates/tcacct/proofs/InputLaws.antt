@@ -21,7 +21,7 @@ gathered_ok (Ok h) x e =
     (h, refl, sym (ap (λ (p : List PacketReport × Notes). p.0) same), sym (ap (λ (p : List PacketReport × Notes). p.1) same))
 gathered_ok (Err f) x e = absurd cc
 
-gathered_err : (r : Result CaptureSoFar InputFault) (fault : InputFault) → gathered_of r ≡ Err fault → r ≡ Err fault
+pub gathered_err : (r : Result CaptureSoFar InputFault) (fault : InputFault) → gathered_of r ≡ Err fault → r ≡ Err fault
 gathered_err (Ok h) fault e = absurd cc
 gathered_err (Err f) fault e = let same : f ≡ fault = cc in ap (λ (x : InputFault). Err x) same
 

@@ -1,4 +1,5 @@
 pub mod LineLemmas
+pub mod NumberLemmas
 pub mod LineExamples
 pub mod Metering
 pub mod Uniting
@@ -6,3 +7,5 @@ pub mod UnionLaws
 pub mod InputLaws
 pub mod NotedLaws
 pub mod BillLemmas
+pub mod ReadLaws
+pub mod ReplicatedLaws

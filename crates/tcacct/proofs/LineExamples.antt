@@ -27,15 +27,15 @@ pub no_command : order_in (codes "tcacct" ∷ []) ≡ None
 unfolding clap_on_literals
 no_command = refl
 
-pub bill_plain : order_in (codes "tcacct" ∷ codes "bill" ∷ codes "plan" ∷ codes "a" ∷ codes "b" ∷ []) ≡ Some (bill None (codes "plan") (codes "a" ∷ codes "b" ∷ []))
+pub bill_plain : order_in (codes "tcacct" ∷ codes "bill" ∷ codes "plan" ∷ codes "a" ∷ codes "b" ∷ []) ≡ Some (bill 2 2 None (codes "plan") (codes "a" ∷ codes "b" ∷ []))
 unfolding clap_on_literals
 bill_plain = refl
 
-pub bill_export : order_in (codes "tcacct" ∷ codes "bill" ∷ codes "--export" ∷ codes "o" ∷ codes "plan" ∷ codes "a" ∷ []) ≡ Some (bill (Some (codes "o")) (codes "plan") (codes "a" ∷ []))
+pub bill_export : order_in (codes "tcacct" ∷ codes "bill" ∷ codes "--export" ∷ codes "o" ∷ codes "plan" ∷ codes "a" ∷ []) ≡ Some (bill 2 2 (Some (codes "o")) (codes "plan") (codes "a" ∷ []))
 unfolding clap_on_literals
 bill_export = refl
 
-pub export_behind : order_in (codes "tcacct" ∷ codes "bill" ∷ codes "plan" ∷ codes "a" ∷ codes "b" ∷ codes "--export=o" ∷ []) ≡ Some (bill (Some (codes "o")) (codes "plan") (codes "a" ∷ codes "b" ∷ []))
+pub export_behind : order_in (codes "tcacct" ∷ codes "bill" ∷ codes "plan" ∷ codes "a" ∷ codes "b" ∷ codes "--export=o" ∷ []) ≡ Some (bill 2 2 (Some (codes "o")) (codes "plan") (codes "a" ∷ codes "b" ∷ []))
 unfolding clap_on_literals
 export_behind = refl
 
@@ -47,9 +47,25 @@ pub two_exports : order_in (codes "tcacct" ∷ codes "bill" ∷ codes "--export"
 unfolding clap_on_literals
 two_exports = refl
 
-pub no_workers : order_in (codes "tcacct" ∷ codes "bill" ∷ codes "--workers" ∷ codes "2" ∷ codes "plan" ∷ codes "a" ∷ []) ≡ None
+pub replicas_and_workers : order_in (codes "tcacct" ∷ codes "bill" ∷ codes "--workers" ∷ codes "64" ∷ codes "--replicas=16" ∷ codes "plan" ∷ codes "a" ∷ []) ≡ Some (bill 16 64 None (codes "plan") (codes "a" ∷ []))
 unfolding clap_on_literals
-no_workers = refl
+replicas_and_workers = refl
+
+pub no_replica : order_in (codes "tcacct" ∷ codes "bill" ∷ codes "--replicas" ∷ codes "0" ∷ codes "plan" ∷ codes "a" ∷ []) ≡ None
+unfolding clap_on_literals
+no_replica = refl
+
+pub many_replicas : order_in (codes "tcacct" ∷ codes "bill" ∷ codes "--replicas" ∷ codes "17" ∷ codes "plan" ∷ codes "a" ∷ []) ≡ None
+unfolding clap_on_literals
+many_replicas = refl
+
+pub no_worker : order_in (codes "tcacct" ∷ codes "bill" ∷ codes "--workers" ∷ codes "0" ∷ codes "plan" ∷ codes "a" ∷ []) ≡ None
+unfolding clap_on_literals
+no_worker = refl
+
+pub many_workers : order_in (codes "tcacct" ∷ codes "bill" ∷ codes "--workers" ∷ codes "65" ∷ codes "plan" ∷ codes "a" ∷ []) ≡ None
+unfolding clap_on_literals
+many_workers = refl
 
 pub audit_whole : order_in (codes "tcacct" ∷ codes "audit" ∷ codes "plan" ∷ codes "e" ∷ codes "s" ∷ []) ≡ Some (audit (codes "plan") (codes "e") (codes "s"))
 unfolding clap_on_literals

@@ -26,7 +26,7 @@ no_input held rises = record {
 }
 
 -- a set inside a union may be any list of its members
-inside : (a b : List PacketReport) → in_order report_cmp (in_order report_cmp a ++ b) ≡ in_order report_cmp (a ++ b)
+pub inside : (a b : List PacketReport) → in_order report_cmp (in_order report_cmp a ++ b) ≡ in_order report_cmp (a ++ b)
 inside a b = in_order_alike report_cmp report_total report_exact (in_order report_cmp a ++ b) (a ++ b) (λ q.
     has-append report_cmp report_total (in_order report_cmp a) b q
     ∙ ap (λ x. x || has report_cmp b q) (has-in_order report_cmp report_total a q)

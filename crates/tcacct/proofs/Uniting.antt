@@ -11,7 +11,7 @@ use Rattle.tca_report.specs.input.Inputs.{input_of}
 use Rattle.tcacct.specs.declared.fault.RunFault.{RunFault}
 use Rattle.tcacct.specs.Runs.{IsInTurn, IsRefusedAs, IsSoundExport, is_log_memory, is_memory, united_from, with_input}
 
-cut : {X : Type 0} (f : X → List ℕ) (xs : List X) (i : ℕ) (x : X) → i < length xs → x ≡ get_or xs i x → map f (drop i xs) ≡ f x ∷ map f (drop (i + 1) xs)
+pub cut : {X : Type 0} (f : X → List ℕ) (xs : List X) (i : ℕ) (x : X) → i < length xs → x ≡ get_or xs i x → map f (drop i xs) ≡ f x ∷ map f (drop (i + 1) xs)
 cut f xs i x h is = rw add-one (ap (map f) (drop-cons xs i x h) ∙ ap (λ y. f y ∷ map f (drop (suc i) xs)) (sym is))
 
 module _ {X : Type 0} (f : X → List ℕ) (inputs : List X) (n : ℕ) (held : List PacketReport) (total : Result (List PacketReport) RunFault)

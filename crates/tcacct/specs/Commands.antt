@@ -1,6 +1,7 @@
 -- The commands of the program, as clap sees them.
-use Rattle.std.specs.Prelude.{ℕ, Some, true, codes}
+use Rattle.std.specs.Prelude.{ℕ, [], ◌∷◌, Some, true, codes}
 use Rattle.clap.specs.Words.{App, Rule, Text, new_app, new_rule, with_rule, with_subcommand}
+use Rattle.clap.specs.declared.builder.value_parser.ValueParser.TheVariants as parser
 
 -- a word that has to be given once
 abbrev pub one_word : Text → Rule
@@ -25,11 +26,35 @@ combine_command = with_rule (with_rule (new_app (codes "combine")) (one_word (co
 abbrev pub option_word : Text → Rule
 option_word id = record (new_rule id) { long = Some id; value_names = 1 }
 
--- `bill [--export OUT] PLAN INPUT...`, with fewer than 2^32 inputs
+-- `--id N`, where N is from 1 to `most`, and 2 unless it is given
+abbrev pub number_up_to : Text → ℕ → Rule
+number_up_to id most = record (new_rule id) {
+  long = Some id;
+  value_names = 1;
+  defaults = codes "2" ∷ [];
+  parser = Some (parser.Unsigned 1 most);
+}
+
+-- the most replicas, workers of each and inputs of a bill
+abbrev pub most_replicas : ℕ
+most_replicas = 16
+
+abbrev pub most_workers : ℕ
+most_workers = 64
+
+abbrev pub most_billed : ℕ
+most_billed = 256
+
+-- `bill [--replicas N] [--workers N] [--export OUT] PLAN INPUT...`, with at most 256 inputs
 abbrev pub bill_command : App
 bill_command =
-    with_rule (with_rule (with_rule (new_app (codes "bill")) (option_word (codes "export"))) (one_word (codes "PLAN")))
-    (many_words (codes "INPUT") 4294967295)
+    with_rule
+    (with_rule
+    (with_rule
+    (with_rule
+    (with_rule (new_app (codes "bill")) (number_up_to (codes "replicas") most_replicas))
+    (number_up_to (codes "workers") most_workers)) (option_word (codes "export"))) (one_word (codes "PLAN")))
+    (many_words (codes "INPUT") most_billed)
 
 -- `audit PLAN EXPORT STATEMENT`
 abbrev pub audit_command : App

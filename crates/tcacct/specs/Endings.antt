@@ -15,8 +15,8 @@ use Rattle.tcacct.specs.Runs.{memory_refusal}
 -- read; else the command's name
 abbrev pub word_without_input : Order → Family → Text
 word_without_input (meter spec inputs) family.Spec = spec
-word_without_input (bill export plan inputs) family.Plan = plan
-word_without_input (bill export plan inputs) family.Read = plan
+word_without_input (bill replicas workers export plan inputs) family.Plan = plan
+word_without_input (bill replicas workers export plan inputs) family.Read = plan
 word_without_input (audit plan export statement) family.Plan = plan
 word_without_input (audit plan export statement) family.Read = plan
 word_without_input (audit plan export statement) family.Export = export

@@ -8,5 +8,6 @@ pub mod Noted
 pub mod Metered
 pub mod Combined
 pub mod Billed
+pub mod Replicated
 pub mod Endings
 pub mod Audited

@@ -91,6 +91,10 @@ is_family family.Memory family.Memory = true
 is_family family.Write family.Write = true
 is_family family.Spec family.Spec = true
 is_family family.Read family.Read = true
+is_family family.Share family.Share = true
+is_family family.Work family.Work = true
+is_family family.Close family.Close = true
+is_family family.Absorb family.Absorb = true
 is_family _ _ = false
 
 -- a write that failed

@@ -2,8 +2,9 @@
 ghost use Rattle.std.specs.Prelude.{◌≡◌, ◌≤◌, IfOk, false};
 ghost use Rattle.clap.specs.Words.{app_of, rule_of};
 ghost use Rattle.clap.specs.declared.builder.command.Command.TheViews.{out-Command as fields_of};
-ghost use Rattle.tcacct.specs.Commands.{audit_command, many_words, one_word, option_word, bill_command, combine_command, meter_command, program};
+ghost use Rattle.tcacct.specs.Commands.{audit_command, many_words, number_up_to, one_word, option_word, bill_command, combine_command, meter_command, program};
 
+use clap::builder::ValueParser;
 use clap::{Arg, Command};
 use std::alloc::{AllocError, Global};
 
@@ -52,7 +53,19 @@ before OUT is made, so OUT may be one of them. For each capture with records tha
 reports, messages with a set of an unknown template, or skipped sets, a line on standard
 error says how many of each.
 
+The inputs are dealt out to so many replicas, each of which reads its own with so many
+workers; then each takes in what the others read, and all are compared. The statement and
+OUT are the same for every number of both. A replica costs memory for all reports, and
+workers let a machine with several processors read several inputs at a time.
+
 Example: tcacct bill --export week.tcax plan.toml monday.tcax tuesday.tcax";
+
+/// The most replicas of a bill, workers of each of them, and inputs.
+pub(crate) const MOST_REPLICAS: u32 = 16;
+
+pub(crate) const MOST_WORKERS: u32 = 64;
+
+pub(crate) const MOST_BILLED: usize = 256;
 
 const AUDIT: &str =
     "Checks whether STATEMENT is, to the octet, the statement of EXPORT's reports under PLAN, by
@@ -90,6 +103,18 @@ fn option_word<'a>(alloc: Global, id: &'a str, name: &'a str, help: &'a str) -> 
     Arg::new(alloc, id).long(id).value_name(name).help(help)
 }
 
+fn number_up_to<'a>(alloc: Global, id: &'a str, most: u32, help: &'a str) -> Arg<'a>
+    ensures rule { rule_of result ≡ number_up_to id.entry.now most }
+    ensures local { result.global ≡ false }
+{
+    Arg::new(alloc, id)
+        .long(id)
+        .value_name("N")
+        .default_value("2")
+        .value_parser(ValueParser::unsigned(1, u64::from(most)))
+        .help(help)
+}
+
 fn meter<'a>(alloc: Global) -> Result<Command<'a>, AllocError>
     ensures { IfOk result (λ c. (app_of c ≡ meter_command)
         × ((fields_of c).has_globals ≡ false)) }
@@ -118,12 +143,20 @@ fn bill<'a>(alloc: Global) -> Result<Command<'a>, AllocError>
     ensures { IfOk result (λ c. (app_of c ≡ bill_command)
         × ((fields_of c).has_globals ≡ false)) }
 {
+    let replicas = number_up_to(alloc, "replicas", MOST_REPLICAS, "replicas, from 1 to 16");
+    let workers = number_up_to(
+        alloc,
+        "workers",
+        MOST_WORKERS,
+        "workers of each, from 1 to 64",
+    );
     let export = option_word(alloc, "export", "OUT", "a file for the export of the union");
     let plan = one_word(alloc, "PLAN", "the plan, a TOML file");
-    let inputs = many_words(alloc, "INPUT", 4_294_967_295, "files of reports");
+    let inputs = many_words(alloc, "INPUT", MOST_BILLED, "1 to 256 files of reports");
     let command = Command::new(alloc, "bill")
         .about(BILL)
         .after_help(BILL_AFTER);
+    let command = command.arg(replicas)?.arg(workers)?;
     Ok(command.arg(export)?.arg(plan)?.arg(inputs)?)
 }
 

@@ -1,5 +1,6 @@
 //! Why a command was refused.
 ghost use Rattle.std.specs.Prelude.{◌≡◌, Some, None};
+ghost use Rattle.tca_ingest.specs.Faults.{share_number};
 ghost use Rattle.tca_log.specs.Faults.{fault_number};
 ghost use Rattle.tca_report.specs.Faults.{read_number};
 ghost use Rattle.tcacct.specs.Faults.{family_name, fault_text};
@@ -11,6 +12,8 @@ use std::error::Error;
 use std::fmt;
 use tca_accounts::PlanFault;
 use tca_audit::AuditFault;
+use tca_gossip::AbsorbFault;
+use tca_ingest::{CloseFault, ShareFault, WorkFault};
 use tca_log::LogFault;
 use tca_meters::SpecFault;
 use tca_report::{InputFault, ReadFault, WriteFault};
@@ -32,6 +35,14 @@ pub enum Family {
     Spec,
     /// A log that is full, or finds no memory.
     Log,
+    /// A call on a shared replica.
+    Share,
+    /// The workers of a shared replica.
+    Work,
+    /// Replicas that don't close, or don't agree.
+    Close,
+    /// A replica that doesn't absorb what another one holds.
+    Absorb,
     /// A write that failed.
     Write,
     /// Want of memory that belongs to no other family.
@@ -51,6 +62,10 @@ impl Family {
             Family::Plan => "plan",
             Family::Spec => "spec",
             Family::Log => "log",
+            Family::Share => "share",
+            Family::Work => "work",
+            Family::Close => "close",
+            Family::Absorb => "absorb",
             Family::Write => "write",
             Family::Memory => "memory",
         }
@@ -138,6 +153,39 @@ impl RunFault {
             number: fault.number(),
         }
     }
+
+    /// An input whose take a replica refused.
+    pub(crate) fn share(input: u32, fault: ShareFault) -> RunFault
+        ensures { result ≡ refusal (Some input) family.Share (share_number fault) }
+    {
+        RunFault {
+            input: Some(input),
+            family: Family::Share,
+            number: fault.number(),
+        }
+    }
+
+    /// Replica 1 has another log than the inputs' reports make, which is answered as a clash of chains is.
+    pub(crate) fn differs() -> RunFault
+        ensures { result ≡ refusal None family.Close 3 }
+    {
+        RunFault {
+            input: None,
+            family: Family::Close,
+            number: 3,
+        }
+    }
+
+    /// The result of another input than the workers were given.
+    pub(crate) fn stranger() -> RunFault
+        ensures { result ≡ refusal None family.Work 2 }
+    {
+        RunFault {
+            input: None,
+            family: Family::Work,
+            number: 2,
+        }
+    }
 }
 
 /// Want of memory that belongs to no other family and no input.
@@ -220,6 +268,78 @@ impl From<AuditFault> for RunFault {
             input: None,
             family,
             number,
+        }
+    }
+}
+
+/// A call on a shared replica that was refused.
+impl From<ShareFault> for RunFault {
+    ghost use Rattle.std.specs.Prelude.{◌≡◌, None};
+    ghost use Rattle.tca_ingest.specs.Faults.{share_number};
+    ghost use Rattle.tcacct.specs.Runs.{refusal};
+    ghost use Rattle.tcacct.specs.declared.fault.Family.TheVariants as family;
+
+    ghost from_gives = { λ fault e. e ≡ refusal None family.Share (share_number fault) };
+
+    fn from(fault: ShareFault) -> RunFault {
+        RunFault {
+            input: None,
+            family: Family::Share,
+            number: fault.number(),
+        }
+    }
+}
+
+/// Workers that didn't do all jobs.
+impl From<WorkFault> for RunFault {
+    ghost use Rattle.std.specs.Prelude.{◌≡◌, None};
+    ghost use Rattle.tca_ingest.specs.Faults.{work_number};
+    ghost use Rattle.tcacct.specs.Runs.{refusal};
+    ghost use Rattle.tcacct.specs.declared.fault.Family.TheVariants as family;
+
+    ghost from_gives = { λ fault e. e ≡ refusal None family.Work (work_number fault) };
+
+    fn from(fault: WorkFault) -> RunFault {
+        RunFault {
+            input: None,
+            family: Family::Work,
+            number: fault.number(),
+        }
+    }
+}
+
+/// Replicas that don't close, or don't agree.
+impl From<CloseFault> for RunFault {
+    ghost use Rattle.std.specs.Prelude.{◌≡◌, None};
+    ghost use Rattle.tca_ingest.specs.Faults.{close_number};
+    ghost use Rattle.tcacct.specs.Runs.{refusal};
+    ghost use Rattle.tcacct.specs.declared.fault.Family.TheVariants as family;
+
+    ghost from_gives = { λ fault e. e ≡ refusal None family.Close (close_number fault) };
+
+    fn from(fault: CloseFault) -> RunFault {
+        RunFault {
+            input: None,
+            family: Family::Close,
+            number: fault.number(),
+        }
+    }
+}
+
+/// A replica that doesn't absorb what another one holds.
+impl From<AbsorbFault> for RunFault {
+    ghost use Rattle.std.specs.Prelude.{◌≡◌, None};
+    ghost use Rattle.tca_gossip.specs.Answers.{absorb_number};
+    ghost use Rattle.tcacct.specs.Runs.{refusal};
+    ghost use Rattle.tcacct.specs.declared.fault.Family.TheVariants as family;
+
+    ghost from_gives = { λ fault e. e ≡ refusal None family.Absorb (absorb_number fault) };
+
+    fn from(fault: AbsorbFault) -> RunFault {
+        RunFault {
+            input: None,
+            family: Family::Absorb,
+            number: fault.number(),
         }
     }
 }

@@ -1,9 +1,10 @@
 //! The words of a command line.
-ghost use Rattle.std.specs.Prelude.{◌≡◌, ◌≢◌, ◌∷◌, [], IfOk, IfErr, Some, None, codes, map, option_map, slice_get};
+ghost use Rattle.std.specs.Prelude.{◌≡◌, ◌≢◌, ◌≤◌, ◌∷◌, [], IfOk, IfErr, IfSome, Some, None, codes, length, map, option_and_then, option_map, slice_get};
 ghost use Rattle.clap.specs.Words.{all_of, first_of, found_of, kind_of, rows_of};
-ghost use Rattle.tcacct.specs.Lines.{bill, bill_of, combine, combine_of, command_of, inputs_of, line_number, meter, meter_of, order_from, order_in, order_of, texts, audit, audit_of, files_of};
+ghost use Rattle.tcacct.specs.Commands.{most_billed};
+ghost use Rattle.tcacct.specs.Lines.{IsWithin, bill, bill_of, billed, number_at, combine, combine_of, command_of, inputs_of, line_number, meter, meter_of, order_from, order_in, order_of, texts, audit, audit_of, files_of};
 
-use crate::commands;
+use crate::commands::{self, MOST_BILLED, MOST_REPLICAS, MOST_WORKERS};
 use clap::ArgMatches;
 use clap::error::ErrorKind;
 use std::alloc::{AllocError, AllocFailed, Global};
@@ -21,6 +22,8 @@ pub enum Line<'a> {
         inputs: Vec<&'a str>,
     },
     Bill {
+        replicas: u32,
+        workers: u32,
         export: Option<&'a str>,
         plan: &'a str,
         inputs: Vec<&'a str>,
@@ -151,7 +154,8 @@ fn texts<'a>(
 }
 
 fn meter_line<'a>(alloc: Global, matches: &ArgMatches<'a>) -> Result<Option<Line<'a>>, AllocError>
-    ensures { IfOk result (λ o. option_map order_of o ≡ meter_of (rows_of (found_of matches.now))) }
+    ensures line { IfOk result (λ o. option_map order_of o ≡ meter_of (rows_of (found_of matches.now))) }
+    ensures within { IfOk result (λ o. IfSome o (λ l. IsWithin (order_of l))) }
 {
     let Some(spec) = text(matches, "SPEC") else {
         return Ok(None);
@@ -163,7 +167,8 @@ fn meter_line<'a>(alloc: Global, matches: &ArgMatches<'a>) -> Result<Option<Line
 }
 
 fn combine_line<'a>(alloc: Global, matches: &ArgMatches<'a>) -> Result<Option<Line<'a>>, AllocError>
-    ensures { IfOk result (λ o. option_map order_of o ≡ combine_of (rows_of (found_of matches.now))) }
+    ensures line { IfOk result (λ o. option_map order_of o ≡ combine_of (rows_of (found_of matches.now))) }
+    ensures within { IfOk result (λ o. IfSome o (λ l. IsWithin (order_of l))) }
 {
     let Some(out) = text(matches, "OUT") else {
         return Ok(None);
@@ -174,17 +179,52 @@ fn combine_line<'a>(alloc: Global, matches: &ArgMatches<'a>) -> Result<Option<Li
     Ok(Some(Line::Combine { out, inputs }))
 }
 
-fn bill_line<'a>(alloc: Global, matches: &ArgMatches<'a>) -> Result<Option<Line<'a>>, AllocError>
-    ensures { IfOk result (λ o. option_map order_of o ≡ bill_of (rows_of (found_of matches.now))) }
+// A number from 1 to `most`.
+fn number(matches: &ArgMatches<'_>, id: &str, most: u32) -> Option<u32>
+    ensures number { result ≡ number_at most id.now (rows_of (found_of matches.now)) }
+    ensures within { IfSome result (λ n. (1 ≤ n) × (n ≤ most)) }
 {
+    match matches.get_one::<u32>(id) {
+        Some(n) if 1 <= n && n <= most => Some(n),
+        _ => None,
+    }
+}
+
+// The words of a bill's inputs, where there are neither too few nor too many.
+fn billed<'a>(alloc: Global, matches: &ArgMatches<'a>) -> Result<Option<Vec<&'a str>>, AllocError>
+    ensures inputs { IfOk result (λ o. option_map (λ v. texts v.items) o
+        ≡ option_and_then billed (all_of (codes "INPUT") (rows_of (found_of matches.now)))) }
+    ensures within { IfOk result (λ o. IfSome o (λ v. (1 ≤ length v.items) × (length v.items ≤ most_billed))) }
+{
+    let Some(inputs) = texts(alloc, matches, "INPUT")? else {
+        return Ok(None);
+    };
+    if inputs.is_empty() || inputs.len() > MOST_BILLED {
+        return Ok(None);
+    }
+    Ok(Some(inputs))
+}
+
+fn bill_line<'a>(alloc: Global, matches: &ArgMatches<'a>) -> Result<Option<Line<'a>>, AllocError>
+    ensures line { IfOk result (λ o. option_map order_of o ≡ bill_of (rows_of (found_of matches.now))) }
+    ensures within { IfOk result (λ o. IfSome o (λ l. IsWithin (order_of l))) }
+{
+    let Some(replicas) = number(matches, "replicas", MOST_REPLICAS) else {
+        return Ok(None);
+    };
+    let Some(workers) = number(matches, "workers", MOST_WORKERS) else {
+        return Ok(None);
+    };
     let Some(plan) = text(matches, "PLAN") else {
         return Ok(None);
     };
-    let Some(inputs) = texts(alloc, matches, "INPUT")? else {
+    let Some(inputs) = billed(alloc, matches)? else {
         return Ok(None);
     };
     let export = text(matches, "export");
     Ok(Some(Line::Bill {
+        replicas,
+        workers,
         export,
         plan,
         inputs,
@@ -192,7 +232,8 @@ fn bill_line<'a>(alloc: Global, matches: &ArgMatches<'a>) -> Result<Option<Line<
 }
 
 fn audit_line<'a>(matches: &ArgMatches<'a>) -> Option<Line<'a>>
-    ensures { option_map order_of result ≡ audit_of (rows_of (found_of matches.now)) }
+    ensures line { option_map order_of result ≡ audit_of (rows_of (found_of matches.now)) }
+    ensures within { IfSome result (λ l. IsWithin (order_of l)) }
 {
     let plan = text(matches, "PLAN")?;
     let export = text(matches, "EXPORT")?;
@@ -209,8 +250,9 @@ fn line_from<'a>(
     name: &str,
     matches: &ArgMatches<'a>,
 ) -> Result<Option<Line<'a>>, AllocError>
-    ensures { IfOk result (λ o. option_map order_of o
+    ensures line { IfOk result (λ o. option_map order_of o
         ≡ order_from name.now (rows_of (found_of matches.now))) }
+    ensures within { IfOk result (λ o. IfSome o (λ l. IsWithin (order_of l))) }
 {
     match name {
         "meter" => meter_line(alloc, matches),
@@ -245,11 +287,12 @@ fn fault_of(alloc: Global, error: &clap::Error) -> LineFault
 
 /// Reads the words of a command line, of which the first is the program's own name. Ok is what
 /// they ask for by clap's meaning of the commands; words that have such a meaning are refused for
-/// want of memory alone.
+/// want of memory alone. A bill that is read has 1 to 16 replicas, 1 to 64 workers of each and 1 to 256 inputs.
 pub fn read_line<'a>(alloc: Global, words: &'a [&'a str]) -> Result<Line<'a>, LineFault>
     ensures ok { IfOk result (λ l. order_in (map (λ s. s.now) words.entry.now) ≡ Some (order_of l)) }
     ensures refused { IfErr result (λ e. e ≢ LineFault.Memory
         → order_in (map (λ s. s.now) words.entry.now) ≡ None) }
+    ensures within { IfOk result (λ l. IsWithin (order_of l)) }
 {
     let command = match commands::program(alloc) {
         Ok(command) => command,
@@ -282,14 +325,19 @@ pub fn written_out()
     ensures no_words { order_in ([]) ≡ None }
     ensures no_command { order_in (codes "tcacct" ∷ []) ≡ None }
     ensures bill { order_in (codes "tcacct" ∷ codes "bill" ∷ codes "plan" ∷ codes "a" ∷ codes "b" ∷ [])
-        ≡ Some (bill None (codes "plan") (codes "a" ∷ codes "b" ∷ [])) }
+        ≡ Some (bill 2 2 None (codes "plan") (codes "a" ∷ codes "b" ∷ [])) }
     ensures bill_export { order_in (codes "tcacct" ∷ codes "bill" ∷ codes "--export" ∷ codes "o" ∷ codes "plan" ∷ codes "a" ∷ [])
-        ≡ Some (bill (Some (codes "o")) (codes "plan") (codes "a" ∷ [])) }
+        ≡ Some (bill 2 2 (Some (codes "o")) (codes "plan") (codes "a" ∷ [])) }
     ensures export_behind { order_in (codes "tcacct" ∷ codes "bill" ∷ codes "plan" ∷ codes "a" ∷ codes "b" ∷ codes "--export=o" ∷ [])
-        ≡ Some (bill (Some (codes "o")) (codes "plan") (codes "a" ∷ codes "b" ∷ [])) }
+        ≡ Some (bill 2 2 (Some (codes "o")) (codes "plan") (codes "a" ∷ codes "b" ∷ [])) }
     ensures plan_alone { order_in (codes "tcacct" ∷ codes "bill" ∷ codes "plan" ∷ []) ≡ None }
     ensures two_exports { order_in (codes "tcacct" ∷ codes "bill" ∷ codes "--export" ∷ codes "o" ∷ codes "--export" ∷ codes "p" ∷ codes "plan" ∷ codes "a" ∷ []) ≡ None }
-    ensures no_workers { order_in (codes "tcacct" ∷ codes "bill" ∷ codes "--workers" ∷ codes "2" ∷ codes "plan" ∷ codes "a" ∷ []) ≡ None }
+    ensures replicas_and_workers { order_in (codes "tcacct" ∷ codes "bill" ∷ codes "--workers" ∷ codes "64" ∷ codes "--replicas=16" ∷ codes "plan" ∷ codes "a" ∷ [])
+        ≡ Some (bill 16 64 None (codes "plan") (codes "a" ∷ [])) }
+    ensures no_replica { order_in (codes "tcacct" ∷ codes "bill" ∷ codes "--replicas" ∷ codes "0" ∷ codes "plan" ∷ codes "a" ∷ []) ≡ None }
+    ensures many_replicas { order_in (codes "tcacct" ∷ codes "bill" ∷ codes "--replicas" ∷ codes "17" ∷ codes "plan" ∷ codes "a" ∷ []) ≡ None }
+    ensures no_worker { order_in (codes "tcacct" ∷ codes "bill" ∷ codes "--workers" ∷ codes "0" ∷ codes "plan" ∷ codes "a" ∷ []) ≡ None }
+    ensures many_workers { order_in (codes "tcacct" ∷ codes "bill" ∷ codes "--workers" ∷ codes "65" ∷ codes "plan" ∷ codes "a" ∷ []) ≡ None }
     ensures audit { order_in (codes "tcacct" ∷ codes "audit" ∷ codes "plan" ∷ codes "e" ∷ codes "s" ∷ [])
         ≡ Some (audit (codes "plan") (codes "e") (codes "s")) }
     ensures no_statement { order_in (codes "tcacct" ∷ codes "audit" ∷ codes "plan" ∷ codes "e" ∷ []) ≡ None }

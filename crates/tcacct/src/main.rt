@@ -5,6 +5,7 @@
 //! word of that line, the exit status and the texts.
 #![tactic(auto)]
 
+mod answers;
 mod audit;
 mod bill;
 mod combine;
@@ -16,6 +17,8 @@ mod inputs;
 mod line;
 mod meter;
 mod notes;
+mod replicas;
+mod replicated;
 mod shell;
 #[cfg(test)]
 mod tests;

@@ -1,11 +1,11 @@
 //! The program over a file system, standard output and standard error that are given: what `main` does,
 //! so that tests can do it too.
-ghost use Rattle.std.specs.Prelude.{◌≡◌, ◌≢◌, ◌≤◌, IfOk, None, map, string_bytes};
+ghost use Rattle.std.specs.Prelude.{◌≡◌, ◌≢◌, ◌≤◌, IfOk, None, length, map, string_bytes};
 ghost use Rattle.tcacct.specs.Endings.{status_of};
-ghost use Rattle.tcacct.specs.Lines.{order_in};
+ghost use Rattle.tcacct.specs.Lines.{IsWithin, order_in, order_of};
+ghost use Rattle.tcacct.specs.Replicated.{IsWithinLimits};
 
 use crate::audit::run_audit;
-use crate::bill::run_bill_plain;
 use crate::combine::run_combine;
 use crate::ending::{Ending, word_of};
 use crate::fault::RunFault;
@@ -13,10 +13,14 @@ use crate::files::{create, read_files, read_numbered, read_plan};
 use crate::line::{Line, LineFault, read_line};
 use crate::meter::run_meter;
 use crate::notes::NotesLine;
+use crate::replicated::run_bill;
 use std::alloc::{AllocError, Global};
 use std::env::Env;
 use std::rt::Files;
+use std::sync::Wait;
+use std::thread::Threads;
 use std::{env, io};
+use tca_ingest::NoGate;
 use tca_report::{Notes, Write, put_all};
 
 const NOT_TEXT: &str = "error: a word of the command line is not UTF-8\n";
@@ -35,7 +39,7 @@ pub fn words_of<R: Env + AllocGlobal>(rt: &R) -> Result<Vec<String>, LineFault> 
 }
 
 /// Runs the words of a command line, as `run` does, with the same exit status.
-pub fn run_words<R: Files + AllocGlobal, W: Write, V: io::Write>(
+pub fn run_words<R: Files + Threads + Wait + Sync + AllocGlobal, W: Write, V: io::Write>(
     rt: &R,
     words: &[String],
     out: &mut W,
@@ -64,7 +68,7 @@ fn texts_of(alloc: Global, words: &[String]) -> Result<Vec<&str>, AllocError>
 /// status. All files are read first, in order of the words; then OUT is made, where there is one; then
 /// the command is run. What can't be written to `errors` is left out. The exit status is 2 only where the
 /// words ask for no command.
-pub fn run<R: Files + AllocGlobal, W: Write, V: io::Write>(
+pub fn run<R: Files + Threads + Wait + Sync + AllocGlobal, W: Write, V: io::Write>(
     rt: &R,
     words: &[&str],
     out: &mut W,
@@ -130,11 +134,13 @@ enum Outcome {
 }
 
 // Reads the files of a command and runs it.
-fn run_line<R: Files + AllocGlobal, W: Write>(
+fn run_line<R: Files + Threads + Wait + Sync + AllocGlobal, W: Write>(
     rt: &R,
     line: &Line<'_>,
     out: &mut W,
-) -> Result<Outcome, RunFault> {
+) -> Result<Outcome, RunFault>
+    requires { IsWithin (order_of line.now) }
+{
     match line {
         Line::Meter { spec, inputs } => {
             let inputs = read_files(rt, inputs)?;
@@ -148,32 +154,62 @@ fn run_line<R: Files + AllocGlobal, W: Write>(
             Ok(Outcome::Done)
         }
         Line::Bill {
+            replicas,
+            workers,
             export,
             plan,
             inputs,
         } => {
-            let plan = read_plan(rt, *plan)?;
-            let inputs = read_files(rt, inputs)?;
-            let mut export = match export {
-                Some(path) => Some(create(rt, *path)?),
-                None => None,
-            };
-            let notes = run_bill_plain(rt.alloc(), &plan, &inputs, export.as_mut(), out)?;
-            Ok(Outcome::Noted(notes))
+            let numbers = (*replicas, *workers);
+            billed(rt, numbers, *export, *plan, inputs, out)
         }
         Line::Audit {
             plan,
             export,
             statement,
-        } => {
-            let plan = read_plan(rt, *plan)?;
-            let export = read_numbered(rt, 0, *export)?;
-            let statement = read_numbered(rt, 1, *statement)?;
-            if run_audit(rt.alloc(), &plan, &export, &statement, out)? {
-                Ok(Outcome::Done)
-            } else {
-                Ok(Outcome::Differs)
-            }
-        }
+        } => audited(rt, *plan, *export, *statement, out),
+    }
+}
+
+// Reads the files of a bill, and bills them by so many replicas, each of so many workers.
+fn billed<R: Files + Threads + Wait + Sync + AllocGlobal, W: Write>(
+    rt: &R,
+    numbers: (u32, u32),
+    export: Option<&str>,
+    plan: &str,
+    inputs: &[&str],
+    out: &mut W,
+) -> Result<Outcome, RunFault>
+    requires { IsWithinLimits numbers.0 numbers.1 (length inputs.now) }
+{
+    let plan = read_plan(rt, plan)?;
+    let inputs = read_files(rt, inputs)?;
+    let mut export = match export {
+        Some(path) => Some(create(rt, path)?),
+        None => None,
+    };
+    let (alloc, export) = (rt.alloc(), export.as_mut());
+    let (replicas, workers) = numbers;
+    let notes = run_bill(
+        rt, alloc, &plan, &inputs, replicas, workers, &NoGate, export, out,
+    )?;
+    Ok(Outcome::Noted(notes))
+}
+
+// Reads the files of an audit and runs it.
+fn audited<R: Files + AllocGlobal, W: Write>(
+    rt: &R,
+    plan: &str,
+    export: &str,
+    statement: &str,
+    out: &mut W,
+) -> Result<Outcome, RunFault> {
+    let plan = read_plan(rt, plan)?;
+    let export = read_numbered(rt, 0, export)?;
+    let statement = read_numbered(rt, 1, statement)?;
+    if run_audit(rt.alloc(), &plan, &export, &statement, out)? {
+        Ok(Outcome::Done)
+    } else {
+        Ok(Outcome::Differs)
     }
 }

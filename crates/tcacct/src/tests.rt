@@ -1,4 +1,6 @@
 mod commands;
 mod faults;
+mod gates;
 mod lines;
+mod replicated;
 mod shell;

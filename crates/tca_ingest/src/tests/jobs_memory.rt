@@ -30,6 +30,11 @@ fn is_done(done: &Done) -> bool {
     }
 }
 
+// Whether memory was refused, or a thread, which needs memory too.
+fn is_refused(fault: WorkFault) -> bool {
+    fault == WorkFault::Memory || fault == WorkFault::NoThread
+}
+
 fn has_all(log: &Log, reports: &[Report]) -> bool {
     for report in reports {
         if !log.contains(report) {
@@ -74,7 +79,7 @@ fn works_and_closes<L: Side + Send + Sync, R: Threads + Wait + Sync>(
     let shared = Shared::<L>::new(alloc, blank, name, plan)?;
     let (is_right, passes) = match work(rt, alloc, &shared, &inputs, &NoGate, 2) {
         Ok(Worked { done, passes }) => (done.len() == 2 && done.iter().all(is_done), passes),
-        Err(WorkRefused { fault, passes }) => (fault == WorkFault::Memory, passes),
+        Err(WorkRefused { fault, passes }) => (is_refused(fault), passes),
     };
     let Ok(closed) = shared.close(passes) else {
         return Ok(false);

@@ -7,7 +7,7 @@ use std::test::*;
 use tca_report::Notes;
 
 // Each family with its name, in the order of the enum.
-const FAMILIES: [(Family, &str); 9] = [
+const FAMILIES: [(Family, &str); 13] = [
     (Family::Read, "read"),
     (Family::Export, "export"),
     (Family::Wire, "wire"),
@@ -15,6 +15,10 @@ const FAMILIES: [(Family, &str); 9] = [
     (Family::Plan, "plan"),
     (Family::Spec, "spec"),
     (Family::Log, "log"),
+    (Family::Share, "share"),
+    (Family::Work, "work"),
+    (Family::Close, "close"),
+    (Family::Absorb, "absorb"),
     (Family::Write, "write"),
     (Family::Memory, "memory"),
 ];

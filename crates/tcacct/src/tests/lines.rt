@@ -20,15 +20,28 @@ fn reads_lines(rt: HostRuntime) -> Result<(), Fail> {
         }
         _ => return Err("no combine line".into()),
     }
-    let words = ["tcacct", "bill", "--export", "o", "p", "a", "b"];
+    let words = [
+        "tcacct",
+        "bill",
+        "--replicas",
+        "3",
+        "--export",
+        "o",
+        "p",
+        "a",
+        "b",
+    ];
     match read_line(rt.alloc(), words.as_slice()) {
         Ok(
             Line::Bill {
+                replicas,
+                workers,
                 export,
                 plan,
                 inputs,
             },
         ) => {
+            assert_eq!(rt; (replicas, workers), (3, 2));
             assert_eq!(rt; export, Some("o"));
             assert_eq!(rt; plan, "p");
             assert_eq!(rt; inputs.as_slice(), ["a", "b"].as_slice());
@@ -71,7 +84,7 @@ fn help(alloc: Global, words: &[&str]) -> Option<String> {
 
 #[test]
 fn refuses_wrong_lines(rt: HostRuntime) -> Result<(), Fail> {
-    let lines: [(&[&str], &str); 10] = [
+    let lines: [(&[&str], &str); 11] = [
         (&[], "Usage: tcacct"),
         (&["tcacct"], "Usage: tcacct"),
         (&["tcacct", "check", "p", "e", "s"], "'check'"),
@@ -80,8 +93,12 @@ fn refuses_wrong_lines(rt: HostRuntime) -> Result<(), Fail> {
         (&["tcacct", "combine", "o"], "<INPUT>"),
         (&["tcacct", "bill", "p"], "<INPUT>"),
         (
-            &["tcacct", "bill", "--workers", "2", "p", "a"],
-            "'--workers'",
+            &["tcacct", "bill", "--workers", "65", "p", "a"],
+            "'--workers <N>'",
+        ),
+        (
+            &["tcacct", "bill", "--replicas", "0", "p", "a"],
+            "'--replicas <N>'",
         ),
         (
             &["tcacct", "bill", "--export", "o", "--export", "o", "p", "a"],

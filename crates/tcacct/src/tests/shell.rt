@@ -8,7 +8,10 @@ use crate::tests::commands::{
 use std::alloc::{AllocError, Global};
 use std::env::{Env, FillError};
 use std::path::PathBuf;
+use std::rt::Files;
+use std::sync::Wait;
 use std::test::*;
+use std::thread::Threads;
 use std::{env, fs, process};
 use tca_report::Host;
 
@@ -38,7 +41,10 @@ fn enter(rt: &HostRuntime, name: &str) -> Result<PathBuf, Fail> {
 
 // Runs these words behind the program's name. Gives the exit status, what is printed, and what goes to
 // standard error, with a bar between.
-fn ran(rt: &HostRuntime, words: &[&str]) -> Result<String, Fail> {
+fn ran<R: Files + Threads + Wait + Sync + AllocGlobal>(
+    rt: &R,
+    words: &[&str],
+) -> Result<String, Fail> {
     let mut line = Vec::new(rt.alloc());
     line.push("tcacct")?;
     line.extend_from_slice(words)?;

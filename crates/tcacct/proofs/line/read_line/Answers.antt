@@ -29,7 +29,7 @@ returns-in-Ok-Some-clause-ok c =
     ap (λ (a : App). subcommand_of a words) (sym c.in-Ok.ensures) ∙ sym (parse.matches (ap is_simple c.in-Ok.ensures ∙ has_order)).1 in
     let rows = rows_of (found_of c.in-Some.inner.now) in
     let is = met_is m c.in-Some.name.now rows c.in-Some.ensures.name c.in-Some.ensures.rows in
-    order_here _ _ c.in-Some.name.now rows no_fault (met ∙ is) ∙ sym c.in-Ok-Some.ensures ∙ ap (option_map order_of) c.in-Ok-Some.field-0-is
+    order_here _ _ c.in-Some.name.now rows no_fault (met ∙ is) ∙ sym c.in-Ok-Some.ensures.line ∙ ap (option_map order_of) c.in-Ok-Some.field-0-is
 
 pub returns-in-Ok-None-clause-refused : goal.returns-in-Ok-None-clause-refused
 returns-in-Ok-None-clause-refused c = λ other.
@@ -41,4 +41,4 @@ returns-in-Ok-None-clause-refused c = λ other.
     ap (λ (a : App). subcommand_of a words) (sym c.in-Ok.ensures) ∙ sym (parse.matches (ap is_simple c.in-Ok.ensures ∙ has_order)).1 in
     let rows = rows_of (found_of c.in-Some.inner.now) in
     let is = met_is m c.in-Some.name.now rows c.in-Some.ensures.name c.in-Some.ensures.rows in
-    order_here _ _ c.in-Some.name.now rows no_fault (met ∙ is) ∙ sym c.in-Ok-None.ensures ∙ ap (option_map order_of) c.in-Ok-None.field-0-is
+    order_here _ _ c.in-Some.name.now rows no_fault (met ∙ is) ∙ sym c.in-Ok-None.ensures.line ∙ ap (option_map order_of) c.in-Ok-None.field-0-is

@@ -1,0 +1,48 @@
+use Rattle.std.proofs.Common.{◌≡◌, ◌∙◌, ◌++◌, ◌∷◌, [], Err, List, map, rules, ap, subst}
+use Rattle.std.proofs.Math.ListN.{drop_of_length-le}
+use Rattle.std.proofs.lemmas.List.{map-append}
+use Rattle.tca_report.specs.report.Reports.{PacketReport}
+use Rattle.tcacct.specs.Noted.{IsNoted}
+use Rattle.tcacct.specs.Replicated.{IsInputFault}
+use Rattle.tcacct.specs.Runs.{HoldsReports}
+use Rattle.tcacct.proofs.NotedLaws.{all_noted, one_noted}
+use Rattle.tcacct.proofs.ReadLaws.{all_held, one_held, one_sound, refused_at, sound_of}
+use Rattle.tcacct.proofs.Uniting.{cut}
+use Rattle.tcacct.proofs.answers.contents_of.Goals as goal
+
+pub returns-in_err-noted-clause-refused : goal.returns-in_err-noted-clause-refused
+returns-in_err-noted-clause-refused c =
+    let l = c.loop-n in
+    let e = c.in_err-noted.field-0.0 in
+    let input = c.index-inputs-n.result in
+    let its : c.in_ok-answer.answer.input ≡ input.items = c.in_ok-answer.ensures.same ∙ c.deref.ensures.value in
+    let is : c.from_residual-in_err-noted.result ≡ Err e = search rules in
+    rw is (refused_at (λ v. v.items) c.args.inputs.now l.n input e c.loop-n-test.true c.index-inputs-n.is l.invariant.before (subst (λ i. IsInputFault l.n i e) its c.in_err-noted.ensures.refused))
+
+pub loop-n-preserved : goal.loop-n-preserved
+loop-n-preserved c =
+    let l = c.loop-n in
+    let input = c.index-inputs-n.result in
+    let notes = c.in_ok-noted.noted in
+    let reports = c.in_ok-noted.reports in
+    let its : c.in_ok-answer.answer.input ≡ input.items = c.in_ok-answer.ensures.same ∙ c.deref.ensures.value in
+    let noted : IsNoted input.items notes = subst (λ i. IsNoted i notes) its c.in_ok-noted.ensures.noted in
+    let holds : HoldsReports input.items reports.items = subst (λ i. HoldsReports i reports.items) its c.in_ok-noted.ensures.holds in
+    let here = cut (λ v. v.items) c.args.inputs.now l.n input c.loop-n-test.true c.index-inputs-n.is in
+    let so_far : List (List PacketReport) = map (λ v. v.items) l.lists.items in
+    let more_notes : c.push.new.self.items ≡ l.notes.items ++ (notes ∷ []) = search rules in
+    let more_lists : c.push-else-is_err.new.self.items ≡ l.lists.items ++ (reports ∷ []) = search rules in
+    let more : map (λ v. v.items) c.push-else-is_err.new.self.items ≡ so_far ++ (reports.items ∷ []) = ap (map (λ v. v.items)) more_lists ∙ map-append (λ v. v.items) l.lists.items (reports ∷ []) in
+    record {
+      noted = rw more_notes (one_noted _ _ input.items l.notes.items notes noted (rw here at l.invariant.noted));
+      hold = rw more (one_held _ _ input.items so_far reports.items holds (rw here at l.invariant.hold));
+      before = one_sound (λ v. v.items) c.args.inputs.now l.n input c.loop-n-test.true c.index-inputs-n.is l.invariant.before (sound_of input.items notes noted);
+    }
+
+pub returns-clause-read : goal.returns-clause-read
+returns-clause-read c =
+    let l = c.loop-n in
+    record {
+      noted = all_noted _ l.notes.items (rw (drop_of_length-le c.args.inputs.now c.loop-n-test.false) at l.invariant.noted);
+      hold = all_held _ (map (λ v. v.items) l.lists.items) (rw (drop_of_length-le c.args.inputs.now c.loop-n-test.false) at l.invariant.hold);
+    }

@@ -1,0 +1,33 @@
+use Rattle.std.proofs.Common.{◌≡◌, None, Ok, Err, rules, subst, inl}
+use Rattle.tca_ingest.specs.EntryViews.{entry_view}
+use Rattle.tca_ingest.specs.Entries.{Took}
+use Rattle.tca_ingest.specs.Works.{IsResult}
+use Rattle.tca_ingest.specs.declared.job.JobFault.TheVariants.{Input}
+use Rattle.tcacct.specs.Replicated.{AnswerView}
+use Rattle.tcacct.specs.Runs.{HoldsReports}
+use Rattle.tcacct.proofs.ReadLaws.{holds_if_taken, noted_if_taken, own_fault}
+use Rattle.tcacct.proofs.answers.read_answer.Goals as goal
+
+pub returns-in-Err-Input-clause-refused : goal.returns-in-Err-Input-clause-refused
+returns-in-Err-Input-clause-refused c =
+    let fault = c.in-Err-Input.fault in
+    let result : c.args.answer.result ≡ Err (Input fault) = search rules in
+    let is : IsResult c.args.answer.input c.args.answer.result = subst (λ (v : AnswerView). IsResult v.input v.result) c.answer.view_is c.answer.invariant in
+    inl (own_fault c.args.n c.args.answer.input fault c.input.result c.input.ensures.fault (subst (IsResult c.args.answer.input) result is))
+
+pub returns-in-Took-default-default-default-None-clause-noted :
+    goal.returns-in-Took-default-default-default-None-clause-noted
+returns-in-Took-default-default-default-None-clause-noted c =
+    let result : c.args.answer.result ≡ Ok (c.in-Ok.notes, c.in-Ok.receipt) = search rules in
+    let is : IsResult c.args.answer.input c.args.answer.result = subst (λ (v : AnswerView). IsResult v.input v.result) c.answer.view_is c.answer.invariant in
+    noted_if_taken c.args.answer.input c.in-Ok.notes c.in-Ok.receipt (subst (IsResult c.args.answer.input) result is)
+
+pub returns-in-Took-default-default-default-None-clause-holds :
+    goal.returns-in-Took-default-default-default-None-clause-holds
+returns-in-Took-default-default-default-None-clause-holds c =
+    let w = c.in-Took-default-default-default-None in
+    let result : c.args.answer.result ≡ Ok (c.in-Ok.notes, c.in-Ok.receipt) = search rules in
+    let is : IsResult c.args.answer.input c.args.answer.result = subst (λ (v : AnswerView). IsResult v.input v.result) c.answer.view_is c.answer.invariant in
+    let says : entry_view c.in-Ok.receipt.entry ≡ Took w.pass w.reports.items w.fresh None = search rules in
+    let held = holds_if_taken c.args.answer.input c.in-Ok.notes c.in-Ok.receipt w.pass w.fresh w.reports.items (subst (IsResult c.args.answer.input) result is) says in
+    subst (HoldsReports c.args.answer.input) (search rules) held

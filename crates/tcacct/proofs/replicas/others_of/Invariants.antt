@@ -1,0 +1,7 @@
+use Rattle.tcacct.proofs.replicas.others_of.Given as goal
+
+abbrev pub ghosts-read_by-L-Ledger : goal.ghosts-read_by-L-Ledger
+ghosts-read_by-L-Ledger g a = record { name = a.blank.name; parts = a.blank.parts }
+
+abbrev pub ghosts-read_by-L-Side : goal.ghosts-read_by-L-Side
+ghosts-read_by-L-Side g a = record { plan = a.plan; called = a.name }

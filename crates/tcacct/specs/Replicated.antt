@@ -1,0 +1,115 @@
+-- What the command `bill` is refused for where replicas and workers read the inputs.
+use Rattle.std.specs.Prelude.{◌≡◌, ◌≢◌, ◌≤◌, ◌⊎◌, ℕ, Bool, true, false, List, take, Option, Some, None, Result, Err, IsOk, slice_get}
+use Rattle.std.specs.List.{AllByRecursion}
+use Rattle.tca_report.specs.report.Reports.{PacketReport}
+use Rattle.tca_report.specs.export.Spelling.{export}
+use Rattle.tca_report.specs.input.Inputs.{input_of}
+use Rattle.tca_report.specs.declared.input.InputFault.{InputFault}
+use Rattle.tca_report.specs.declared.input.InputFault.TheVariants.{Memory}
+use Rattle.tca_report.specs.declared.input.Notes.{Notes}
+use Rattle.tca_accounts.specs.Plans.{AccountPlan}
+use Rattle.tca_accounts.specs.Faults.{plan_number}
+use Rattle.tca_accounts.specs.declared.fault.PlanFault.{PlanFault}
+use Rattle.tca_ingest.specs.declared.entry.Receipt.{Receipt}
+use Rattle.tca_ingest.specs.declared.job.JobFault.{JobFault}
+use Rattle.tcacct.specs.declared.fault.RunFault.{RunFault}
+use Rattle.tcacct.specs.declared.fault.Family.{Family}
+use Rattle.tcacct.specs.declared.fault.Family.TheVariants as family
+use Rattle.tcacct.specs.Billed.{IsPlanOf, RefusesPlan, statement_under}
+use Rattle.tcacct.specs.Commands.{most_billed, most_replicas, most_workers}
+use Rattle.tcacct.specs.Devices.{Device, IsCutOff, IsCutOffIfGiven, ReceivesIfGiven}
+use Rattle.tcacct.specs.Noted.{AreNotes}
+use Rattle.tcacct.specs.Runs.{HoldReports, IsUnion, input_refusal, is_write, refusal, write_refusal}
+
+-- how many replicas, workers of each and inputs there may be
+pub record IsWithinLimits (replicas workers inputs : ℕ) : Type 0 where
+  pub a_replica : 1 ≤ replicas
+  pub few_replicas : replicas ≤ most_replicas
+  pub a_worker : 1 ≤ workers
+  pub few_workers : workers ≤ most_workers
+  pub an_input : 1 ≤ inputs
+  pub few_inputs : inputs ≤ most_billed
+
+-- an input, and what came of it
+pub record AnswerView : Type 0 where
+  pub input : List ℕ
+  pub result : Result (Notes × Receipt) JobFault
+
+-- each input was read: these are the inputs' notes, and each holds the reports beside it
+pub record AreRead (inputs : List (List ℕ)) (notes : List Notes) (lists : List (List PacketReport)) : Type 0 where
+  pub noted : AreNotes inputs notes
+  pub hold : HoldReports inputs lists
+
+-- the families of a refusal that blames no input: a call on a replica, its workers, replicas that don't close or don't agree, a
+-- replica that doesn't absorb, and want of memory
+abbrev pub is_of_run : Family → Bool
+is_of_run family.Share = true
+is_of_run family.Work = true
+is_of_run family.Close = true
+is_of_run family.Absorb = true
+is_of_run family.Memory = true
+is_of_run other = false
+
+abbrev pub IsRunRefused : RunFault → Type 0
+IsRunRefused e = (e.input ≡ None) × (is_of_run e.family ≡ true)
+
+-- the families of a refusal of an input that has no fault: the log of its replica has no room or finds no memory for its reports, or the
+-- replica refused the call
+abbrev pub is_of_take : Family → Bool
+is_of_take family.Log = true
+is_of_take family.Share = true
+is_of_take other = false
+
+-- input n is refused by its own fault, or because it found no memory
+abbrev pub IsOwnFault : ℕ → List ℕ → RunFault → Type 0
+IsOwnFault n input e = (fault : InputFault) × (e ≡ input_refusal n fault) × (fault ≢ Memory → input_of input ≡ Err fault)
+
+-- input n is read, and its replica didn't take its reports, or not all
+abbrev pub IsNotTaken : ℕ → List ℕ → RunFault → Type 0
+IsNotTaken n input e = IsOk (input_of input) × (e.input ≡ Some n) × (is_of_take e.family ≡ true)
+
+abbrev pub IsInputFault : ℕ → List ℕ → RunFault → Type 0
+IsInputFault n input e = IsOwnFault n input e ⊎ IsNotTaken n input e
+
+-- inputs without a fault
+abbrev pub AreSound : List (List ℕ) → Type 0
+AreSound inputs = AllByRecursion (λ input. IsOk (input_of input)) inputs
+
+-- the refusal of an input, before which all inputs are without a fault
+pub record IsInputRefused (inputs : List (List ℕ)) (e : RunFault) : Type 0 where
+  pub place : ℕ
+  pub input : List ℕ
+  pub here : slice_get inputs place ≡ Some input
+  pub before : AreSound (take place inputs)
+  pub why : IsInputFault place input e
+
+-- what replicas and workers refuse
+abbrev pub AreReplicasRefused : List (List ℕ) → RunFault → Type 0
+AreReplicasRefused inputs e = IsInputRefused inputs e ⊎ IsRunRefused e
+
+-- the plan's refusal
+abbrev pub IsPlanRefused : List ℕ → RunFault → Type 0
+IsPlanRefused plan e = (f : PlanFault) × RefusesPlan plan f × (e ≡ refusal None family.Plan (plan_number f))
+
+-- why there is no statement: the plan's refusal, or where the text is a plan that of an input or of the run
+abbrev pub IsReplicatedUnmade : List ℕ → List (List ℕ) → RunFault → Type 0
+IsReplicatedUnmade plan inputs e = IsPlanRefused plan e ⊎ ((p : AccountPlan) × IsPlanOf plan p × AreReplicasRefused inputs e)
+
+-- A write failed: of the export, where it was asked, only a part went out, and nothing of the statement; or all of the export where
+-- it was asked, and of the statement only a part.
+pub record IsReplicatedCutOff (plan : List ℕ) (inputs : List (List ℕ)) (old_export new_export : Option Device) (old new : Device) (e : RunFault) : Type 0 where
+  pub fault : e ≡ write_refusal
+  pub under : AccountPlan
+  pub named : IsPlanOf plan under
+  pub reports : List PacketReport
+  pub union : IsUnion inputs reports
+  pub part :
+      (IsCutOffIfGiven (export reports) old_export new_export × (new ≡ old))
+      ⊎ (ReceivesIfGiven (export reports) old_export new_export × IsCutOff (statement_under under reports) old new)
+
+-- What a refusal is, and what it leaves of the devices: as they were, unless a write failed.
+pub record IsReplicatedRefused (plan : List ℕ) (inputs : List (List ℕ)) (old_export new_export : Option Device) (old new : Device) (e : RunFault) : Type 0 where
+  pub unmade : is_write e ≡ false → IsReplicatedUnmade plan inputs e
+  pub untouched_export : is_write e ≡ false → new_export ≡ old_export
+  pub untouched : is_write e ≡ false → new ≡ old
+  pub cut_off : is_write e ≡ true → IsReplicatedCutOff plan inputs old_export new_export old new e

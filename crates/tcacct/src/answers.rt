@@ -1,0 +1,194 @@
+//! What the workers of all replicas answered, put back into the order of the inputs.
+ghost use Rattle.std.specs.List.{flat_map};
+ghost use Rattle.std.specs.Prelude.{◌≡◌, ◌<◌, ◌^◌, IfOk, IfErr, length, map};
+ghost use Rattle.tca_ingest.specs.Works.{AreSliceResults};
+ghost use Rattle.tcacct.specs.Noted.{IsNoted};
+ghost use Rattle.tcacct.specs.Replicated.{AreRead, AreReplicasRefused, IsInputFault, IsRunRefused};
+ghost use Rattle.tcacct.specs.Runs.{HoldsReports, octets_of, union_of};
+
+use crate::fault::RunFault;
+use std::alloc::{AllocError, Global};
+use std::marker::Model;
+use tca_ingest::{Done, Entry, JobFault, Receipt};
+use tca_report::{Notes, Report};
+
+/// An input, and what came of it.
+#[derive(Drop)]
+pub(crate) struct Answer<'a> {
+    pub(crate) input: &'a [u8],
+    pub(crate) result: Result<(Notes, Receipt), JobFault>,
+}
+
+impl<'a> Model for Answer<'a> {
+    ghost use Rattle.tca_ingest.specs.Works.{IsResult};
+    ghost use Rattle.tcacct.specs.Replicated.{AnswerView};
+
+    ghost Value = { AnswerView };
+
+    ghost view = { λ a. record { input = a.input.now; result = a.result } };
+
+    ghost invariant = { λ a. IsResult a.input.now a.result };
+}
+
+/// A place for the answer of each input.
+pub(crate) fn empty_places<'a>(
+    alloc: Global,
+    inputs: &[Vec<u8>],
+) -> Result<Vec<Option<Answer<'a>>>, AllocError> {
+    let mut places = Vec::with_capacity(alloc, inputs.len())?;
+    for input in inputs {
+        let _ = input;
+        places.push(None)?;
+    }
+    Ok(places)
+}
+
+/// Puts the results of a replica's inputs where these inputs stand: the first at a place, each other one so many places after the one
+/// before it.
+pub(crate) fn put_answers<'a>(
+    share: &[&'a [u8]],
+    done: Vec<Done>,
+    first: usize,
+    step: usize,
+    places: &mut Vec<Option<Answer<'a>>>,
+) -> Result<(), RunFault>
+    requires { AreSliceResults share.now done.items }
+    ensures { IfErr result IsRunRefused }
+{
+    let mut left = done;
+    let mut at = first;
+    for input in share {
+        if left.is_empty() {
+            return Err(RunFault::stranger());
+        }
+        let Done { result, .. } = left.remove(0);
+        let answer = Answer {
+            input: *input,
+            result,
+        };
+        put_answer(places, at, answer)?;
+        at = at.saturating_add(step);
+    }
+    Ok(())
+}
+
+// Puts an answer at its place.
+fn put_answer<'a>(
+    places: &mut Vec<Option<Answer<'a>>>,
+    at: usize,
+    answer: Answer<'a>,
+) -> Result<(), RunFault>
+    ensures { IfErr result IsRunRefused }
+{
+    if at >= places.len() {
+        return Err(RunFault::stranger());
+    }
+    places[at] = Some(answer);
+    Ok(())
+}
+
+// Takes the answer of an input from its place.
+fn take_answer<'a>(
+    places: &mut Vec<Option<Answer<'a>>>,
+    n: usize,
+    input: &[u8],
+) -> Result<Answer<'a>, RunFault>
+    ensures same { IfOk result (λ a. a.input ≡ input.now) }
+    ensures refused { IfErr result IsRunRefused }
+{
+    if n >= places.len() {
+        return Err(RunFault::stranger());
+    }
+    let Some(answer) = std::mem::replace(&mut places[n], None) else {
+        return Err(RunFault::stranger());
+    };
+    if answer.input != input {
+        return Err(RunFault::stranger());
+    }
+    Ok(answer)
+}
+
+// The notes and the reports of input `n`, where all its reports were taken.
+fn read_answer(n: u32, answer: Answer<'_>) -> Result<(Notes, Vec<Report>), RunFault>
+    ensures noted { IfOk result (λ x. IsNoted answer.entry.input x.0) }
+    ensures holds { IfOk result (λ x. HoldsReports answer.entry.input x.1.items) }
+    ensures refused { IfErr result (IsInputFault n answer.entry.input) }
+{
+    let Answer { result, .. } = answer;
+    match result {
+        Err(JobFault::Input(fault)) => Err(RunFault::input(n, fault)),
+        Err(JobFault::Share(fault)) => Err(RunFault::share(n, fault)),
+        Ok((notes, receipt)) => match receipt.entry {
+            Entry::Took {
+                reports,
+                stop: None,
+                ..
+            } => Ok((notes, reports)),
+            Entry::Took {
+                stop: Some(fault),
+                ..
+            } => Err(RunFault::log(n, fault)),
+            _ => unreachable!(),
+        },
+    }
+}
+
+/// The notes of all inputs, and the reports of each, in order.
+#[derive(Drop)]
+pub(crate) struct Contents {
+    pub(crate) notes: Vec<Notes>,
+    pub(crate) lists: Vec<Vec<Report>>,
+}
+
+/// What all inputs hold, unless one is refused: the first in order that has a fault, or whose reports a replica didn't take.
+pub(crate) fn contents_of<'a>(
+    alloc: Global,
+    inputs: &[Vec<u8>],
+    places: Vec<Option<Answer<'a>>>,
+) -> Result<Contents, RunFault>
+    requires { length inputs.now < 2 ^ 32 }
+    ensures read { IfOk result (λ x. AreRead (octets_of inputs.now) x.notes.items (map (λ l. l.items) x.lists.items)) }
+    ensures refused { IfErr result (AreReplicasRefused (octets_of inputs.now)) }
+{
+    let mut places = places;
+    let mut notes = Vec::with_capacity(alloc, inputs.len())?;
+    let mut lists = Vec::with_capacity(alloc, inputs.len())?;
+    for (n, input) in inputs.iter().enumerate() {
+        let answer = take_answer(&mut places, n, input)?;
+        let (noted, reports) = read_answer(n as u32, answer)?;
+        if notes.push(noted).is_err() || lists.push(reports).is_err() {
+            return Err(RunFault::from(AllocError));
+        }
+    }
+    Ok(Contents { notes, lists })
+}
+
+// How many reports these lists have, for room in advance.
+fn count_of(lists: &[Vec<Report>]) -> usize {
+    let mut count: usize = 0;
+    for reports in lists {
+        count = count.saturating_add(reports.len());
+    }
+    count
+}
+
+// The reports of these lists, one list after another.
+fn chained(alloc: Global, lists: Vec<Vec<Report>>) -> Result<Vec<Report>, AllocError>
+    ensures { IfOk result (λ all. all.items ≡ flat_map (λ rs. rs) (map (λ l. l.items) lists.items)) }
+{
+    let mut all = Vec::with_capacity(alloc, count_of(&lists))?;
+    for reports in lists {
+        all.extend_from_slice(&reports)?;
+    }
+    Ok(all)
+}
+
+/// All reports of these lists in order, each once.
+pub(crate) fn union_of(alloc: Global, lists: Vec<Vec<Report>>) -> Result<Vec<Report>, AllocError>
+    ensures { IfOk result (λ all. all.items ≡ union_of (map (λ l. l.items) lists.items)) }
+{
+    let mut all = chained(alloc, lists)?;
+    all.sort_unstable();
+    all.dedup();
+    Ok(all)
+}

@@ -1,0 +1,235 @@
+//! Replicas that read the inputs by workers, and tell each other what they hold.
+ghost use Rattle.std.specs.Prelude.{◌≡◌, ◌≤◌, ◌<◌, ◌+◌, IfOk, IfErr, length, map};
+ghost use Rattle.tcacct.specs.Replicated.{AreRead, AreReplicasRefused, IsRunRefused, IsWithinLimits};
+ghost use Rattle.tcacct.specs.Runs.{octets_of};
+
+use crate::answers::{Answer, Contents, contents_of, empty_places, put_answers};
+use crate::fault::RunFault;
+use std::alloc::{AllocError, Global};
+use std::marker::Brand;
+use std::sync::Wait;
+use std::sync::ledger::Blank;
+use std::thread::Threads;
+use tca_accounts::Plan;
+use tca_gossip::Replica;
+use tca_ingest::{Closed, Entry, Gate, Pass, Shared, Side, close_all, work_on};
+
+/// The parts of a replica's ledger: one for each pass, and one that stays.
+pub(crate) const PARTS: u64 = 65_537;
+
+/// What a run is given: the inputs, by how many replicas they are read, and by how many workers of each.
+#[derive(Drop)]
+pub(crate) struct Setting<'a, R, G> {
+    pub(crate) rt: &'a R,
+    pub(crate) alloc: Global,
+    pub(crate) inputs: &'a [Vec<u8>],
+    pub(crate) replicas: u32,
+    pub(crate) workers: u32,
+    pub(crate) gate: &'a G,
+}
+
+// The inputs of a replica: from this place on, each so many places after the one before it.
+fn share_of<'a>(
+    alloc: Global,
+    inputs: &'a [Vec<u8>],
+    first: u32,
+    step: u32,
+) -> Result<Vec<&'a [u8]>, AllocError>
+    requires { 1 ≤ step }
+    ensures { IfOk result (λ share. length share.items ≤ length inputs.now) }
+{
+    let mut share = Vec::new(alloc);
+    for (n, input) in inputs.iter().enumerate() {
+        if n as u64 % step as u64 == first as u64 {
+            share.push(input.as_slice())?;
+        }
+    }
+    Ok(share)
+}
+
+// Has a replica's workers read its inputs, puts the answers where the inputs stand, and gives the passes back. `first` is the place of
+// the first of its inputs.
+fn worked<'a, L: Side + Send + Sync, R: Threads + Wait + Sync, G: Gate>(
+    setting: &Setting<'a, R, G>,
+    shared: &Shared<L>,
+    first: u32,
+    places: &mut Vec<Option<Answer<'a>>>,
+) -> Result<Vec<Pass<L>>, RunFault>
+    requires { IsWithinLimits setting.now.replicas setting.now.workers (length setting.now.inputs.now) }
+    ensures { IfErr result IsRunRefused }
+{
+    let (alloc, step) = (setting.alloc, setting.replicas);
+    let share = share_of(alloc, setting.inputs, first, step)?;
+    match work_on(
+        setting.rt,
+        alloc,
+        shared,
+        &share,
+        setting.gate,
+        setting.workers,
+    ) {
+        Ok(worked) => {
+            put_answers(&share, worked.done, first as usize, step as usize, places)?;
+            Ok(worked.passes)
+        }
+        Err(refused) => Err(RunFault::from(refused.fault)),
+    }
+}
+
+// Closes a replica with all its passes.
+fn closed<L: Side>(shared: Shared<L>, passes: Vec<Pass<L>>) -> Result<Closed, RunFault>
+    ensures plan { IfOk result (λ c. c.replica.plan ≡ L.plan) }
+    ensures refused { IfErr result IsRunRefused }
+{
+    match shared.close(passes) {
+        Ok(closed) => Ok(closed),
+        Err(refused) => Err(RunFault::from(refused.fault)),
+    }
+}
+
+// A replica of this name that read its inputs, closed.
+fn read_by<'a, L: Side + Send + Sync, R: Threads + Wait + Sync, G: Gate>(
+    setting: &Setting<'a, R, G>,
+    blank: Blank,
+    name: u32,
+    plan: Plan,
+    places: &mut Vec<Option<Answer<'a>>>,
+) -> Result<Closed, RunFault>
+    requires name { blank.name ≡ L.name }
+    requires parts { (blank.parts ≡ L.parts) × (L.parts ≡ 65537) }
+    requires called { name ≡ L.called }
+    requires plan { plan ≡ L.plan }
+    requires above { 1 ≤ name }
+    requires limits { IsWithinLimits setting.now.replicas setting.now.workers (length setting.now.inputs.now) }
+    ensures { IfErr result IsRunRefused }
+{
+    let shared = Shared::<L>::new(setting.alloc, blank, name, plan)?;
+    let passes = worked(setting, &shared, name - 1, places)?;
+    closed(shared, passes)
+}
+
+// All replicas but the first, each of which read its inputs and was closed before the next one was made.
+fn others_of<'a, R: Threads + Wait + Sync, G: Gate>(
+    setting: &Setting<'a, R, G>,
+    plan: &Plan,
+    places: &mut Vec<Option<Answer<'a>>>,
+) -> Result<Vec<Closed>, RunFault>
+    requires { IsWithinLimits setting.now.replicas setting.now.workers (length setting.now.inputs.now) }
+    ensures { IfErr result IsRunRefused }
+{
+    let alloc = setting.alloc;
+    let mut others = Vec::new(alloc);
+    for name in 2..setting.replicas + 1 {
+        let plan = plan.copy(alloc)?;
+        let other = read_by::<Brand, R, G>(setting, Blank::new(PARTS), name, plan, places)?;
+        if others.push(other).is_err() {
+            return Err(RunFault::from(AllocError));
+        }
+    }
+    Ok(others)
+}
+
+// Has a shared replica absorb what it lacks of another one.
+fn bring<L: Side, R: Wait>(
+    rt: &R,
+    into: &Shared<L>,
+    mine: &mut Pass<L>,
+    from: &Replica,
+) -> Result<(), RunFault>
+    ensures { IfErr result IsRunRefused }
+{
+    let asked = into.summary(rt, mine)?;
+    let Entry::Asked { summary, .. } = asked.entry else {
+        unreachable!();
+    };
+    let delta = from.delta(&summary)?;
+    let receipt = into.absorb(rt, mine, &delta)?;
+    match receipt.entry {
+        Entry::Absorbed {
+            result: Err(fault),
+            ..
+        } => Err(RunFault::from(fault)),
+        _ => Ok(()),
+    }
+}
+
+// Has a shared replica absorb what it lacks of all others, and closes it.
+fn joined<L: Side, R: Wait>(
+    rt: &R,
+    shared: Shared<L>,
+    passes: Vec<Pass<L>>,
+    others: &[Closed],
+) -> Result<Closed, RunFault>
+    ensures plan { IfOk result (λ c. c.replica.plan ≡ L.plan) }
+    ensures refused { IfErr result IsRunRefused }
+{
+    let mut passes = passes;
+    let mut mine = shared.pass(rt)?;
+    for other in others {
+        bring(rt, &shared, &mut mine, &other.replica)?;
+    }
+    if passes.push(mine).is_err() {
+        return Err(RunFault::from(AllocError));
+    }
+    closed(shared, passes)
+}
+
+// Has a replica absorb what it lacks of another one.
+fn tell(into: &mut Replica, from: &Replica) -> Result<(), RunFault>
+    ensures { IfErr result IsRunRefused }
+{
+    let summary = into.summary()?;
+    let delta = from.delta(&summary)?;
+    into.absorb(&delta)?;
+    Ok(())
+}
+
+// The first replica, where all others absorbed what they lacked of it and all agree.
+fn agreed(first: Closed, others: Vec<Closed>) -> Result<Closed, RunFault>
+    ensures same { IfOk result (λ c. c ≡ first) }
+    ensures refused { IfErr result IsRunRefused }
+{
+    let mut all = others;
+    for i in 0..all.len() {
+        tell(&mut all[i].replica, &first.replica)?;
+    }
+    if all.push(first).is_err() {
+        return Err(RunFault::from(AllocError));
+    }
+    close_all(&all)?;
+    match all.pop() {
+        Some(first) => Ok(first),
+        None => unreachable!(),
+    }
+}
+
+/// The first replica, closed, once it holds what all others do, and what the inputs hold.
+///
+/// The first replica is made and reads its inputs; then each other one is made, reads its inputs and is closed. Then comes the refusal of
+/// the first input in order that has one. Then the first replica, still shared, absorbs what it lacks of each other one and is closed,
+/// each other one absorbs what it lacks of the first, and all are compared.
+pub(crate) fn run_replicas<'a, L: Side + Send + Sync, R: Threads + Wait + Sync, G: Gate>(
+    setting: &Setting<'a, R, G>,
+    blank: Blank,
+    plan: &Plan,
+    mine: Plan,
+) -> Result<(Closed, Contents), RunFault>
+    requires name { blank.name ≡ L.name }
+    requires parts { (blank.parts ≡ L.parts) × (L.parts ≡ 65537) }
+    requires called { 1 ≡ L.called }
+    requires plan { mine ≡ L.plan }
+    requires limits { IsWithinLimits setting.now.replicas setting.now.workers (length setting.now.inputs.now) }
+    ensures plan { IfOk result (λ x. x.0.replica.plan ≡ mine) }
+    ensures read { IfOk result (λ x. AreRead (octets_of setting.now.inputs.now) x.1.notes.items (map (λ l. l.items) x.1.lists.items)) }
+    ensures refused { IfErr result (AreReplicasRefused (octets_of setting.now.inputs.now)) }
+{
+    let (rt, alloc, inputs) = (setting.rt, setting.alloc, setting.inputs);
+    let mut places = empty_places(alloc, inputs)?;
+    let shared = Shared::<L>::new(alloc, blank, 1, mine)?;
+    let passes = worked(setting, &shared, 0, &mut places)?;
+    let others = others_of(setting, plan, &mut places)?;
+    let contents = contents_of(alloc, inputs, places)?;
+    let first = joined(rt, shared, passes, &others)?;
+    let first = agreed(first, others)?;
+    Ok((first, contents))
+}

@@ -1,0 +1,197 @@
+//! The command `bill` by replicas and workers.
+ghost use Rattle.std.specs.Prelude.{◌≡◌, ◌≤◌, IfOk, IfErr, None, Some, length, map, true};
+ghost use Rattle.std.specs.List.Sorted.{IsStrictlySortedBy};
+ghost use Rattle.tca_accounts.specs.Plans.{AccountPlan};
+ghost use Rattle.tca_report.specs.export.Spelling.{most_reports};
+ghost use Rattle.tca_report.specs.report.Reports.{report_cmp};
+ghost use Rattle.tcacct.specs.Billed.{IsBillDone, IsPlanOf, statement_under};
+ghost use Rattle.tcacct.specs.Devices.{after, before, device};
+ghost use Rattle.tcacct.specs.Noted.{AreNotes};
+ghost use Rattle.tcacct.specs.Replicated.{IsReplicatedRefused, IsReplicatedUnmade, IsRunRefused, IsWithinLimits};
+ghost use Rattle.tcacct.specs.Runs.{IsUnion, octets_of, union_of};
+
+use crate::answers::union_of;
+use crate::fault::RunFault;
+use crate::replicas::{PARTS, Setting, run_replicas};
+use std::alloc::Global;
+use std::marker::Brand;
+use std::sync::Wait;
+use std::sync::ledger::Blank;
+use std::thread::Threads;
+use tca_accounts::Plan;
+use tca_gossip::Replica;
+use tca_ingest::Gate;
+use tca_log::Log;
+use tca_report::{Notes, Report, Write, write_export};
+use tca_statements::{Statement, render};
+
+/// What is written, and the notes of the inputs.
+#[derive(Drop)]
+struct Prepared {
+    statement: Statement,
+    reports: Vec<Report>,
+    notes: Vec<Notes>,
+}
+
+// All reports in order, where they are what the replica holds.
+fn compared(
+    alloc: Global,
+    replica: &Replica,
+    lists: Vec<Vec<Report>>,
+) -> Result<Vec<Report>, RunFault>
+    ensures whole { IfOk result (λ list. list.items ≡ union_of (map (λ l. l.items) lists.items)) }
+    ensures held { IfOk result (λ list. list.items ≡ replica.now.log) }
+    ensures rises { IfOk result (λ list. IsStrictlySortedBy report_cmp list.items) }
+    ensures limit { IfOk result (λ list. length list.items ≤ most_reports) }
+    ensures refused { IfErr result IsRunRefused }
+{
+    let reports = union_of(alloc, lists)?;
+    if !are_all_of(&reports, replica.log()) {
+        return Err(RunFault::differs());
+    }
+    Ok(reports)
+}
+
+// Whether these are the reports of a log, in their order.
+fn are_all_of(reports: &[Report], log: &Log) -> bool
+    ensures same { result ≡ true → reports.now ≡ log.now }
+    ensures limit { length log.now ≤ most_reports }
+{
+    let mut left = log.reports();
+    for report in reports {
+        let Some(held) = left.next() else {
+            return false;
+        };
+        if *held != *report {
+            return false;
+        }
+    }
+    left.next().is_none()
+}
+
+// The statement of what a replica holds.
+fn stated(alloc: Global, plan: &Plan, replica: &Replica) -> Result<Statement, RunFault>
+    requires { replica.now.plan ≡ plan.now }
+    ensures stated { IfOk result (λ s. s ≡ statement_under plan.now replica.now.log) }
+    ensures refused { IfErr result IsRunRefused }
+{
+    let bill = replica.totals()?;
+    Ok(Statement::of(alloc, plan, &bill)?)
+}
+
+// What goes out, and the inputs' notes.
+fn made<R: Threads + Wait + Sync, G: Gate>(
+    setting: &Setting<'_, R, G>,
+    plan: &[u8],
+) -> Result<Prepared, RunFault>
+    requires { IsWithinLimits setting.now.replicas setting.now.workers (length setting.now.inputs.now) }
+    ensures stated { IfOk result (λ m. (p : AccountPlan) × IsPlanOf plan.now p × (m.statement ≡ statement_under p m.reports.items)) }
+    ensures union { IfOk result (λ m. IsUnion (octets_of setting.now.inputs.now) m.reports.items) }
+    ensures noted { IfOk result (λ m. AreNotes (octets_of setting.now.inputs.now) m.notes.items) }
+    ensures rises { IfOk result (λ m. IsStrictlySortedBy report_cmp m.reports.items) }
+    ensures limit { IfOk result (λ m. length m.reports.items ≤ most_reports) }
+    ensures unmade { IfErr result (IsReplicatedUnmade plan.now (octets_of setting.now.inputs.now)) }
+{
+    let plan = Plan::from_text(setting.alloc, plan)?;
+    let mine = plan.copy(setting.alloc)?;
+    let (first, contents) = run_replicas::<Brand, R, G>(setting, Blank::new(PARTS), &plan, mine)?;
+    let reports = compared(setting.alloc, &first.replica, contents.lists)?;
+    let statement = stated(setting.alloc, &plan, &first.replica)?;
+    Ok(Prepared {
+        statement,
+        reports,
+        notes: contents.notes,
+    })
+}
+
+// The bill with an export.
+fn run_exported<R: Threads + Wait + Sync, G: Gate, W: Write, V: Write>(
+    setting: &Setting<'_, R, G>,
+    plan: &[u8],
+    export: &mut V,
+    out: &mut W,
+) -> Result<Vec<Notes>, RunFault>
+    requires { IsWithinLimits setting.now.replicas setting.now.workers (length setting.now.inputs.now) }
+    ensures done { IfOk result (λ notes. IsBillDone plan.now (octets_of setting.now.inputs.now)
+        (Some (device V.written V.failures export.old)) (Some (device V.written V.failures export.new))
+        (device W.written W.failures out.old) (device W.written W.failures out.new) notes.items) }
+    ensures refused { IfErr result (IsReplicatedRefused plan.now (octets_of setting.now.inputs.now)
+        (Some (device V.written V.failures export.old)) (Some (device V.written V.failures export.new))
+        (device W.written W.failures out.old) (device W.written W.failures out.new)) }
+{
+    let Prepared {
+        statement,
+        reports,
+        notes,
+    } = made(setting, plan)?;
+    write_export(&reports, export)?;
+    render(&statement, out)?;
+    Ok(notes)
+}
+
+// The bill without an export.
+fn run_alone<R: Threads + Wait + Sync, G: Gate, W: Write>(
+    setting: &Setting<'_, R, G>,
+    plan: &[u8],
+    out: &mut W,
+) -> Result<Vec<Notes>, RunFault>
+    requires { IsWithinLimits setting.now.replicas setting.now.workers (length setting.now.inputs.now) }
+    ensures done { IfOk result (λ notes. IsBillDone plan.now (octets_of setting.now.inputs.now) None None
+        (device W.written W.failures out.old) (device W.written W.failures out.new) notes.items) }
+    ensures refused { IfErr result (IsReplicatedRefused plan.now (octets_of setting.now.inputs.now) None None
+        (device W.written W.failures out.old) (device W.written W.failures out.new)) }
+{
+    let Prepared {
+        statement,
+        notes,
+        ..
+    } = made(setting, plan)?;
+    render(&statement, out)?;
+    Ok(notes)
+}
+
+/// Writes the statement of the union of the inputs' reports under a plan to `out`, and before it, where
+/// `export` is given, the export of that union to it. Answers the notes of each input, in order. It writes what
+/// `run_bill_plain` does, for every number of replicas and of workers.
+///
+/// The plan is judged first. Then input `i`, counted from 0, is read by the replica named `i` modulo `replicas`, plus 1, each replica
+/// having so many workers, which call the gate. Where a replica, its workers or its close is refused that is the answer, also where an
+/// input has a fault; then comes the first input in order that has a fault (with the family and the number of that
+/// fault), whose reports its replica's log didn't take (`Log`), or of which the replica refused the call (`Share`); then an absorb or a
+/// comparison of the replicas that is refused. Each step answers want of memory as it meets it.
+///
+/// The log of the first replica is compared with the reports that the workers' answers list before anything is written. All memory is
+/// taken before the first write. A refusal but that of a write leaves both writers as they were. That of a write says that only
+/// a part of the export went out and nothing of the statement, or all of the export that was asked and only a part of the statement.
+pub fn run_bill<R: Threads + Wait + Sync, G: Gate, W: Write, V: Write>(
+    rt: &R,
+    alloc: Global,
+    plan: &[u8],
+    inputs: &[Vec<u8>],
+    replicas: u32,
+    workers: u32,
+    gate: &G,
+    export: Option<&mut V>,
+    out: &mut W,
+) -> Result<Vec<Notes>, RunFault>
+    requires { IsWithinLimits replicas workers (length inputs.now) }
+    ensures done { IfOk result (λ notes. IsBillDone plan.now (octets_of inputs.now)
+        (before (device V.written V.failures) export.entry) (after (device V.written V.failures) export.exit)
+        (device W.written W.failures out.old) (device W.written W.failures out.new) notes.items) }
+    ensures refused { IfErr result (IsReplicatedRefused plan.now (octets_of inputs.now)
+        (before (device V.written V.failures) export.entry) (after (device V.written V.failures) export.exit)
+        (device W.written W.failures out.old) (device W.written W.failures out.new)) }
+{
+    let setting = Setting {
+        rt,
+        alloc,
+        inputs,
+        replicas,
+        workers,
+        gate,
+    };
+    match export {
+        Some(export) => run_exported(&setting, plan, export, out),
+        None => run_alone(&setting, plan, out),
+    }
+}

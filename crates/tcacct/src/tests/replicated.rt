@@ -1,0 +1,207 @@
+//! The bill by replicas and workers: the same as by one thread, for every number of both.
+use crate::bill::run_bill_plain;
+use crate::fault::{Family, RunFault};
+use crate::replicated::run_bill;
+use crate::tests::commands::{
+    FIRST, Full, OPENING, PLAN, Row, SECOND, TEMPLATE_AND_RECORD, THIRD, THREE_REPORTS, export,
+};
+use std::alloc::{AllocError, Global};
+use std::sync::Wait;
+use std::test::*;
+use std::thread::Threads;
+use tca_ingest::NoGate;
+use tca_report::Host;
+
+// What was billed: how many notes, the export, and the statement.
+#[derive(Drop)]
+struct Written {
+    notes: usize,
+    export: Vec<u8>,
+    statement: Vec<u8>,
+}
+
+// The bill by so many replicas, each of so many workers.
+fn billed<R: Threads + Wait + Sync>(
+    rt: &R,
+    alloc: Global,
+    inputs: &[Vec<u8>],
+    replicas: u32,
+    workers: u32,
+) -> Result<Written, RunFault> {
+    if inputs.is_empty() || inputs.len() > 256 {
+        return Err(RunFault::from(AllocError));
+    }
+    if replicas < 1 || replicas > 16 || workers < 1 || workers > 64 {
+        return Err(RunFault::from(AllocError));
+    }
+    let mut export = Host::new(Vec::new(alloc));
+    let mut out = Host::new(Vec::new(alloc));
+    let plan = PLAN.as_bytes();
+    let notes = run_bill(
+        rt,
+        alloc,
+        plan,
+        inputs,
+        replicas,
+        workers,
+        &NoGate,
+        Some(&mut export),
+        &mut out,
+    )?;
+    Ok(Written {
+        notes: notes.len(),
+        export: export.into_inner(),
+        statement: out.into_inner(),
+    })
+}
+
+// The bill by one thread.
+fn billed_plainly(alloc: Global, inputs: &[Vec<u8>]) -> Result<Written, RunFault> {
+    if inputs.len() > 256 {
+        return Err(RunFault::from(AllocError));
+    }
+    let mut export = Host::new(Vec::new(alloc));
+    let mut out = Host::new(Vec::new(alloc));
+    let plan = PLAN.as_bytes();
+    let notes = run_bill_plain(alloc, plan, inputs, Some(&mut export), &mut out)?;
+    Ok(Written {
+        notes: notes.len(),
+        export: export.into_inner(),
+        statement: out.into_inner(),
+    })
+}
+
+// Whether both are the same.
+fn are_same(one: &Written, other: &Written) -> bool {
+    one.notes == other.notes
+        && one.export.as_slice() == other.export.as_slice()
+        && one.statement.as_slice() == other.statement.as_slice()
+}
+
+// The exports of these reports, one each.
+pub(super) fn export_of_each(alloc: Global, rows: &[Row]) -> Result<Vec<Vec<u8>>, AllocError> {
+    let mut inputs = Vec::new(alloc);
+    for row in rows {
+        inputs.push(export(alloc, &[*row])?)?;
+    }
+    Ok(inputs)
+}
+
+const NUMBERS: [(u32, u32); 12] = [
+    (1, 1),
+    (1, 2),
+    (1, 5),
+    (2, 1),
+    (2, 2),
+    (2, 5),
+    (3, 1),
+    (3, 2),
+    (3, 5),
+    (16, 1),
+    (16, 2),
+    (16, 5),
+];
+
+#[test]
+fn bills_alike_by_each_number_of_replicas_and_workers(rt: HostRuntime) -> Result<(), Fail> {
+    let alloc = rt.alloc();
+    let inputs = export_of_each(alloc, &[FIRST, SECOND, THIRD])?;
+    let plainly = billed_plainly(alloc, &inputs)?;
+    let text = format!(in alloc; "{OPENING}{THREE_REPORTS}")?;
+    assert_eq!(rt;
+        (plainly.statement.as_slice(), text.len()),
+        (text.as_bytes(), 144)
+    );
+    let whole = export(alloc, &[FIRST, SECOND, THIRD])?;
+    assert_eq!(rt;
+        (plainly.export.as_slice(), plainly.notes),
+        (whole.as_slice(), 3)
+    );
+    for (replicas, workers) in NUMBERS {
+        let billed = billed(&rt, alloc, &inputs, replicas, workers)?;
+        assert!(rt; are_same(&billed, &plainly), "{replicas} {workers}");
+    }
+    Ok(())
+}
+
+// A fourth input, a message that ends before its length says.
+#[test]
+fn refuses_the_first_input_with_a_fault(rt: HostRuntime) -> Result<(), Fail> {
+    let alloc = rt.alloc();
+    let mut inputs = export_of_each(alloc, &[FIRST, SECOND, THIRD])?;
+    let mut cut = Vec::from_slice(alloc, &TEMPLATE_AND_RECORD)?;
+    cut.truncate(64);
+    inputs.push(cut)?;
+    let fault = RunFault {
+        input: Some(3),
+        family: Family::Wire,
+        number: 1,
+    };
+    for (replicas, workers) in NUMBERS {
+        let refused = billed(&rt, alloc, &inputs, replicas, workers);
+        assert_eq!(rt; refused.err(), Some(fault), "{replicas} {workers}");
+    }
+    Ok(())
+}
+
+// The refusals of a bill whose statement, or whose export, goes to a writer that takes nothing, and whether the
+// statement's writer took nothing where the export's didn't.
+fn over_full_writers<R: Threads + Wait + Sync>(rt: &R, alloc: Global) -> Result<bool, AllocError> {
+    let inputs = export_of_each(alloc, &[FIRST])?;
+    if inputs.len() != 1 {
+        return Ok(false);
+    }
+    let mut full = Host::new(Full);
+    let mut out = Host::new(Vec::new(alloc));
+    let mut export = Host::new(Vec::new(alloc));
+    let plan = PLAN.as_bytes();
+    let failed = Some(RunFault {
+        input: None,
+        family: Family::Write,
+        number: 1,
+    });
+    let asked = Some(&mut full);
+    let exported = run_bill(rt, alloc, plan, &inputs, 2, 2, &NoGate, asked, &mut out).err();
+    let asked = Some(&mut export);
+    let stated = run_bill(rt, alloc, plan, &inputs, 2, 2, &NoGate, asked, &mut full).err();
+    Ok(exported == failed && stated == failed && out.into_inner().is_empty())
+}
+
+#[test]
+fn refuses_a_write_that_fails(rt: HostRuntime) -> Result<(), Fail> {
+    assert!(rt; over_full_writers(&rt, rt.alloc())?);
+    Ok(())
+}
+
+// Whether a bill of two replicas, both of which were given the second report, writes the statement of three reports and their export,
+// or is refused and writes nothing.
+fn writes_all_or_nothing<R: Threads + Wait + Sync>(
+    rt: &R,
+    alloc: Global,
+) -> Result<bool, AllocError> {
+    let inputs = export_of_each(alloc, &[FIRST, SECOND, SECOND, THIRD])?;
+    let whole = export(alloc, &[FIRST, SECOND, THIRD])?;
+    let text = format!(in alloc; "{OPENING}{THREE_REPORTS}")?;
+    if inputs.len() != 4 {
+        return Ok(false);
+    }
+    let mut out = Host::new(Vec::new(alloc));
+    let mut export = Host::new(Vec::new(alloc));
+    let plan = PLAN.as_bytes();
+    let asked = Some(&mut export);
+    let billed = run_bill(rt, alloc, plan, &inputs, 2, 2, &NoGate, asked, &mut out).is_ok();
+    let (statement, export) = (out.into_inner(), export.into_inner());
+    let is_all = statement.as_slice() == text.as_bytes() && export.as_slice() == whole.as_slice();
+    Ok(if billed {
+        is_all
+    } else {
+        statement.is_empty() && export.is_empty()
+    })
+}
+
+// The test is run with each growth refused in turn.
+#[test]
+fn writes_nothing_where_it_is_refused(rt: HostRuntime) -> Result<(), Fail> {
+    assert!(rt; writes_all_or_nothing(&rt, rt.alloc())?);
+    Ok(())
+}
