@@ -23,26 +23,32 @@ const FAMILIES: [(Family, &str); 13] = [
     (Family::Memory, "memory"),
 ];
 
+// Whether a refusal prints its family's name and its number, alone and in a line of its own, and ends with status 1.
+fn prints(alloc: Global, family: Family, name: &str, number: u8) -> Result<bool, AllocError> {
+    let fault = RunFault {
+        input: Some(3),
+        family,
+        number,
+    };
+    let refused = Ending::Refused {
+        word: "a file",
+        fault,
+    };
+    let text = format!(in alloc; "{name} {number}")?;
+    let line = format!(in alloc; "tcacct: a file: {name} {number}\n")?;
+    let printed = format!(in alloc; "{fault}")?;
+    let printed_line = format!(in alloc; "{refused}")?;
+    let is_text = printed.as_str() == text.as_str();
+    Ok(is_text && printed_line.as_str() == line.as_str() && refused.status() == 1)
+}
+
 #[test]
 fn prints_faults(rt: HostRuntime) -> Result<(), Fail> {
     let alloc = rt.alloc();
     for (family, name) in FAMILIES {
         assert_eq!(rt; format!(in alloc; "{family}")?.as_str(), name);
         for number in [1u8, 7, 10] {
-            let fault = RunFault {
-                input: Some(3),
-                family,
-                number,
-            };
-            let text = format!(in alloc; "{name} {number}")?;
-            assert_eq!(rt; format!(in alloc; "{fault}")?.as_str(), text.as_str());
-            let line = format!(in alloc; "tcacct: a file: {name} {number}\n")?;
-            let refused = Ending::Refused {
-                word: "a file",
-                fault,
-            };
-            assert_eq!(rt; format!(in alloc; "{refused}")?.as_str(), line.as_str());
-            assert_eq!(rt; refused.status(), 1);
+            assert!(rt; prints(alloc, family, name, number)?, "{family} {number}");
         }
     }
     Ok(())
