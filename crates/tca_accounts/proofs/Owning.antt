@@ -1,7 +1,10 @@
 -- Entering the pairs of accounts one by one.
 use Rattle.std.proofs.Common.{◌≡◌, ℕ, zero, ◌+◌, ◌<◌, ◌⊎◌, inl, inr, Bool, true, false, ◌&&◌, ◌||◌, not, cond, eqb, List, [], ◌∷◌, ◌++◌, length, map, Option, Some, None, IfSome, suc, is_none, is_some, refl, sym, ap, ap₂, drop, get_or, slice_get, add-one, append_assoc, ◌∙◌, arith}
 use Rattle.std.proofs.lemmas.Bool.Decides.{nat_tests}
-use Rattle.std.proofs.lemmas.Bool.{eq-eqb, false≢true, ne_eqb}
+use Rattle.std.proofs.lemmas.Bool.{cases_eq, cases_Bool, eq-eqb, false≢true, ne_eqb}
+use Rattle.std.proofs.Math.ListN.{length-set, set}
+use Rattle.std.proofs.lemmas.List.{get_or-set_other}
+use Rattle.std.proofs.lemmas.Grind.{get_or-set_at}
 use Rattle.std.proofs.lemmas.Cmp.{ranked}
 use Rattle.std.proofs.Math.Seq.{drop-cons}
 use Rattle.std.specs.List.{list_all, list_any, position_from}
@@ -11,7 +14,7 @@ use Rattle.std.specs.Ordering.{nat_cmp, ordering_then, is_eq, MatchOrdering}
 use Rattle.std.specs.declared.cmp.Ordering.{Ordering}
 use Rattle.std.specs.declared.cmp.Ordering.TheVariants.{Less, Equal, Greater}
 use Rattle.tca_accounts.specs.Plans.{PlannedAccount, all_differ, all_pairs, are_distinct, owns, same_pair}
-use Rattle.tca_accounts.specs.Owners.{AreOwners, GoesOn, IsTwice, are_new, or_else, owned, owner_among, owner_in, owner_then, pair_cmp}
+use Rattle.tca_accounts.specs.Owners.{AreOwners, AreSlots, Gains, GoesOn, Tells, slot_of, IsTwice, are_new, or_else, owned, owner_among, owner_in, owner_then, pair_cmp}
 
 abbrev Pair : Type 0
 Pair = ℕ × ℕ
@@ -47,10 +50,6 @@ same_one p q h =
     let one : p.0 ≡ q.0 = grind (arith, nat_tests, x.0) in
     let two : p.1 ≡ q.1 = grind (arith, nat_tests, x.1) in
     ap₂ (λ (a b : ℕ). (a, b)) one two
-
--- what an entry more changes
-abbrev pub Gains : Owned → Pair → ℕ → Owned → Type 0
-Gains old k n new = (q : Pair) → owner_in new q ≡ cond (same_pair k q) (Some n) (owner_in old q)
 
 one_owner : (a b : Bool) (n : ℕ) (old rest : Option ℕ) → a ≡ b → (a ≡ true → old ≡ None) → or_else old (cond b (Some n) rest) ≡ or_else (cond a (Some n) old) rest
 one_owner true true n old rest e none = rw (none refl) refl
@@ -119,11 +118,30 @@ from_start a xs = record { owner = λ more q. refl; are_new = λ more. refl }
 pub gains_of : (old : Owned) (k : Pair) (n : ℕ) (new : Owned) → ((q : Pair) → owner_in new q ≡ cond (is_at (pair_cmp k) q) (Some n) (owner_in old q)) → Gains old k n new
 gains_of old k n new h q = h q ∙ ap (λ b. cond b (Some n) (owner_in old q)) (same_at k q)
 
-pub from_none : (o : Option ℕ) → is_some o ≡ false → o ≡ None
+tells_others : (slot : Option (Pair × ℕ)) (q : Pair) (before after : Option ℕ) → after ≡ before → Tells slot q before → Tells slot q after
+tells_others None q before after same h = same ∙ h
+tells_others (Some e) q before after same h = λ here. same ∙ h here
+
+-- a slot that is set to a pair that was entered
+pub slots_set : (slots : List (Option (Pair × ℕ))) (old new : Owned) (k : Pair) (n at : ℕ) → AreSlots slots old → Gains old k n new → at ≡ slot_of k → at < 4096 → AreSlots (set slots at (Some (k, n))) new
+slots_set slots old new k n at h gains here below = record {
+  count = length-set slots at (Some (k, n)) ∙ h.count;
+  each = λ q. elim (cases_Bool (same_pair k q)) [
+    | inl same ↦
+        let place : slot_of q ≡ at = ap slot_of (sym (same_one k q same)) ∙ sym here in
+        rw (get_or-set_at slots at (slot_of q) (Some (k, n)) None place (rw h.count below), gains q, same) (λ e. refl)
+    | inr other ↦ elim (cases_eq (slot_of q) at) [
+      | inl place ↦ rw (get_or-set_at slots at (slot_of q) (Some (k, n)) None place (rw h.count below)) (λ e. absurd (false≢true (sym other ∙ e)))
+      | inr apart ↦ rw (get_or-set_other slots at (slot_of q) (Some (k, n)) None apart) (tells_others (get_or slots (slot_of q) None) q (owner_in old q) (owner_in new q) (rw (gains q, other) refl) (h.each q))
+    ]
+  ];
+}
+
+pub from_none : (o : Option ℕ) → is_none o ≡ true → o ≡ None
 from_none None h = refl
 from_none (Some n) h = absurd cc
 
-pub from_some : (o : Option ℕ) → is_some o ≡ true → (n : ℕ) × (o ≡ Some n)
+pub from_some : (o : Option ℕ) → is_none o ≡ false → (n : ℕ) × (o ≡ Some n)
 from_some None h = absurd cc
 from_some (Some n) h = (n, refl)
 

@@ -1,5 +1,5 @@
 -- A map from pairs to the accounts that own them. No public contract cites this: it serves the plan's map and its proofs alone.
-use Rattle.std.specs.Prelude.{◌≡◌, ℕ, ◌+◌, Bool, ◌&&◌, false, List, [], ◌∷◌, ◌++◌, map, Option, Some, None, is_none, cond}
+use Rattle.std.specs.Prelude.{◌≡◌, ℕ, ◌+◌, ◌*◌, ◌/◌, ◌%◌, ◌^◌, Bool, ◌&&◌, true, false, List, [], ◌∷◌, ◌++◌, get_or, length, map, Option, Some, None, is_none, cond}
 use Rattle.std.specs.List.{list_all, position_from}
 use Rattle.std.specs.Map.{lookup}
 use Rattle.std.specs.BTreeMap.{is_at}
@@ -24,6 +24,24 @@ owner_in entries pair = lookup (is_at (pair_cmp pair)) entries
 -- the entries have for each pair the account that owns it, counted from 0
 abbrev pub AreOwners : List PlannedAccount → List ((ℕ × ℕ) × ℕ) → Type 0
 AreOwners accounts entries = (pair : ℕ × ℕ) → owner_in entries pair ≡ position_from (λ a. owns a pair) 0 accounts
+
+-- the entries of a map, once this pair has this account
+abbrev pub Gains : List ((ℕ × ℕ) × ℕ) → ℕ × ℕ → ℕ → List ((ℕ × ℕ) × ℕ) → Type 0
+Gains old k n new = (q : ℕ × ℕ) → owner_in new q ≡ cond (same_pair k q) (Some n) (owner_in old q)
+
+-- the slot of a pair in a table of 4,096: the highest 12 bits of its product with a number of 64 bits
+unfoldable pub slot_of : ℕ × ℕ → ℕ
+slot_of p = (p.0 * 4294967296 + p.1) * 11400714819323198485 % 2 ^ 64 / 2 ^ 52
+
+-- what a slot says of the account of a pair whose slot it is: none where it is empty, and where it has this pair its account
+abbrev pub Tells : Option ((ℕ × ℕ) × ℕ) → ℕ × ℕ → Option ℕ → Type 0
+Tells None pair owner = owner ≡ None
+Tells (Some e) pair owner = same_pair e.0 pair ≡ true → owner ≡ Some e.1
+
+-- each pair's slot says what the entries have for it
+pub record AreSlots (slots : List (Option ((ℕ × ℕ) × ℕ))) (entries : List ((ℕ × ℕ) × ℕ)) : Type 0 where
+  pub count : length slots ≡ 4096
+  pub each : (pair : ℕ × ℕ) → Tells (get_or slots (slot_of pair) None) pair (owner_in entries pair)
 
 -- each pair of accounts with the number of its account, the first of which has number n
 abbrev pub owned : ℕ → List PlannedAccount → List ((ℕ × ℕ) × ℕ)

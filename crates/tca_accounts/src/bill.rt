@@ -7,6 +7,7 @@ ghost use Rattle.tca_accounts.specs.Spans.{Ascend};
 ghost use Rattle.tca_accounts.specs.Bills.{bill_of, unassigned};
 ghost use Rattle.tca_accounts.specs.Metering.{AreRunning, tally_so_far};
 
+use crate::period::Period;
 use crate::plan::Plan;
 use crate::running::Running;
 use crate::tally::{Tallies, Tally};
@@ -84,7 +85,7 @@ fn meter_all(plan: &Plan, log: &Log, accounts: &mut Vec<Running>) -> Result<u32,
     ensures unassigned { IfOk result (λ n. n ≡ length (unassigned plan.now log.now)) }
     ensures running { OnOk result (AreRunning plan.now (undisputed log.now) [] accounts.new.items) }
 {
-    let period = plan.period();
+    let mut period = Period::new(plan.period());
     let mut unassigned = 0;
     for report in log.settled() {
         let Some(n) = plan.account_of(report) else {
@@ -92,7 +93,7 @@ fn meter_all(plan: &Plan, log: &Log, accounts: &mut Vec<Running>) -> Result<u32,
             continue;
         };
         let account = &mut accounts[n as usize];
-        account.add(period, report)?;
+        account.add(&mut period, report)?;
     }
     Ok(unassigned)
 }

@@ -4,14 +4,15 @@
 //! observation domain and an interface whose reports it owns. A bill is a definition of a plan and a set of
 //! reports: the reports that no other disputes go to the accounts that own them, each account's meter colours
 //! its reports in their order from time 0 on, and octets and packets are summed by colour, in all and by
-//! period. One pass over the log serves all accounts, and a report's account is found by a search in a map.
+//! period. One pass over the log serves all accounts, and a report's account is found in a table, or else by a
+//! search in a map.
 //!
 //! - `plan`, `account`, `owners`, `pair`: a plan, its accounts, and which of them owns a report;
 //! - `reading`: a plan read from a text; beneath it `document` (the values of a table), `draft`, `meters` and `pairs` (an
 //!   account and its parts) and `together` (what all accounts have to be together);
 //! - `key`, `kind`, `fault`: the keys of a plan, the kinds of meters, and why a text is no plan;
-//! - `bill`, `tally`, `span`, `sums`: a bill and its parts; `metered`: one report after another through a meter, and
-//!   `running`: the metering of one account.
+//! - `bill`, `tally`, `span`, `sums`: a bill and its parts; `metered`: one report after another through a meter, `period`:
+//!   which period a time is in, and `running`: the metering of one account.
 #![tactic(auto)]
 
 mod account;
@@ -26,6 +27,7 @@ mod meters;
 mod owners;
 mod pair;
 mod pairs;
+mod period;
 mod plan;
 mod reading;
 mod running;
@@ -37,7 +39,8 @@ mod together;
 pub use bill::{Bill, bill_all};
 pub use fault::PlanFault;
 pub use key::Key;
-pub use metered::{Metered, meter_report, no_reports};
+pub use metered::{Metered, meter_next, meter_report, no_reports};
+pub use period::Period;
 pub use plan::Plan;
 pub use span::{Span, Spans};
 pub use sums::Sums;

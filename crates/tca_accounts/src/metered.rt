@@ -28,8 +28,36 @@ pub fn no_reports<M: Meter>(meter: &M) -> Metered<M::State>
     }
 }
 
-/// The colour of one more report, which is not before the last one, and where metering stands after it. The colour that
-/// the report had is that of its code point (RFC 2597 section 6), or `other` where that has none. It takes no memory.
+/// Meters one more report, which is not before the last one, and answers its colour. The colour that the report had is that
+/// of its code point (RFC 2597 section 6), or `other` where that has none. It takes no memory.
+pub fn meter_next<M: Meter>(
+    meter: &M,
+    other: Colour,
+    metered: &mut Metered<M::State>,
+    report: &Report,
+) -> Colour
+    requires order { metered.old.time ≤ report.now.time }
+    requires few { HasRoom metered.old.total }
+    ensures colour { result ≡ (answer_for (M.rule meter.now) other metered.old report.now).0 }
+    ensures after { metered.new ≡ metered_with (M.rule meter.now) other metered.old report.now }
+{
+    let content = report.content();
+    let pre = precolour(content.dscp, other);
+    let (colour, state) = meter_packet(
+        meter,
+        metered.state,
+        metered.time,
+        content.time,
+        content.octets,
+        pre,
+    );
+    metered.state = state;
+    metered.time = content.time;
+    metered.total.count(colour, content.octets);
+    colour
+}
+
+/// The colour of one more report, as `meter_next` answers it, and where metering stands after it.
 pub fn meter_report<M: Meter>(
     meter: &M,
     other: Colour,
@@ -41,22 +69,7 @@ pub fn meter_report<M: Meter>(
     ensures colour { result.0 ≡ (answer_for (M.rule meter.now) other before report.now).0 }
     ensures after { result.1 ≡ metered_with (M.rule meter.now) other before report.now }
 {
-    let content = report.content();
-    let pre = precolour(content.dscp, other);
-    let (colour, state) = meter_packet(
-        meter,
-        before.state,
-        before.time,
-        content.time,
-        content.octets,
-        pre,
-    );
-    let mut total = before.total;
-    total.count(colour, content.octets);
-    let after = Metered {
-        state,
-        time: content.time,
-        total,
-    };
+    let mut after = before;
+    let colour = meter_next(meter, other, &mut after, report);
     (colour, after)
 }

@@ -4,12 +4,18 @@ ghost use Rattle.std.specs.Ordering.{is_eq};
 ghost use Rattle.std.specs.Cmp;
 ghost use Rattle.std.specs.Cmp.{eq_by_cmp_equiv, partial_order_from_agreeing_total, partial_equiv_from_equiv};
 ghost use Rattle.std.proofs.Common.{refl, Some};
-ghost use Rattle.tca_accounts.specs.Owners.{pair_cmp, pair_total};
+ghost use Rattle.tca_accounts.specs.Owners.{pair_cmp, pair_total, slot_of};
 ghost use Rattle.tca_accounts.specs.Plans.{pair_of};
 
 use std::cmp::Ordering;
 use std::marker::Model;
 use tca_report::Report;
+
+/// How many slots a table of pairs has: one for each pair of the largest plan.
+pub(crate) const SLOTS: usize = 4096;
+
+// 2^64 divided by the golden ratio, as an odd number: its products spread numbers that are near to one another.
+const SPREAD: u64 = 11_400_714_819_323_198_485;
 
 /// An observation domain and one of its interfaces: the pair that an account owns.
 #[derive(Clone, Copy, Debug)]
@@ -45,6 +51,14 @@ impl Pair {
             domain: report.identity().domain,
             iface: report.content().iface,
         }
+    }
+
+    /// The slot of the pair in a table of `SLOTS`, by the highest bits of a product that spreads near pairs.
+    pub(crate) fn slot(&self) -> usize
+        ensures value { result ≡ slot_of self.now }
+        ensures below { result < 4096 }
+    {
+        (self.one_number().wrapping_mul(SPREAD) >> 52) as usize
     }
 
     // The pair as one number, in the order of pairs: one is looked up for every report, and that is comparing.

@@ -33,7 +33,7 @@ impl Model for Plan {
 
     ghost view = { λ p. record { period = p.period; accounts = p.accounts.items } };
 
-    ghost invariant = { λ p. IsPlan (record { period = p.period; accounts = p.accounts.items }) × AreOwners p.accounts.items p.owners.entries };
+    ghost invariant = { λ p. IsPlan (record { period = p.period; accounts = p.accounts.items }) × AreOwners p.accounts.items p.owners };
 }
 
 impl Plan {
@@ -64,13 +64,13 @@ impl Plan {
         }
     }
 
-    /// The account, counted from 0, that owns a report, found in logarithmic time. No other account owns it.
+    /// The account, counted from 0, that owns a report, found in logarithmic time, and mostly at once. No other account owns it.
     pub fn account_of(&self, report: &Report) -> Option<u32>
         ensures account { result ≡ account_of self.now report.now }
         ensures below { IfSome result (λ n. n < length self.now.accounts) }
         ensures only { (n : ℕ) (a : PlannedAccount) → slice_get self.now.accounts n ≡ Some a → owns a (pair_of report.now) ≡ true → result ≡ Some n }
     {
-        self.owners.get(&Pair::of(report)).copied()
+        self.owners.get(&Pair::of(report))
     }
 
     /// How many accounts there are.
@@ -120,7 +120,7 @@ impl Plan {
         Ok(Plan {
             period: self.period,
             accounts: copied(alloc, &self.accounts)?,
-            owners: self.owners.clone()?,
+            owners: self.owners.copy(alloc)?,
         })
     }
 }

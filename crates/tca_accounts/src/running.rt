@@ -8,7 +8,8 @@ ghost use Rattle.tca_accounts.specs.Sums.{with_packet};
 ghost use Rattle.tca_accounts.specs.Spans.{Ascend};
 ghost use Rattle.tca_accounts.specs.Metering.{CanAdd, HasRoom, IsRunning, closed_by, sums_in, tally_so_far, with_last};
 
-use crate::metered::{Metered, meter_report, no_reports};
+use crate::metered::{Metered, meter_next, no_reports};
+use crate::period::Period;
 use crate::span::{Span, Spans};
 use crate::sums::Sums;
 use crate::tally::Tally;
@@ -46,17 +47,17 @@ impl Running {
     }
 
     /// Meters one more report, which is not before the last one. It takes memory only where a span ends.
-    pub(crate) fn add(&mut self, period: u64, report: &Report) -> Result<(), AllocError>
-        requires period { 0 < period }
+    pub(crate) fn add(&mut self, period: &mut Period, report: &Report) -> Result<(), AllocError>
         requires order { self.old.metered.time ≤ report.now.time }
         requires few { CanAdd self.old.metered.total self.old.current }
         ensures time { OnOk result (self.new.metered.time ≡ report.now.time) }
+        ensures period { period.new ≡ period.old }
         ensures running { OnOk result ((whole : List (PacketReport × Colour)) (later : List PacketReport)
-            → IsRunning period whole (report.now ∷ later) self.old → IsRunning period whole later self.new) }
+            → IsRunning period.old whole (report.now ∷ later) self.old → IsRunning period.old whole later self.new) }
     {
-        let (colour, metered) = meter_report(&self.meter, self.other, self.metered, report);
+        let colour = meter_next(&self.meter, self.other, &mut self.metered, report);
         let content = report.content();
-        let index = content.time / period;
+        let index = period.index_of(content.time);
         count_in(
             &mut self.current,
             &mut self.ended,
@@ -64,7 +65,6 @@ impl Running {
             colour,
             content.octets,
         )?;
-        self.metered = metered;
         Ok(())
     }
 

@@ -73,6 +73,10 @@ due_quotients rate from to h =
     ∙ between (rate * from / 1000) (rate * to / 1000) (rate * to) 1 (omega arith)
     ∙ omega arith
 
+-- nothing is due where no time passes
+pub due_none : (rate time : ℕ) → due rate time time ≡ 0
+due_none rate time = due_quotients rate time time (omega arith) ∙ omega arith
+
 -- what is due in two adjoining intervals is due in the whole
 pub due_parts : (rate a b c : ℕ) → a ≤ b → b ≤ c → due rate a b + due rate b c ≡ due rate a c
 due_parts rate a b c h k =

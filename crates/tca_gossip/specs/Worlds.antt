@@ -66,12 +66,7 @@ IsSending w message (Some number) x = (number ≡ length w.sent) × (x ≡ with_
 abbrev pub with_name : WorldView → ℕ → WorldView
 with_name w n = record { plan = w.plan; replicas = w.replicas ++ new_replica w.plan n ∷ []; sent = w.sent }
 
--- a replica is refused only where there is one of its name, or for want of memory
-abbrev pub IsNameFault : Bool → WorldFault → Type 0
-IsNameFault named NameTwice = named ≡ true
-IsNameFault named Memory = Unit {0}
-
--- names are refused only where one stands twice, or for want of memory
+-- names are refused where one stands twice, or else for want of memory
 abbrev pub IsWorldFault : List ℕ → WorldFault → Type 0
 IsWorldFault names NameTwice = AreDistinct names → ⊥
-IsWorldFault names Memory = Unit {0}
+IsWorldFault names Memory = AreDistinct names

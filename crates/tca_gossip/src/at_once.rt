@@ -1,9 +1,9 @@
 //! Many reports at once.
 //!
-//! Copies of the log and the chains get them all, and then take the place of both, without a book. The log sorts them once, and they
-//! are metered when the bill is asked, where one by one each report is searched for, put in its place and noted in its lane.
-//! Until the copies take the place nothing has changed. So where there is no room for that, the reports can still be taken one by
-//! one, which names the first that has no room.
+//! A copy of the chains gets them all, then the log, or a copy of it, does, and then the copies take their place, without a book. The
+//! log sorts them once, and they are metered when the bill is asked, where one by one each report is searched for, put in its place
+//! and noted in its lane. Where there is no room for that nothing has changed, so the reports can still be taken one by one, which
+//! names the first that has no room.
 ghost use Rattle.std.specs.Prelude.{◌≡◌, ℕ, ◌+◌, ◌≤◌, ◌++◌, length, true, false, IfOk, OnErr, OnOk, None};
 ghost use Rattle.tca_gossip.specs.Replicas.{appended, chain_of, fresh_of, of, reports_in, with_origin};
 ghost use Rattle.tca_gossip.specs.Runs.{AreRuns, first_fault, rest_of, rests};
@@ -93,9 +93,9 @@ impl Contents {
         let mut list = Vec::new(self.alloc);
         extend_all(self.alloc, &mut chains, &mut list, runs)?;
         let _rises = chains.keys();
-        let mut log = self.log.copy()?;
-        log.add_all(list)?;
-        self.refill(log, chains);
+        self.log.add_all(list)?;
+        self.billing.release(self.alloc);
+        self.chains = chains;
         Ok(())
     }
 }

@@ -34,7 +34,7 @@ pub(crate) struct Contents {
     pub(crate) name: u32,
     pub(crate) log: Log,
     pub(crate) chains: ByKey<Chain<Report>>,
-    billing: Billing,
+    pub(crate) billing: Billing,
 }
 
 impl Model for Contents {

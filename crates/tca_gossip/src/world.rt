@@ -1,12 +1,12 @@
 //! Replicas that are run by a list of steps.
-ghost use Rattle.std.specs.Prelude.{◌≡◌, ◌≢◌, ◌+◌, ◌<◌, length, map, slice_set, MatchOption, IfOk, IfErr, OnOk, OnErr, false};
+ghost use Rattle.std.specs.Prelude.{◌≡◌, ◌≢◌, ◌+◌, ◌<◌, ◌↔◌, length, map, slice_set, MatchOption, IfOk, IfErr, OnOk, OnErr, IsTrue, false};
 ghost use Rattle.std.specs.List.{Contains};
 ghost use Rattle.tca_join.specs.Faults.{IsJoinFault};
 ghost use Rattle.tca_gossip.specs.Replicas.{merge_clash, merge_full, merged_with};
 ghost use Rattle.tca_gossip.specs.Machines.{Machine, new_machine};
 ghost use Rattle.tca_gossip.specs.Steps.{Take, Ask, Answer, Deliver, Merge};
-ghost use Rattle.tca_gossip.specs.Coupling.{IsCoupled, StepsTo, RunsTo, new_world};
-ghost use Rattle.tca_gossip.specs.Worlds.{step_view, reply_view, message_view, IsPlace, IsSending, OfBoth, is_named, with_name, IsNameFault, IsWorldFault};
+ghost use Rattle.tca_gossip.specs.Coupling.{AreDistinct, IsCoupled, StepsTo, RunsTo, new_world};
+ghost use Rattle.tca_gossip.specs.Worlds.{step_view, reply_view, message_view, IsPlace, IsSending, OfBoth, is_named, with_name, IsWorldFault};
 
 use crate::fault::WorldFault;
 use crate::message::Message;
@@ -41,16 +41,33 @@ impl Model for World {
     ghost view = { λ w. record { plan = w.plan; replicas = w.replicas.items; sent = map message_view w.sent.items } };
 }
 
+// Whether no name stands twice.
+fn are_distinct(names: &[u32]) -> bool
+    ensures { IsTrue result ↔ AreDistinct names.now }
+{
+    let mut rest = names;
+    while let Some((name, others)) = rest.split_first() {
+        if others.contains(name) {
+            return false;
+        }
+        rest = others;
+    }
+    true
+}
+
 /// How many messages a world may send.
 const MESSAGES: usize = 4_294_967_295;
 
 impl World {
-    /// Replicas of these names that hold nothing. `NameTwice` comes where a name stands twice, `Memory` where a growth was refused.
+    /// Replicas of these names that hold nothing. `NameTwice` comes where a name stands twice, else `Memory` where a growth was refused.
     pub fn new(alloc: Global, names: &[u32], plan: &Plan) -> Result<World, WorldFault>
         ensures empty { IfOk result (λ w. w ≡ new_world plan.now names.now) }
         ensures starts { IfOk result (λ w. IsCoupled (new_machine names.now) w) }
         ensures fault { IfErr result (IsWorldFault names.now) }
     {
+        if !are_distinct(names) {
+            return Err(WorldFault::NameTwice);
+        }
         let own = plan.copy(alloc)?;
         let mut world = World {
             alloc,
@@ -59,10 +76,7 @@ impl World {
             sent: Vec::new(alloc),
         };
         for name in names {
-            match world.add(*name) {
-                Ok(()) => {}
-                Err(fault) => return Err(fault),
-            }
+            world.open(*name)?;
         }
         Ok(world)
     }
@@ -75,21 +89,6 @@ impl World {
         let replica = Replica::new(self.alloc, name, plan)?;
         self.replicas.push(replica)?;
         Ok(())
-    }
-
-    // One more replica, unless there is one of this name.
-    fn add(&mut self, name: u32) -> Result<(), WorldFault>
-        ensures ok { OnOk result (self.new ≡ with_name self.old name) }
-        ensures apart { OnOk result (is_named self.old name ≡ false) }
-        ensures fault { IfErr result (IsNameFault (is_named self.old name)) }
-    {
-        match self.place(name) {
-            Some(_) => Err(WorldFault::NameTwice),
-            None => match self.open(name) {
-                Ok(()) => Ok(()),
-                Err(_) => Err(WorldFault::Memory),
-            },
-        }
     }
 
     /// The replica of a name.
@@ -233,6 +232,7 @@ impl World {
     pub fn run(&mut self, steps: &[Step]) -> Result<Vec<Reply>, AllocError>
         ensures run { (m : Machine) → IsCoupled m self.old → IfOk result (λ replies. RunsTo m (map step_view steps.now) (map reply_view replies.items) self.new) }
         ensures err { OnErr result (self.new ≡ self.old) }
+        ensures some { OnErr result (0 < length steps.now) }
     {
         let mut replies = Vec::with_capacity(self.alloc, steps.len())?;
         for step in steps {

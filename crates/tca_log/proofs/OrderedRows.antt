@@ -1,8 +1,11 @@
 -- Chunks and lists of rows in order, whatever the rows are.
 pub mod Each
 pub mod Parts
+pub mod Passing
 pub mod Positions
 pub mod Ranks
+pub mod Rising
 pub mod Search
+pub mod Small
 pub mod Ties
 pub mod Whole

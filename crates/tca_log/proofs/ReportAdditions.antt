@@ -6,11 +6,10 @@ use Rattle.std.specs.List.{AllByRecursion}
 use Rattle.std.specs.Ordering.{eq_by_cmp, is_eq}
 use Rattle.std.specs.Cmp.{tied_itself, Equal-is}
 use Rattle.std.specs.declared.cmp.Ordering.{Ordering}
-use Rattle.std.specs.declared.cmp.Ordering.TheVariants.{Less, Equal, Greater}
 use borrow.Author.Tests.{ltb-true, ltb-false}
 use Rattle.std.proofs.lemmas.List.{append-nil}
 use Rattle.std.proofs.lemmas.List.Elements.{filter-append}
-use Rattle.tca_join.specs.Sets.{by_order, has, put}
+use Rattle.tca_join.specs.Sets.{has, put}
 use Rattle.tca_join.proofs.Sets.{has-put, has-append, all_put, all_more, or_swap}
 use Rattle.tca_report.specs.report.Reports.{PacketReport, report_cmp}
 use Rattle.tca_report.specs.report.Identities.{identity_of, identity_cmp}
@@ -24,6 +23,7 @@ use Rattle.tca_log.specs.Logs.{index_cmp, indexed, count_at, IsLog}
 use Rattle.tca_log.specs.Additions.{AreAdditions, AddedRows, with_report, with_reports, reports_in}
 use Rattle.tca_log.proofs.Contents.{has-disputed, has_identity_is}
 use Rattle.tca_log.proofs.OrderedRows.Parts.{or_parts}
+use Rattle.tca_log.proofs.OrderedRows.Small.{put_longest}
 use Rattle.tca_log.proofs.Logs.{index_total, one_more, one_more_there, first_one, second_one, further_one}
 
 pub or_comm : (a b : Bool) → (a || b) ≡ (b || a)
@@ -37,15 +37,10 @@ or_true true = refl
 or_true false = refl
 
 module _ {K : Type 0} (R : K → K → Ordering) where
-  put_longest : (k : K) (xs : List K) → length (put R k xs) ≤ length xs + 1
-  unfolding put
-  put_longest k [] = omega arith
-  put_longest k (x ∷ xs) = elim (R k x) as (λ r. length (by_order r (k ∷ x ∷ xs) (x ∷ xs) (x ∷ put R k xs)) ≤ length (x ∷ xs) + 1) [ Less ↦ omega arith | Equal ↦ omega arith | Greater ↦ omega (arith, put_longest k xs) ]
-
   pub put_each_longest : (ks xs : List K) → length (put_each R ks xs) ≤ length xs + length ks
   unfolding put_each
   put_each_longest [] xs = omega arith
-  put_each_longest (k ∷ ks) xs = omega (arith, put_each_longest ks (put R k xs), put_longest k xs)
+  put_each_longest (k ∷ ks) xs = omega (arith, put_each_longest ks (put R k xs), put_longest R k xs)
 
 -- additions grow by one at most
 pub fresh_grows : (index : List ByIdentity) (disputed_identities : List Identity) (key : ByIdentity) (n : AddedRows) → length (with_report index disputed_identities key n).fresh ≤ length n.fresh + 1

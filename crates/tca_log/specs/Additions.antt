@@ -1,6 +1,8 @@
 -- What new reports add to a log's index and to its disputed identities: for private functions and their proofs alone.
-use Rattle.std.specs.Prelude.{◌≡◌, ◌+◌, ◌≤◌, ◌||◌, if◌then◌else◌, true, List, [], ◌∷◌, length, map, nat_lt}
+use Rattle.std.specs.Prelude.{◌≡◌, ℕ, ◌+◌, ◌≤◌, ◌||◌, if◌then◌else◌, true, List, [], ◌∷◌, length, filter, map, nat_lt}
 use Rattle.std.specs.List.{AllByRecursion}
+use Rattle.std.specs.Ordering.{eq_by_cmp}
+use Rattle.std.specs.declared.cmp.Ordering.{Ordering}
 use Rattle.tca_join.specs.Sets.{has, put}
 use Rattle.tca_report.specs.report.Reports.{PacketReport, report_cmp}
 use Rattle.tca_report.specs.report.Identities.{identity_of, identity_cmp}
@@ -39,3 +41,7 @@ with_reports index disputed_identities (key ∷ keys) n = with_reports index dis
 -- the reports of rows of the index
 abbrev pub reports_in : List ByIdentity → List PacketReport
 reports_in keys = map (λ b. b.report) keys
+
+-- how many times k stands in a list
+unfoldable pub times : {K : Type 0} → (K → K → Ordering) → K → List K → ℕ
+times R k xs = length (filter (eq_by_cmp R k) xs)

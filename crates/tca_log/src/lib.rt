@@ -7,7 +7,8 @@
 //!
 //! - `rows`: the ordered container, with `chunk`, `locate` and `iter` beneath it;
 //! - `log`, `union`: the log, one report and many reports at a time;
-//! - `index`, `additions`, `by_identity`, `ascending`: which identities the log knows, and which are disputed;
+//! - `disputes`, `ascending`: which identities of a set are disputed; `index`, `additions`, `by_identity`: the same as reports
+//!   come one by one;
 //! - `settled`: the reports that no other disputes; `answer`, `fault`: what a log answers; `laws`: what one more report
 //!   changes.
 #![tactic(auto)]
@@ -16,6 +17,7 @@ mod additions;
 mod answer;
 mod ascending;
 mod by_identity;
+mod disputes;
 mod fault;
 mod index;
 mod joins;

@@ -22,8 +22,8 @@ use tca_report::{Identity, Report};
 /// two or more of them dispute one another, and none of these is settled.
 ///
 /// Adding a report costs a search among the reports and one among the identities, whatever their values are. The
-/// index of the identities is made when it is first needed: a log that is given reports once, in a list in which the places
-/// of each domain ascend, never makes it.
+/// index of the identities is made when it is first needed, by one report or a short list: a log that is given long lists alone
+/// never makes it.
 #[derive(Drop)]
 pub struct Log<A: Allocator + Copy = Global> {
     pub(crate) rows: Rows<Report, A>,
@@ -118,6 +118,16 @@ impl<A: Allocator + Copy> Log<A> {
         let answer = entered?;
         self.rows.put(report);
         Ok(answer)
+    }
+
+    /// All reports, in order, as a list. It takes no memory where the log got its reports in long lists alone.
+    pub fn into_reports(self) -> Result<Vec<Report, A>, AllocError>
+        ensures all { IfOk result (λ list. list.items ≡ self) }
+        ensures rises { OnOk result (IsStrictlySortedBy report_cmp self) }
+        ensures limit { OnOk result (length self ≤ most_reports) }
+    {
+        let Log { rows, .. } = self;
+        rows.into_list()
     }
 
     /// A log with the same reports.

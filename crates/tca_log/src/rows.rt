@@ -1,28 +1,40 @@
 //! An ordered set that makes room first, and then takes no memory. It knows nothing of reports.
 //!
-//! - `chunk`: rows that lie side by side in memory; `locate`: which chunk a row is in; `iter`: the rows one by one.
-ghost use Rattle.std.specs.Prelude.{◌≡◌, ℕ, true, false, ◌+◌, ◌-◌, ◌<◌, ◌≤◌, [], ◌∷◌, ◌++◌, length, drop, OnOk, OnErr, IfOk, IsTrue, Some, is_some, IfSome, vec_len, vec_capacity, option_copied};
+//! - `chunk`: rows that lie side by side in memory; `locate`: which chunk a row is in; `iter`: the rows one by one; `order`:
+//!   whether a list ascends; `left`, `merge`, `beyond`: two containers gone through at once.
+ghost use Rattle.std.specs.Prelude.{◌≡◌, ℕ, true, false, ◌+◌, ◌-◌, ◌<◌, ◌≤◌, [], ◌∷◌, ◌++◌, length, drop, OnOk, OnErr, IfOk, IsOk, IsTrue, Some, is_some, IfSome, vec_len, vec_capacity, option_copied};
 ghost use Rattle.std.specs.List.{All};
 ghost use Rattle.std.specs.List.Sorted.{IsStrictlySortedBy};
 ghost use Rattle.tca_join.specs.Sets.{has, put};
 ghost use Rattle.tca_log.specs.Rows.Chunks.{joined, AreChunks};
 ghost use Rattle.tca_log.specs.Rows.Ordered.{without, rank, tied, put_each, without_each, AreApart, Ordered, most_rows};
 
+mod beyond;
 mod chunk;
 mod iter;
+mod left;
 mod locate;
+mod merge;
+mod order;
 
+pub(crate) use beyond::{count_beyond, difference};
 use chunk::{CHUNK, Chunk};
 pub use iter::RowsIter;
 use locate::{count_of, from_row, position};
+pub(crate) use merge::merged;
+pub(crate) use order::ascend;
 use std::alloc::{AllocError, Allocator, Global};
 use std::marker::Model;
 
 /// The most rows of a container.
 pub const LIMIT: usize = 4_194_304;
 
-/// Rows in strictly ascending order, at most 4,194,304. They lie in chunks of at most 256, so that putting
-/// one moves few others. `reserve` makes room for one row, and `put` and `withdraw` take no memory.
+// Where a list has less than this part of a container's rows, one search for each is faster than going through all.
+pub(crate) const SHARE: usize = 64;
+
+/// Rows in strictly ascending order, at most 4,194,304. A list that ascends is kept as it is. Once room is made to put a
+/// row they lie in chunks of at most 256, so that putting or withdrawing one moves few others. `reserve` makes room for one
+/// row, and `put` and `withdraw` take no memory.
 #[derive(Drop)]
 pub struct Rows<K: Ord + Copy, A: Allocator + Copy = Global> {
     chunks: Vec<Chunk<K, A>, A>,
@@ -54,16 +66,23 @@ impl<K: Ord + Copy, A: Allocator + Copy> Rows<K, A> {
         }
     }
 
-    /// A container of rows that ascend. It copies them chunk by chunk.
-    pub(crate) fn of_ascending(alloc: A, rows: &[K]) -> Result<Rows<K, A>, AllocError>
-        requires rises { IsStrictlySortedBy K.cmp rows.now }
-        requires few { length rows.now ≤ most_rows }
-        ensures { IfOk result (λ all. all.rows ≡ rows.now) }
+    /// A container of rows that ascend. It keeps the list as it is, and takes memory for no more than its handle.
+    pub(crate) fn of_ascending(alloc: A, rows: Vec<K, A>) -> Result<Rows<K, A>, AllocError>
+        requires rises { IsStrictlySortedBy K.cmp rows.items }
+        requires few { vec_len rows ≤ most_rows }
+        ensures rows { IfOk result (λ all. all.rows ≡ rows.items) }
+        ensures none { vec_len rows ≡ 0 → IsOk result }
     {
+        let count = rows.len();
+        if count == 0 {
+            return Ok(Rows::new(alloc));
+        }
+        let mut chunks = Vec::new(alloc);
+        chunks.push(Chunk::of_list(alloc, rows)?)?;
         Ok(Rows {
-            chunks: cut(alloc, rows)?,
+            chunks,
             spare: None,
-            count: rows.len(),
+            count,
         })
     }
 
@@ -127,7 +146,8 @@ impl<K: Ord + Copy, A: Allocator + Copy> Rows<K, A> {
         count_of(&self.chunks[..at]) + self.chunks[at].rank(key)
     }
 
-    /// Makes room for one more row. An error leaves all as it was, and comes only where there was no room yet.
+    /// Makes room for one more row. It cuts a long list into chunks first. An error leaves all as it was, and comes only
+    /// where there was no room yet.
     pub fn reserve(&mut self) -> Result<(), AllocError>
         ensures rows { self.new.rows ≡ self.old.rows }
         ensures ready { OnOk result (self.new.ready ≡ true) }
@@ -135,6 +155,7 @@ impl<K: Ord + Copy, A: Allocator + Copy> Rows<K, A> {
         ensures refused { OnErr result (self.old.ready ≡ false) }
     {
         if self.spare.is_none() {
+            cut_list(&mut self.chunks)?;
             self.chunks.reserve(1)?;
             let alloc = *self.chunks.allocator();
             self.spare = Some(Chunk::new(alloc)?);
@@ -153,7 +174,8 @@ impl<K: Ord + Copy, A: Allocator + Copy> Rows<K, A> {
         put_in(&mut self.chunks, &mut self.spare, key);
     }
 
-    /// Takes away the row that ties with this one. It takes no memory.
+    /// Takes away the row that ties with this one. It takes no memory. What lies after the row in its chunk moves, so
+    /// before many calls on a long list make room by `reserve`, which cuts it.
     pub fn withdraw(&mut self, key: &K)
         requires there { has K.cmp self.old.rows key.now ≡ true }
         ensures rows { self.new.rows ≡ without K.cmp key.now self.old.rows }
@@ -163,7 +185,8 @@ impl<K: Ord + Copy, A: Allocator + Copy> Rows<K, A> {
         take_from(&mut self.chunks, key);
     }
 
-    /// Puts all rows of another container, or none where memory is short.
+    /// Puts all rows of another container, or none where memory is short. Where they are many it goes through both once, and
+    /// they lie in one list from then on.
     pub(crate) fn put_all(&mut self, other: &Rows<K, A>) -> Result<(), AllocError>
         requires apart { AreApart K.cmp other.now.rows self.old.rows }
         requires few { length self.old.rows + length other.now.rows ≤ most_rows }
@@ -171,6 +194,10 @@ impl<K: Ord + Copy, A: Allocator + Copy> Rows<K, A> {
         ensures err { OnErr result (self.new.rows ≡ self.old.rows) }
     {
         if other.len() == 0 {
+            return Ok(());
+        }
+        if other.len() >= self.len() / SHARE {
+            *self = merged(self, other)?;
             return Ok(());
         }
         for key in other.iter() {
@@ -213,37 +240,74 @@ impl<K: Ord + Copy, A: Allocator + Copy> Rows<K, A> {
     pub(crate) fn count_beyond(&self, held: &Rows<K, A>) -> usize
         ensures { result ≡ length (without_each K.cmp held.now.rows self.now.rows) }
     {
-        let mut count = self.len();
-        for key in self.iter() {
-            if held.contains(key) {
-                count -= 1;
-            }
-        }
-        count
+        count_beyond(self.iter(), self.len(), held)
     }
 
-    /// The rows that tie with none of another container.
-    pub(crate) fn difference(&self, alloc: A, held: &Rows<K, A>) -> Result<Rows<K, A>, AllocError>
+    /// The rows that tie with none of another container, of which there are so many.
+    pub(crate) fn difference(
+        &self,
+        alloc: A,
+        new: usize,
+        held: &Rows<K, A>,
+    ) -> Result<Rows<K, A>, AllocError>
+        requires { new ≡ length (without_each K.cmp held.now.rows self.now.rows) }
         ensures { IfOk result (λ rest. rest.rows ≡ without_each K.cmp held.now.rows self.now.rows) }
     {
-        let mut rest = Rows::new(alloc);
-        for key in self.iter() {
-            if !held.contains(key) {
-                rest.reserve()?;
-                rest.put(*key);
-            }
-        }
-        Ok(rest)
+        difference(alloc, self.iter(), self.len(), new, held)
     }
 
-    /// A container with the same rows.
+    /// A container with the same rows, as one list.
     pub(crate) fn copy(&self) -> Result<Rows<K, A>, AllocError>
         ensures { IfOk result (λ c. c.rows ≡ self.now.rows) }
     {
-        let mut copy = Rows::new(*self.chunks.allocator());
-        copy.put_all(self)?;
-        Ok(copy)
+        let list = self.listed()?;
+        Rows::of_ascending(self.allocator(), list)
     }
+
+    // The rows in a list of their own.
+    fn listed(&self) -> Result<Vec<K, A>, AllocError>
+        ensures rows { IfOk result (λ list. list.items ≡ self.now.rows) }
+        ensures rises { OnOk result (IsStrictlySortedBy K.cmp self.now.rows) }
+        ensures few { OnOk result (length self.now.rows ≤ most_rows) }
+    {
+        let mut list = Vec::with_capacity(self.allocator(), self.count)?;
+        for chunk in &self.chunks {
+            list.extend_from_slice(chunk.rows())?;
+        }
+        Ok(list)
+    }
+
+    /// The rows as a list. It takes no memory where they lie in one list already.
+    pub(crate) fn into_list(self) -> Result<Vec<K, A>, AllocError>
+        ensures { IfOk result (λ list. list.items ≡ self.rows) }
+    {
+        if self.chunks.len() > 1 {
+            return self.listed();
+        }
+        let Rows { mut chunks, .. } = self;
+        let alloc = *chunks.allocator();
+        match chunks.pop() {
+            Some(chunk) => Ok(chunk.into_list()),
+            None => Ok(Vec::new(alloc)),
+        }
+    }
+}
+
+// Cuts a list that is the only chunk, where it is longer than a chunk may be. An error leaves it as it was.
+fn cut_list<K: Ord + Copy, A: Allocator + Copy>(
+    chunks: &mut Vec<Chunk<K, A>, A>,
+) -> Result<(), AllocError>
+    requires some { All (λ c. 0 < length c) chunks.old.items }
+    requires small { 1 < vec_len chunks.old → All (λ c. length c ≤ 256) chunks.old.items }
+    ensures joined { joined chunks.new.items ≡ joined chunks.old.items }
+    ensures some { All (λ c. 0 < length c) chunks.new.items }
+    ensures small { OnOk result (All (λ c. length c ≤ 256) chunks.new.items) }
+    ensures err { OnErr result (chunks.new.items ≡ chunks.old.items) }
+{
+    if chunks.len() == 1 && chunks[0].len() > CHUNK {
+        *chunks = cut(*chunks.allocator(), chunks[0].rows())?;
+    }
+    Ok(())
 }
 
 // Rows cut into chunks, all of them full but the last.
@@ -253,6 +317,7 @@ fn cut<K: Ord + Copy, A: Allocator + Copy>(
 ) -> Result<Vec<Chunk<K, A>, A>, AllocError>
     ensures joined { IfOk result (λ chunks. joined chunks.items ≡ rows.now) }
     ensures some { IfOk result (λ chunks. All (λ c. 0 < length c) chunks.items) }
+    ensures small { IfOk result (λ chunks. All (λ c. length c ≤ 256) chunks.items) }
 {
     let mut chunks = Vec::new(alloc);
     for part in rows.chunks(CHUNK) {
@@ -270,8 +335,10 @@ fn put_in<K: Ord + Copy, A: Allocator>(
     requires chunks { AreChunks K.cmp chunks.old.items }
     requires spare { spare.old ≡ Some [] }
     requires room { vec_len chunks.old < vec_capacity chunks.old }
+    requires small { All (λ c. length c ≤ 256) chunks.old.items }
     ensures joined { joined chunks.new.items ≡ put K.cmp key (joined chunks.old.items) }
     ensures chunks { AreChunks K.cmp chunks.new.items }
+    ensures small { All (λ c. length c ≤ 256) chunks.new.items }
     ensures spare { IfSome spare.new (λ c. c ≡ []) }
     ensures room { is_some spare.new ≡ true → vec_len chunks.new < vec_capacity chunks.new }
 {
@@ -298,6 +365,7 @@ fn take_from<K: Ord + Copy, A: Allocator>(chunks: &mut Vec<Chunk<K, A>, A>, key:
     requires some { 0 < vec_len chunks.old }
     ensures joined { joined chunks.new.items ≡ without K.cmp key.now (joined chunks.old.items) }
     ensures chunks { AreChunks K.cmp chunks.new.items }
+    ensures small { All (λ c. length c ≤ 256) chunks.old.items → All (λ c. length c ≤ 256) chunks.new.items }
     ensures fewer { vec_len chunks.new ≤ vec_len chunks.old }
     ensures capacity { vec_capacity chunks.new ≡ vec_capacity chunks.old }
 {

@@ -135,12 +135,9 @@ fn agrees(alloc: Global, order: &[Report], disputed: u32) -> Result<bool, Fail> 
     let mut plain = Vec::new(alloc);
     let alike = add_each(&mut log, &mut plain, order)?;
     plain.sort_unstable();
-    Ok(
-        alike
-            && has_all(&log, &plain)
-            && log.len() as usize == plain.len()
-            && log.disputed() == disputed,
-    )
+    let all = has_all(&log, &plain) && log.len() as usize == plain.len();
+    let disputes = log.disputed() == disputed;
+    Ok(alike && all && disputes && log.into_reports()? == plain)
 }
 
 fn unites(alloc: Global, log: &mut Log, report: Report) -> bool {
@@ -223,7 +220,8 @@ fn copies(alloc: Global) -> Result<bool, Fail> {
     let mut sorted = list;
     sorted.sort_unstable();
     let copy = log.copy()?;
-    Ok(added && has_all(&copy, &sorted) && copy.disputed() == 1)
+    let alike = has_all(&copy, &sorted) && copy.disputed() == 1;
+    Ok(added && alike && copy.into_reports()? == sorted)
 }
 
 fn disputes(alloc: Global) -> Result<bool, Fail> {
@@ -726,7 +724,7 @@ fn exchanges(alloc: Global) -> Result<(usize, usize, usize), Fail> {
             all.put(i);
         }
     }
-    let even = all.difference(alloc, &odd)?;
+    let even = all.difference(alloc, all.count_beyond(&odd), &odd)?;
     all.withdraw_all(&odd);
     Ok((even.len(), all.count_beyond(&odd), all.rank(&300)))
 }

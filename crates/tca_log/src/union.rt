@@ -1,5 +1,5 @@
 //! Many reports at once: all of them or none.
-ghost use Rattle.std.specs.Prelude.{◌≡◌, ◌+◌, ◌<◌, ◌≤◌, ◌++◌, [], List, map, length, IfOk, IfErr, OnOk, OnErr, IsOk, false, nat_lt};
+ghost use Rattle.std.specs.Prelude.{◌≡◌, ◌+◌, ◌<◌, ◌≤◌, ◌++◌, [], List, map, length, IfOk, IfErr, OnOk, OnErr, IsOk, None};
 ghost use Rattle.std.specs.List.Sorted.{IsStrictlySortedBy};
 ghost use Rattle.tca_join.specs.Sets.{in_order};
 ghost use Rattle.tca_report.specs.report.Reports.{report_cmp};
@@ -11,12 +11,12 @@ ghost use Rattle.tca_log.specs.LogJoin.{log_full};
 ghost use Rattle.tca_log.specs.Logs.{index_cmp, index_rows, IsKept, IsLog};
 
 use crate::additions::{Additions, additions_of};
-use crate::ascending::places_ascend;
 use crate::by_identity::ByIdentity;
+use crate::disputes::disputes_of;
 use crate::fault::LogFault;
 use crate::index::index_of;
 use crate::log::Log;
-use crate::rows::{LIMIT, Rows};
+use crate::rows::{LIMIT, Rows, RowsIter, SHARE, ascend, count_beyond, difference, merged};
 use std::alloc::{AllocError, Allocator};
 use tca_report::{Identity, Report};
 
@@ -38,7 +38,9 @@ impl<A: Allocator + Copy> Log<A> {
         if new > LIMIT - self.rows.len() {
             return Err(LogFault::Full);
         }
-        let news = other.rows.difference(self.rows.allocator(), &self.rows)?;
+        let news = other
+            .rows
+            .difference(self.rows.allocator(), new, &self.rows)?;
         take_in(&mut self.rows, &mut self.index, &mut self.disputed, news)?;
         Ok(new as u32)
     }
@@ -71,10 +73,13 @@ impl<A: Allocator + Copy> Log<A> {
     }
 }
 
-// The reports of a list in order, each once.
+// The reports of a list in order, each once. A list that ascends is that already.
 fn set_of<A: Allocator + Copy>(reports: Vec<Report, A>) -> Vec<Report, A>
     ensures { result.items ≡ in_order report_cmp reports.items }
 {
+    if ascend(&reports) {
+        return reports;
+    }
     let mut set = reports;
     set.sort_unstable();
     set.dedup();
@@ -93,60 +98,45 @@ fn news_in<A: Allocator + Copy>(
     ensures nothing { length (without_each report_cmp rows.now.rows (in_order report_cmp reports.items)) ≡ 0 → IsOk result }
 {
     let set = set_of(reports);
-    if is_over(rows, &set) {
+    let new = count_new(rows, &set);
+    if new > LIMIT - rows.len() {
         return Err(LogFault::Full);
     }
-    let news = news_of(alloc, rows, &set)?;
+    let news = news_of(alloc, rows, set, new)?;
     Ok(news)
 }
 
-// How many of a list are not among the rows.
-fn count_new<A: Allocator + Copy>(rows: &Rows<Report, A>, reports: &[Report]) -> usize
-    ensures { result ≡ length (without_each report_cmp rows.now.rows reports.now) }
+// How many of a set are not among the rows.
+fn count_new<A: Allocator + Copy>(rows: &Rows<Report, A>, set: &[Report]) -> usize
+    requires { IsStrictlySortedBy report_cmp set.now }
+    ensures { result ≡ length (without_each report_cmp rows.now.rows set.now) }
 {
-    let mut count = 0;
-    for report in reports {
-        if !rows.contains(report) {
-            count += 1;
-        }
+    if rows.len() == 0 {
+        return set.len();
     }
-    count
+    count_beyond(RowsIter::of(set), set.len(), rows)
 }
 
-// Whether the rows are too many together with those of a list that are not among them.
-fn is_over<A: Allocator + Copy>(rows: &Rows<Report, A>, reports: &[Report]) -> bool
-    ensures over { result ≡ nat_lt most_rows (length rows.now.rows + length (without_each report_cmp rows.now.rows reports.now)) }
-    ensures nothing { length (without_each report_cmp rows.now.rows reports.now) ≡ 0 → result ≡ false }
-{
-    let room = LIMIT - rows.len();
-    reports.len() > room && count_new(rows, reports) > room
-}
-
-// Those of a set that are not among the rows: all of it where there are none.
+// Those of a set that are not among the rows, of which there are so many: the set itself where there are no rows.
 fn news_of<A: Allocator + Copy>(
     alloc: A,
     rows: &Rows<Report, A>,
-    set: &[Report],
+    set: Vec<Report, A>,
+    new: usize,
 ) -> Result<Rows<Report, A>, AllocError>
-    requires rises { IsStrictlySortedBy report_cmp set.now }
-    requires few { length (without_each report_cmp rows.now.rows set.now) ≤ most_rows }
-    ensures news { IfOk result (λ news. news.rows ≡ without_each report_cmp rows.now.rows set.now) }
-    ensures nothing { length (without_each report_cmp rows.now.rows set.now) ≡ 0 → IsOk result }
+    requires rises { IsStrictlySortedBy report_cmp set.items }
+    requires new { new ≡ length (without_each report_cmp rows.now.rows set.items) }
+    requires few { new ≤ most_rows }
+    ensures news { IfOk result (λ news. news.rows ≡ without_each report_cmp rows.now.rows set.items) }
+    ensures nothing { new ≡ 0 → IsOk result }
 {
-    if rows.len() == 0 && !set.is_empty() {
+    if rows.len() == 0 {
         return Rows::of_ascending(alloc, set);
     }
-    let mut news = Rows::new(alloc);
-    for report in set {
-        if !rows.contains(report) {
-            news.reserve()?;
-            news.put(*report);
-        }
-    }
-    Ok(news)
+    difference(alloc, RowsIter::of(&set), set.len(), new, rows)
 }
 
-// Puts reports that are new into a log's parts. A log without reports takes them without an index where places ascend.
+// Puts reports that are new into a log's parts. A log without reports takes them as they are, without an index.
 fn take_in<A: Allocator + Copy>(
     rows: &mut Rows<Report, A>,
     index: &mut Option<Rows<ByIdentity, A>>,
@@ -161,10 +151,14 @@ fn take_in<A: Allocator + Copy>(
     ensures err { OnErr result (rows.new.rows ≡ rows.old.rows) }
     ensures log { IsKept rows.new.rows (index_rows index.new) disputed.new.rows }
 {
-    if rows.len() == 0 && places_ascend(news.allocator(), &news)? {
+    if rows.len() == 0 {
+        *disputed = disputes_of(&news)?;
         *rows = news;
         *index = None;
         return Ok(());
+    }
+    if index.is_none() && news.len() >= rows.len() / SHARE {
+        return take_many(rows, disputed, &news);
     }
     let mut kept = index_of(rows, index.take())?;
     let outcome = take_with_index(rows, &mut kept, disputed, news);
@@ -172,7 +166,27 @@ fn take_in<A: Allocator + Copy>(
     outcome
 }
 
-// Puts reports that are new into a log's three parts. A log without reports takes them as they are.
+// Puts many reports that are new into a log that keeps no index, and looks for disputes among all of them.
+fn take_many<A: Allocator + Copy>(
+    rows: &mut Rows<Report, A>,
+    disputed: &mut Rows<Identity, A>,
+    news: &Rows<Report, A>,
+) -> Result<(), AllocError>
+    requires log { IsKept rows.old.rows None disputed.old.rows }
+    requires rises { IsStrictlySortedBy report_cmp news.now.rows }
+    requires apart { AreApart report_cmp news.now.rows rows.old.rows }
+    requires few { length rows.old.rows + length news.now.rows ≤ most_rows }
+    ensures ok { OnOk result (rows.new.rows ≡ put_each report_cmp news.now.rows rows.old.rows) }
+    ensures err { OnErr result (rows.new.rows ≡ rows.old.rows) }
+    ensures log { IsKept rows.new.rows None disputed.new.rows }
+{
+    let all = merged(rows, news)?;
+    *disputed = disputes_of(&all)?;
+    *rows = all;
+    Ok(())
+}
+
+// Puts reports that are new into a log's three parts.
 fn take_with_index<A: Allocator + Copy>(
     rows: &mut Rows<Report, A>,
     index: &mut Rows<ByIdentity, A>,
@@ -188,11 +202,6 @@ fn take_with_index<A: Allocator + Copy>(
     ensures log { IsLog rows.new.rows index.new.rows disputed.new.rows }
 {
     let additions = additions_of(index, disputed, &news)?;
-    if rows.len() == 0 {
-        put_additions(index, disputed, additions)?;
-        *rows = news;
-        return Ok(());
-    }
     rows.put_all(&news)?;
     if let Err(refused) = put_additions(index, disputed, additions) {
         rows.withdraw_all(&news);

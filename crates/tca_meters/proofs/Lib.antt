@@ -1,3 +1,4 @@
 pub mod Coloured
 pub mod SpecParts
 pub mod SpecNumbers
+pub mod NoTime

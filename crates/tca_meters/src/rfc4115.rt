@@ -140,6 +140,9 @@ impl Meter for Rfc4115 {
     }
 
     fn advance(&self, state: Levels, from: u64, to: u64) -> Levels {
+        if from == to {
+            return state;
+        }
         state.filled(ticks(self.cir, from, to), ticks(self.eir, from, to))
     }
 

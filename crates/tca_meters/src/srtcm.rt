@@ -112,6 +112,9 @@ impl Meter for SrTcm {
     }
 
     fn advance(&self, state: Levels, from: u64, to: u64) -> Levels {
+        if from == to {
+            return state;
+        }
         let mut next = state;
         let tokens = ticks(self.cir, from, to);
         fill_spilling(&mut next.committed, &mut next.excess, tokens);

@@ -126,6 +126,9 @@ impl Meter for TrTcm {
     }
 
     fn advance(&self, state: Levels, from: u64, to: u64) -> Levels {
+        if from == to {
+            return state;
+        }
         state.filled(ticks(self.cir, from, to), ticks(self.pir, from, to))
     }
 

@@ -1,6 +1,6 @@
 -- Lanes that get the settled reports of a log in order.
-use Rattle.std.proofs.Common.{◌≡◌, ℕ, ◌+◌, ◌<◌, ◌≤◌, Bool, true, false, cond, List, [], ◌∷◌, ◌++◌, length, get_or, filter, None, refl, sym, ap, subst, ◌∙◌, arith}
-use Rattle.std.specs.Prelude.{is_none}
+use Rattle.std.proofs.Common.{◌≡◌, ℕ, ◌+◌, ◌<◌, ◌≤◌, Bool, true, false, cond, List, [], ◌∷◌, ◌++◌, length, get_or, filter, Option, None, Some, zero, suc, refl, sym, ap, subst, ◌∙◌, arith}
+use Rattle.std.specs.Prelude.{is_none, map}
 use Rattle.std.specs.List.{AllByRecursion}
 use Rattle.std.specs.List.Sorted.{IsStrictlySortedBy}
 use Rattle.std.specs.Ordering.{is_lt}
@@ -16,12 +16,18 @@ use Rattle.tca_log.proofs.OrderedRows.Parts.{below_since, has_below, put_past, r
 use Rattle.tca_accounts.specs.Plans.{AccountPlan, account_of}
 use Rattle.tca_accounts.specs.Bills.{is_number}
 use Rattle.tca_log.specs.Disputes.{undisputed, disputed}
-use Rattle.tca_replay.specs.Lanes.{LaneView, lane_put, lane_ready}
-use Rattle.tca_replay.specs.Books.{AreFilled, AreLanes, AreEmpty, CanEnter, Fits, lanes_at, one_if}
+use Rattle.tca_replay.specs.Lanes.{LaneView, lane_put, lane_ready, lane_resumed, least}
+use Rattle.tca_log.specs.Rows.Ordered.{rank}
+use Rattle.std.proofs.lemmas.List.Sums.{sum_by-cons}
+use Rattle.tca_replay.specs.Books.{AllChanged, AreFilled, AreLanes, AreEmpty, changed_rows, fewest_steps, row_count, CanEnter, Fits, lanes_at, one_if}
 use Rattle.tca_accounts.proofs.Bills.{filter_few}
 use Rattle.tca_replay.proofs.Books.{lanes_part, length-lanes_at, lanes_kept, is_ready}
 use Rattle.tca_log.proofs.Filters.{filter_put}
 use Rattle.tca_replay.proofs.Loops.{all_at}
+
+same_cond : {T : Type 0} (b : Bool) (y : T) → cond b y y ≡ y
+same_cond true y = refl
+same_cond false y = refl
 
 put_none : (x : PacketReport) → put report_cmp x [] ≡ x ∷ []
 unfolding put
@@ -53,6 +59,16 @@ module _ (xs : List PacketReport) (x : PacketReport) (rest : List PacketReport) 
       ap length (filter-append p xs (x ∷ [])) ∙ length-append (filter p xs) (filter p (x ∷ []))
       ∙ elim (p x) as (λ b. length (filter p xs) + length (cond b (x ∷ []) []) ≡ length (filter p xs) + cond b 1 0) [ true ↦ refl | false ↦ refl ]
 
+-- a report more is another row that changed
+put_changed : (r : PacketReport) (changed : Option ℕ) (rows : List PacketReport) → AllChanged changed rows → least changed (rank report_cmp r rows) ≡ 0
+unfolding rank
+put_changed r None rows none = rw none refl
+put_changed r (Some p) rows first = omega (arith, first)
+
+same_pairs : (b : Bool) (r : PacketReport) (q : Option ℕ × List PacketReport) → AllChanged q.0 q.1 → (let t : Option ℕ × List PacketReport = cond b (Some (least q.0 (rank report_cmp r q.1)), put report_cmp r q.1) q in AllChanged t.0 t.1)
+same_pairs true r q h = put_changed r q.0 q.1 h
+same_pairs false r q h = h
+
 module _ (plan : AccountPlan) (k : ℕ) (all : List PacketReport) where
   pub filled_none : (lanes : List (LaneView AnyMeter)) → AreLanes plan k lanes → AreEmpty lanes → AreFilled plan k all all 0 lanes
   filled_none lanes a e = record {
@@ -61,6 +77,9 @@ module _ (plan : AccountPlan) (k : ℕ) (all : List PacketReport) where
     lanes_are = a;
     rows = λ n l h. (all_at (λ (x : LaneView AnyMeter). (x.rows ≡ []) × (x.changed ≡ None)) n lanes l e h).0;
     none = refl;
+    changed = λ n l h.
+        let none = all_at (λ (x : LaneView AnyMeter). (x.rows ≡ []) × (x.changed ≡ None)) n lanes l e h in
+        rw (none.1) (none.0);
   }
 
   module _ (x : PacketReport) (rest : List PacketReport) (number : ℕ) (lanes : List (LaneView AnyMeter)) (f : AreFilled plan k all (x ∷ rest) number lanes) (rises : IsStrictlySortedBy report_cmp all) where
@@ -80,10 +99,6 @@ module _ (plan : AccountPlan) (k : ℕ) (all : List PacketReport) where
     rows_ready n l h =
         let inside : n < length lanes = omega (arith, length-lanes_at lane_ready (account_of plan x) lanes) in
         lanes_part (λ l. l.rows) lane_ready (λ l. l) (λ l. refl) (account_of plan x) lanes n l inside ∙ same_cond (is_number n (account_of plan x)) _ ∙ f.rows n l inside
-      where
-        same_cond : {T : Type 0} (b : Bool) (y : T) → cond b y y ≡ y
-        same_cond true y = refl
-        same_cond false y = refl
 
     pub can_enter : length all ≤ 4194304 → CanEnter plan ready_lanes x
     can_enter limit n l h own =
@@ -108,6 +123,13 @@ module _ (plan : AccountPlan) (k : ℕ) (all : List PacketReport) where
           ∙ ap (λ ys. cond (is_number n (account_of plan x)) (put report_cmp x ys) ys) (rows_ready n l inside)
           ∙ filter_last f.sofar x rest whole (λ r. is_number n (account_of plan r));
       none = omega (arith, f.none, length-one f.sofar x rest whole (λ r. is_none (account_of plan r)));
+      changed = λ n l h.
+          let part : LaneView AnyMeter → Option ℕ × List PacketReport = λ l. (l.changed, l.rows) in
+          let inside : n < length ready_lanes = omega (arith, length-lanes_at (λ l. lane_put l x) (account_of plan x) ready_lanes) in
+          let before : n < length lanes = omega (arith, length-lanes_at lane_ready (account_of plan x) lanes) in
+          let still : part (get_or ready_lanes n l) ≡ part (get_or lanes n l) = lanes_part part lane_ready (λ q. q) (λ l. refl) (account_of plan x) lanes n l before ∙ same_cond (is_number n (account_of plan x)) _ in
+          let next = lanes_part part (λ l. lane_put l x) (λ q. (Some (least q.0 (rank report_cmp x q.1)), put report_cmp x q.1)) (λ l. refl) (account_of plan x) ready_lanes n l inside in
+          subst (λ (q : Option ℕ × List PacketReport). AllChanged q.0 q.1) (sym next) (same_pairs (is_number n (account_of plan x)) x (part (get_or ready_lanes n l)) (subst (λ (q : Option ℕ × List PacketReport). AllChanged q.0 q.1) (sym still) (f.changed n l before)));
     }
 
 pub fits_filled : (plan : AccountPlan) (k : ℕ) (rs : List PacketReport) (number : ℕ) (lanes : List (LaneView AnyMeter)) → AreFilled plan k (undisputed rs) [] number lanes → Fits rs (record { plan = plan; k = k; lanes = lanes; reports = length rs; disputed = length (disputed rs); unassigned = number })
@@ -119,3 +141,13 @@ fits_filled plan k rs number lanes f =
       unassigned_is = f.none ∙ ap (λ xs. length (filter (λ r. is_none (account_of plan r)) xs)) done;
       rows = λ n l h. f.rows n l h ∙ ap (filter (λ r. is_number n (account_of plan r))) done;
     }
+
+changed_all : (o : Option ℕ) (rows : List PacketReport) (l : LaneView AnyMeter) → l.rows ≡ rows → AllChanged o rows → changed_rows l o ≡ length rows
+changed_all None rows l is none = rw none refl
+changed_all (Some p) rows l is first = omega (arith, first, ap length is)
+
+-- where all rows changed, all are metered
+pub row_counts : (lanes : List (LaneView AnyMeter)) → ((n : ℕ) (l : LaneView AnyMeter) → n < length lanes → AllChanged (get_or lanes n l).changed (get_or lanes n l).rows) → row_count (map lane_resumed lanes) ≡ fewest_steps lanes
+row_counts [] h = refl
+row_counts (l ∷ lanes) h =
+    omega (arith, row_counts lanes (λ n d i. h (suc n) d (omega arith)), changed_all l.changed l.rows l refl (h zero l (omega arith)), sum_by-cons (λ (x : LaneView AnyMeter). changed_rows x x.changed) l lanes, sum_by-cons (λ (x : LaneView AnyMeter). length x.rows) (lane_resumed l) (map lane_resumed lanes))

@@ -11,7 +11,7 @@ use Rattle.tca_accounts.specs.Plans.{AccountPlan, PlannedAccount}
 use Rattle.tca_replay.specs.Lanes.{LaneView, lane_resumed}
 use Rattle.tca_accounts.proofs.Bills.{field_at}
 use Rattle.tca_accounts.proofs.Periods.{all_push}
-use Rattle.tca_replay.specs.Books.{all_steps, most_steps, steps_of, AreLanes, IsLaneOf, AreEmpty}
+use Rattle.tca_replay.specs.Books.{all_steps, changed_rows, most_steps, steps_of, AreLanes, IsLaneOf, AreEmpty}
 
 module _ {A : Type 0} (f : A → A) where
   -- the list with its first members changed
@@ -71,6 +71,13 @@ steps_by l (Some p) s none some = omega (arith, some)
 
 pub steps_bound : (l : LaneView AnyMeter) (s : ℕ) → (l.changed ≡ None → s ≡ 0) → IfSome l.changed (λ p. s + p ≤ length l.rows + l.k) → s ≤ steps_of l l.changed
 steps_bound l s none some = steps_by l l.changed s none some
+
+rows_by : (l : LaneView AnyMeter) (o : Option ℕ) (s : ℕ) → IfSome o (λ p. length l.rows ≤ s + p) → changed_rows l o ≤ s
+rows_by l None s all = omega arith
+rows_by l (Some p) s all = omega (arith, all)
+
+pub rows_bound : (l : LaneView AnyMeter) (s : ℕ) → IfSome l.changed (λ p. length l.rows ≤ s + p) → changed_rows l l.changed ≤ s
+rows_bound l s all = rows_by l l.changed s all
 
 -- what holds of all holds at a place
 pub all_at : {A : Type 0} (P : A → Type 0) (n : ℕ) (xs : List A) (d : A) → AllByRecursion P xs → n < length xs → P (get_or xs n d)

@@ -138,3 +138,7 @@ module _ {S : Type 0} (w : Metering S) where
 -- the bound on steps
 pub few_steps : (every at len n : ℕ) (rows : List PacketReport) (r : PacketReport) (changed : Option PacketReport) → changed ≡ Some r → n ≡ length rows → IsBack every (rank report_cmp r rows) len at → every * at ≤ n → IfSome (row_of changed rows) (λ p. n - every * at + p ≤ length rows + every)
 few_steps every at len n rows r changed is n-is b le = rw is (omega (arith, b.near, le, n-is))
+
+-- no row from the least changed one on is left out
+pub enough_steps : (every at len n : ℕ) (rows : List PacketReport) (r : PacketReport) (changed : Option PacketReport) → changed ≡ Some r → n ≡ length rows → IsBack every (rank report_cmp r rows) len at → IfSome (row_of changed rows) (λ p. length rows ≤ n - every * at + p)
+enough_steps every at len n rows r changed is n-is b = rw is (omega (arith, b.before, n-is))

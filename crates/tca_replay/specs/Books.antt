@@ -74,6 +74,24 @@ steps_of l (Some p) = length l.rows + l.k - p
 abbrev pub most_steps : List (LaneView AnyMeter) → ℕ
 most_steps lanes = sum_by (λ l. steps_of l l.changed) lanes
 
+-- the rows of a lane from the least changed one on, none where nothing changed
+abbrev pub changed_rows : LaneView AnyMeter → Option ℕ → ℕ
+changed_rows l None = 0
+changed_rows l (Some p) = length l.rows - p
+
+-- and of all lanes: what has to be metered at least
+abbrev pub fewest_steps : List (LaneView AnyMeter) → ℕ
+fewest_steps lanes = sum_by (λ l. changed_rows l l.changed) lanes
+
+-- all rows of a lane changed, if it has any
+abbrev pub AllChanged : Option ℕ → List PacketReport → Type 0
+AllChanged None rows = rows ≡ []
+AllChanged (Some p) rows = p ≡ 0
+
+-- how many rows the lanes have
+abbrev pub row_count : List (LaneView AnyMeter) → ℕ
+row_count lanes = sum_by (λ l. length l.rows) lanes
+
 -- the bound on the steps of lanes that are metered anew from their first rows
 abbrev pub all_steps : List (LaneView AnyMeter) → ℕ
 all_steps lanes = sum_by (λ l. length l.rows + l.k) lanes
@@ -152,3 +170,4 @@ pub record AreFilled (plan : AccountPlan) (k : ℕ) (all later : List PacketRepo
   pub lanes_are : AreLanes plan k lanes
   pub rows : (n : ℕ) (l : LaneView AnyMeter) → n < length lanes → (get_or lanes n l).rows ≡ filter (λ r. is_number n (account_of plan r)) sofar
   pub none : number ≡ length (filter (λ r. is_none (account_of plan r)) sofar)
+  pub changed : (n : ℕ) (l : LaneView AnyMeter) → n < length lanes → AllChanged (get_or lanes n l).changed (get_or lanes n l).rows

@@ -1,5 +1,5 @@
 //! The lanes of all accounts of a plan, and the counts of its bill.
-ghost use Rattle.std.specs.Prelude.{◌≡◌, ℕ, ◌<◌, ◌≤◌, List, [], length, map, is_none, IfOk, OnOk, OnErr};
+ghost use Rattle.std.specs.Prelude.{◌≡◌, ℕ, ◌-◌, ◌^◌, ◌<◌, ◌≤◌, min, List, [], length, map, is_none, IfOk, OnOk, OnErr};
 ghost use Rattle.std.specs.List.Sorted.{IsStrictlySortedBy};
 ghost use Rattle.tca_join.specs.Sets.{put};
 ghost use Rattle.tca_report.specs.report.Reports.{PacketReport, report_cmp};
@@ -8,7 +8,7 @@ ghost use Rattle.tca_accounts.specs.Bills.{bill_of};
 ghost use Rattle.tca_log.specs.declared.answer.Added.TheVariants.{Fresh, NewDispute};
 ghost use Rattle.tca_accounts.specs.Plans.{account_of};
 ghost use Rattle.tca_replay.specs.Lanes.{lane_put, lane_less, lane_ready, lane_resumed};
-ghost use Rattle.tca_replay.specs.Books.{all_steps, book_after, book_ready, book_settled, most_steps, lane_tally, lanes_at, one_if, CanEnter, CanLeave, AreEmpty, AreFilled, AreLanes, AreSettled, Fits, IsReady, Takes};
+ghost use Rattle.tca_replay.specs.Books.{all_steps, fewest_steps, row_count, book_after, book_ready, book_settled, most_steps, lane_tally, lanes_at, one_if, CanEnter, CanLeave, AreEmpty, AreFilled, AreLanes, AreSettled, Fits, IsReady, Takes};
 
 use crate::lane::{Lane, Replayed};
 use std::alloc::{AllocError, Allocator, Global};
@@ -126,6 +126,7 @@ impl<A: Allocator + Copy> Book<A> {
         ensures settled { AreSettled self.new.lanes }
         ensures fits { (rs : List PacketReport) → Fits rs self.old → Fits rs self.new }
         ensures steps { result.steps ≤ most_steps self.old.lanes }
+        ensures all { min (fewest_steps self.old.lanes) (2 ^ 64 - 1) ≤ result.steps }
     {
         Replayed {
             steps: resume_all(&mut self.lanes),
@@ -141,6 +142,7 @@ impl<A: Allocator + Copy> Book<A> {
         ensures fits { OnOk result (Fits log.now self.new) }
         ensures settled { OnOk result (AreSettled self.new.lanes) }
         ensures steps { IfOk result (λ r. r.steps ≤ all_steps self.new.lanes) }
+        ensures all { IfOk result (λ r. min (row_count self.new.lanes) (2 ^ 64 - 1) ≤ r.steps) }
         ensures err { OnErr result (self.new ≡ self.old) }
     {
         let (mut lanes, unassigned) = lanes_with(alloc, &self.plan, self.k, log)?;
@@ -189,6 +191,7 @@ fn lanes_of<A: Allocator + Copy>(
 fn resume_all<A: Allocator + Copy>(lanes: &mut Vec<Lane<AnyMeter, A>, A>) -> u64
     ensures lanes { lanes.new.items ≡ map lane_resumed lanes.old.items }
     ensures steps { result ≤ most_steps lanes.old.items }
+    ensures all { min (fewest_steps lanes.old.items) (2 ^ 64 - 1) ≤ result }
 {
     let mut steps: u64 = 0;
     for n in 0..lanes.len() {

@@ -16,7 +16,7 @@ use std::alloc::{AllocError, Allocator, Global};
 use std::marker::Model;
 use tca_accounts::{Span, Spans, Tally};
 use tca_log::RowsIter;
-use tca_log::rows::Rows;
+use tca_log::rows::{LIMIT, Rows};
 use tca_meters::{Colour, Meter};
 use tca_report::Report;
 
@@ -109,10 +109,8 @@ impl<M: Meter, A: Allocator + Copy> Lane<M, A> {
     {
         let count = self.rows.len() + 1;
         self.rows.reserve()?;
-        self.closed
-            .reserve(count.saturating_sub(self.closed.len()))?;
-        self.marks
-            .reserve((count / self.every).saturating_sub(self.marks.len()))?;
+        reserve_spans(&mut self.closed, count)?;
+        reserve_marks(&mut self.marks, self.every, count)?;
         self.ready = true;
         Ok(())
     }
@@ -140,7 +138,7 @@ impl<M: Meter, A: Allocator + Copy> Lane<M, A> {
     {
         let _all = self.rows.len();
         self.rows.put(report);
-        self.changed = Some(lower(self.changed, report));
+        lower(&mut self.changed, &report);
         self.ready = false;
     }
 
@@ -151,15 +149,16 @@ impl<M: Meter, A: Allocator + Copy> Lane<M, A> {
     {
         let _all = self.rows.len();
         self.rows.withdraw(report);
-        self.changed = Some(lower(self.changed, *report));
+        lower(&mut self.changed, report);
     }
 
     /// Meters anew the rows from the last mark at or before the first row that changed, and answers how many those are: with
-    /// `n` rows and the first change at row `p`, at most `n - p + k`. It takes no memory.
+    /// `n` rows and the first change at row `p`, at least `n - p` and at most `n - p + k`. It takes no memory.
     pub fn resume(&mut self) -> Replayed
         ensures lane { self.new ≡ lane_resumed self.old }
         ensures none { self.old.changed ≡ None → result.steps ≡ 0 }
         ensures steps { IfSome self.old.changed (λ p. result.steps + p ≤ length self.old.rows + self.old.k) }
+        ensures all { IfSome self.old.changed (λ p. length self.old.rows ≤ result.steps + p) }
     {
         let all = self.rows.len();
         let Some(report) = self.changed else {
@@ -184,6 +183,46 @@ impl<M: Meter, A: Allocator + Copy> Lane<M, A> {
             steps: (all - from) as u64,
         }
     }
+}
+
+// Makes room for so many spans.
+fn reserve_spans<A: Allocator + Copy>(
+    closed: &mut Vec<Span, A>,
+    count: usize,
+) -> Result<(), AllocError>
+    ensures items { closed.new.items ≡ closed.old.items }
+    ensures capacity { vec_capacity closed.old ≤ vec_capacity closed.new }
+    ensures room { OnOk result (count ≤ vec_capacity closed.new) }
+{
+    if count <= closed.capacity() {
+        return Ok(());
+    }
+    // Most of the room stays empty, and growing in place would copy it all.
+    let mut roomier = Vec::with_capacity(*closed.allocator(), count.saturating_add(count))?;
+    roomier.extend_from_slice(closed)?;
+    *closed = roomier;
+    Ok(())
+}
+
+// Makes room for a mark after each so many of the rows.
+fn reserve_marks<S, A: Allocator>(
+    marks: &mut Vec<Mark<S>, A>,
+    every: usize,
+    count: usize,
+) -> Result<(), AllocError>
+    requires some { 0 < every }
+    requires small { every ≤ 65536 }
+    ensures items { marks.new.items ≡ marks.old.items }
+    ensures capacity { vec_capacity marks.old ≤ vec_capacity marks.new }
+    ensures room { OnOk result ((n : ℕ) → every * n ≤ count → n ≤ vec_capacity marks.new) }
+{
+    // This comes for each row, and dividing would be slow.
+    let held = marks.capacity().min(LIMIT);
+    if count < every * (held + 1) {
+        return Ok(());
+    }
+    marks.reserve((count / every).saturating_sub(marks.len()))?;
+    Ok(())
 }
 
 // The spans that ended, and the one that goes on.
@@ -233,12 +272,14 @@ fn rewind<M: Meter, A: Allocator>(
     mark.run
 }
 
-// The lower of a report and the one before, if there is one.
-fn lower(before: Option<Report>, report: Report) -> Report
-    ensures { result ≡ lower_of before report }
+// Keeps the lower of a report and the one before, if there is one.
+fn lower(changed: &mut Option<Report>, report: &Report)
+    ensures { changed.new ≡ Some (lower_of changed.old report.now) }
 {
-    match before {
-        Some(other) if other < report => other,
-        _ => report,
+    if let Some(other) = changed {
+        if *other < *report {
+            return;
+        }
     }
+    *changed = Some(*report);
 }

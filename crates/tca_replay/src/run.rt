@@ -1,13 +1,16 @@
 //! Metering row by row.
-ghost use Rattle.std.specs.Prelude.{◌≡◌, ℕ, ◌+◌, ◌*◌, ◌<◌, ◌≤◌, [], length, take, vec_len, vec_capacity, IfSome};
+ghost use Rattle.std.specs.Prelude.{◌≡◌, ℕ, ◌+◌, ◌*◌, ◌<◌, ◌≤◌, [], length, take, vec_len, vec_capacity, IfSome, Some};
 ghost use Rattle.tca_accounts.specs.Metering.{closed_by, sums_in, CanAdd, HasRoom};
+ghost use Rattle.tca_accounts.specs.Sums.{with_packet};
+ghost use Rattle.tca_meters.specs.declared.colour.Colour.{Colour};
+ghost use Rattle.tca_report.specs.report.Reports.{most_octets};
 ghost use Rattle.tca_replay.specs.declared.run.Terms.{Terms};
 ghost use Rattle.tca_replay.specs.Course.{one, course, start};
 ghost use Rattle.tca_replay.specs.Marks.{AreMarks};
 ghost use Rattle.tca_replay.specs.Runs.{course_at, metering};
 
 use std::alloc::Allocator;
-use tca_accounts::{Metered, Span, Sums, meter_report, no_reports};
+use tca_accounts::{Metered, Period, Span, Sums, meter_next, no_reports};
 use tca_log::rows::Rows;
 use tca_meters::{Colour, Meter};
 use tca_report::Report;
@@ -47,45 +50,50 @@ pub(crate) fn begin<M: Meter>(meter: &M) -> Run<M::State>
 fn step<M: Meter, A: Allocator>(
     meter: &M,
     terms: Terms,
-    run: Run<M::State>,
+    run: &mut Run<M::State>,
     report: &Report,
+    period: &mut Period,
     closed: &mut Vec<Span, A>,
-) -> Run<M::State>
-    requires order { run.metered.time ≤ report.now.time }
-    requires period { 0 < terms.period }
+)
+    requires order { run.old.metered.time ≤ report.now.time }
+    requires period { period.old ≡ terms.period }
     requires room { vec_len closed.old < vec_capacity closed.old }
-    requires few { CanAdd run.metered.total run.current }
-    ensures course { course_at result closed.new.items ≡ one (metering (M.rule meter.now) terms) (course_at run closed.old.items) report.now }
+    requires few { CanAdd run.old.metered.total run.old.current }
+    ensures course { course_at run.new closed.new.items ≡ one (metering (M.rule meter.now) terms) (course_at run.old closed.old.items) report.now }
     ensures capacity { vec_capacity closed.old ≤ vec_capacity closed.new }
+    ensures period { period.new ≡ terms.period }
 {
-    let (colour, metered) = meter_report(meter, terms.other, run.metered, report);
+    let colour = meter_next(meter, terms.other, &mut run.metered, report);
     let content = report.content();
-    let index = content.time / terms.period;
-    let mut sums = go_on(run.current, index, closed);
-    sums.count(colour, content.octets);
-    Run {
-        metered,
-        current: Some(Span { index, sums }),
-    }
+    let index = period.index_of(content.time);
+    count_in(&mut run.current, closed, index, colour, content.octets);
 }
 
-// The sums of a span so far. Where another one went on, it has ended.
-fn go_on<A: Allocator>(current: Option<Span>, index: u64, closed: &mut Vec<Span, A>) -> Sums
-    requires few { IfSome current (λ s. HasRoom s.sums) }
+// Counts a packet in the span of a period. Where that of another one went on, it has ended.
+fn count_in<A: Allocator>(
+    current: &mut Option<Span>,
+    closed: &mut Vec<Span, A>,
+    index: u64,
+    colour: Colour,
+    octets: u32,
+)
+    requires few { IfSome current.old (λ s. HasRoom s.sums) }
+    requires size { octets ≤ most_octets }
     requires room { vec_len closed.old < vec_capacity closed.old }
-    ensures sums { result ≡ sums_in current index }
-    ensures closed { closed.new.items ≡ closed_by current index closed.old.items }
+    ensures current { current.new ≡ Some (record { index = index; sums = with_packet colour octets (sums_in current.old index) }) }
+    ensures closed { closed.new.items ≡ closed_by current.old index closed.old.items }
     ensures capacity { vec_capacity closed.old ≤ vec_capacity closed.new }
-    ensures few { HasRoom result }
 {
-    match current {
-        Some(span) if span.index == index => span.sums,
-        Some(span) => {
-            let _ = closed.push(span);
-            Sums::new()
+    if let Some(span) = current {
+        if span.index == index {
+            span.sums.count(colour, octets);
+            return;
         }
-        None => Sums::new(),
+        let _ = closed.push(*span);
     }
+    let mut sums = Sums::new();
+    sums.count(colour, octets);
+    *current = Some(Span { index, sums });
 }
 
 /// Meters the rows from one on, and sets the marks that are due.
@@ -115,10 +123,11 @@ pub(crate) fn replay<M: Meter, A: Allocator + Copy>(
 {
     let _all = rows.len();
     let mut run = run;
+    let mut period = Period::new(terms.period);
     let mut count = from;
     let mut due = from + every;
     for report in rows.iter_from(from) {
-        run = step(meter, terms, run, report, closed);
+        step(meter, terms, &mut run, report, &mut period, closed);
         count += 1;
         if count == due {
             let _ = marks.push(Mark {

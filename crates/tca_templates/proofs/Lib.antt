@@ -2,11 +2,14 @@ pub mod Choices
 pub mod Specs
 pub mod Fields
 pub mod Records
+pub mod LayoutSteps
+pub mod LayoutLaws
+pub mod Wanting
+pub mod TakingSteps
 pub mod Stored
 pub mod Changes
 pub mod Sets
 pub mod Copies
-pub mod Placing
 pub mod PartLaws
 pub mod TemplateSetLaws
 pub mod DataSetLaws

@@ -1,25 +1,12 @@
 -- What the code holds of templates and records, as the definitions see it. Cited by the code and its proofs.
-use Rattle.std.specs.Prelude.{Bool, ℕ, ◌+◌, ◌==◌, ◌||◌, nat_le, List, [], ◌∷◌, map, take, drop, Option, Some, None, Result, Ok, Err, ⊤}
+use Rattle.std.specs.Prelude.{Bool, ◌==◌, ◌||◌, nat_le, List, map, Result, Ok, Err, ⊤}
 use Rattle.tca_wire.specs.Walks.{Front, Ends, Bad, Next}
 use Rattle.tca_templates.specs.declared.template.Template.{Template}
 use Rattle.tca_templates.specs.declared.specifiers.Change.{Change}
 use Rattle.tca_templates.specs.declared.specifiers.Change.TheVariants as changes
-use Rattle.tca_templates.specs.declared.record.Row.{Row}
 use Rattle.tca_templates.specs.Templates.{Key, TemplateView, Templates}
 use Rattle.tca_templates.specs.Specifiers.{ChangeView, AllGone, Gone, New, specs_in}
 use Rattle.tca_wire.specs.declared.message.SetSpan.{SetSpan}
-use Rattle.tca_templates.specs.Reading.{ReadMessage}
-use Rattle.tca_templates.specs.declared.fault.DecodeFault.{DecodeFault}
-use Rattle.tca_templates.specs.declared.record.Field.{Field}
-use Rattle.tca_templates.specs.Records.{FieldView, PlacedView}
-
-abbrev pub field_view : Field → FieldView
-field_view f = record { element = f.element; enterprise = f.enterprise; value = f.value.now }
-
--- where the record is cut off, this fault
-abbrev pub fields_given : {X : Type 0} → DecodeFault → Option X → Result X DecodeFault
-fields_given cut (Some x) = Ok x
-fields_given cut None = Err cut
 
 -- a template, without where it lies in memory
 abbrev pub template_of : Template → TemplateView
@@ -43,26 +30,6 @@ abbrev pub IsSound : {S F : Type 0} → Front S F → Type 0
 IsSound Ends = ⊥
 IsSound (Bad f) = ⊥
 IsSound (Next t n) = ⊤
-
--- the records whose fields stand one after the other
-abbrev pub records_of : ℕ → List FieldView → List Row → List PlacedView
-records_of domain fields [] = []
-records_of domain fields (r ∷ rs) =
-    record { domain = domain; place = r.place; options = r.options; fields = take r.count fields } ∷ records_of domain (drop r.count fields) rs
-
--- how many fields the records have
-abbrev pub counted : List Row → ℕ
-counted [] = 0
-counted (r ∷ rs) = r.count + counted rs
-
--- what has come of a message, as the code keeps it
-abbrev pub read_message_of : ℕ → List (Key × Template) → List Row → List Field → Option ℕ → ℕ → ReadMessage
-read_message_of domain entries rows fields unplaced skipped = record {
-  templates = templates_of entries;
-  records = records_of domain (map field_view fields) rows;
-  unplaced = unplaced;
-  skipped = skipped;
-}
 
 abbrev pub is_template_set : SetSpan → Bool
 is_template_set s = (s.id == 2) || (s.id == 3)

@@ -1,6 +1,11 @@
 pub mod Templates
 pub mod Specifiers
 pub mod Records
+pub mod Chosen
+pub mod Layouts
+pub mod Taking
+pub mod Handing
+pub mod Wants
 pub mod Reading
 pub mod Fields
 pub mod Outcomes

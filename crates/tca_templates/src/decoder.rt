@@ -1,19 +1,22 @@
 //! A session, which reads messages.
-ghost use Rattle.std.specs.Prelude.{◌≡◌, ◌≢◌, ◌<◌, ◌≤◌, ◌^◌, length, OnOk, OnErr, IfOk, IfErr, Ok, Err, map, true};
+ghost use Rattle.std.specs.Prelude.{◌≡◌, ◌≢◌, false, ◌<◌, ◌≤◌, ◌^◌, length, OnOk, OnErr, IfOk, IfErr, Ok, Err, map, true};
 ghost use Rattle.std.specs.List.{list_any};
 ghost use Rattle.tca_wire.specs.Results.{Gives};
 ghost use Rattle.tca_templates.specs.Templates.{listed};
 ghost use Rattle.tca_templates.specs.Reading.{read_of, ReadMessage};
 ghost use Rattle.tca_templates.specs.Sessions.{IsReading};
 ghost use Rattle.tca_templates.specs.FirstFaults.{IsFirstFault};
-ghost use Rattle.tca_templates.specs.Fields.{records_of, counted, field_view, is_read};
+ghost use Rattle.tca_templates.specs.Fields.{is_template_set, is_read};
+ghost use Rattle.tca_templates.specs.Taking.{GivesAs};
+ghost use Rattle.tca_templates.specs.Wants.{WantsMemory};
+ghost use Rattle.tca_templates.specs.Handing.{IsHanded};
 ghost use Rattle.tca_templates.specs.Outcomes.{outcome_view};
 
 use crate::fault::DecodeFault;
 use crate::iter::TemplatesIter;
 use crate::outcome::{Outcome, read_message};
 use crate::reading::read_sets;
-use crate::record::{Field, Row};
+use crate::record::TakesRecords;
 use crate::store::Store;
 use indexmap::IndexMap;
 use std::alloc::Global;
@@ -24,6 +27,17 @@ use tca_wire::Message;
 #[derive(Drop)]
 pub struct Decoder {
     templates: Store,
+}
+
+/// What a message gave beside its records.
+#[derive(Drop)]
+pub struct Handed {
+    /// The session, which knows the message's templates.
+    pub decoder: Decoder,
+    /// The ID of the first data set whose template isn't known.
+    pub unplaced: Option<u16>,
+    /// How many sets have an ID that is neither of templates nor of data.
+    pub skipped: u32,
 }
 
 impl Model for Decoder {
@@ -57,50 +71,52 @@ impl Decoder {
         TemplatesIter::new(&self.templates)
     }
 
-    /// Reads the data records of a message into two lists, which are emptied first: for each record a row, and
-    /// one after the other the fields of all rows, whose values stay in the message. The answer is the ID of the
-    /// first data set of an unknown template, and how many sets were skipped; neither rows nor skipped sets are
-    /// more than the message's octets. Nothing else is allocated than the growth of these lists and new templates.
+    /// Hands the data records of a message to `taker`, one after the other, in the message's octets. It takes no memory
+    /// but for new templates and what the taker takes.
     ///
-    /// An `Err` is the first fault from the left, or `Memory` where a growth was refused. It says nothing of the
-    /// lists and of the templates, which may be those of the refused message: let the decoder go.
+    /// An `Err` is the first fault from the left, or `Memory` where a growth was refused. The decoder is then gone, since
+    /// it may have learnt templates of the refused message.
     ///
     /// In a template record (RFC 7011, sections 3.4 and 8.1) the order is: an ID below 256 that isn't a withdrawal of
     /// all `TemplateId`; more than 512 fields `TooMany`; fewer than 6 octets of an options template `TemplateCut`;
     /// no scope field, or more of them than fields, `Scope`; specifiers past the set's end `TemplateCut`; records
     /// without an octet `EmptyTemplate`; a new ID beside 4,096 templates `TooMany`. In a data set (section 3.4.3) a
     /// record past the set's end is `RecordCut`.
-    pub fn read_in_place<'a>(
-        &mut self,
+    pub fn hand_records<T: TakesRecords>(
+        self,
         alloc: Global,
-        message: &Message<'a>,
-        rows: &mut Vec<Row>,
-        fields: &mut Vec<Field<'a>>,
-    ) -> Result<(Option<u16>, u32), DecodeFault>
-        // What is read is what the message is in this session.
-        ensures found { IfOk result (λ x. IsReading self.old message.now.header message.now.octets.now message.now.sets.items
-            (record { templates = self.new; records = records_of message.now.header.domain (map field_view fields.new.items) rows.new.items; unplaced = x.0; skipped = x.1 })) }
-        // A fault is the first from the left.
-        ensures first { IfErr result (λ f. f ≢ DecodeFault.Memory
-            → IsFirstFault self.old message.now.header message.now.octets.now message.now.sets.items f) }
+        message: &Message<'_>,
+        taker: &mut T,
+    ) -> Result<Handed, DecodeFault>
+        // What the taker holds is what the message is in this session.
+        ensures found { (start : T) → T.took start [] taker.old → IfOk result (λ x. (given : ReadMessage)
+            × IsReading self message.now.header message.now.octets.now message.now.sets.items given
+            × IsHanded T.took start taker.new message.now.header.length x given) }
         // The records of the grammar, the templates after them, or the first fault.
-        ensures exact { Gives DecodeFault.Memory
-            (λ x. record { templates = self.new; records = records_of message.now.header.domain (map field_view fields.new.items) rows.new.items; unplaced = x.0; skipped = x.1 }) result
-            (read_of self.old message.now.header message.now.octets.now message.now.sets.items) }
-        // Each field is that of a row.
-        ensures counted { OnOk result (counted rows.new.items ≡ length fields.new.items) }
-        ensures few { OnOk result (length rows.new.items ≤ message.now.header.length) }
-        ensures skipped { IfOk result (λ x. x.1 ≤ message.now.header.length) }
-        // Memory is wanted only where a set isn't skipped.
+        ensures exact { (start : T) → T.took start [] taker.old
+            → GivesAs DecodeFault.Memory (λ x after. IsHanded T.took start taker.new message.now.header.length x after) result
+            (read_of self message.now.header message.now.octets.now message.now.sets.items) }
+        // A fault is the first from the left.
+        ensures first { (start : T) → T.took start [] taker.old → IfErr result (λ f. f ≢ DecodeFault.Memory
+            → IsFirstFault self message.now.header message.now.octets.now message.now.sets.items f) }
+        ensures skipped { IfOk result (λ x. x.skipped ≤ message.now.header.length) }
+        // Memory is wanted only where all before is right, and the record that it is wanted for.
+        ensures wanted { result ≡ Err DecodeFault.Memory → (start : T) → T.took start [] taker.old
+            → WantsMemory self message.now.header message.now.octets.now message.now.sets.items }
+        // It is wanted only where a set isn't skipped.
         ensures memory { result ≡ Err DecodeFault.Memory → list_any is_read message.now.sets.items ≡ true }
     {
-        rows.clear();
-        fields.clear();
-        read_sets(alloc, &mut self.templates, message, rows, fields)
+        let mut templates = self.templates;
+        let aside = read_sets(alloc, &mut templates, message, taker)?;
+        Ok(Handed {
+            decoder: Decoder { templates },
+            unplaced: aside.unplaced,
+            skipped: aside.skipped,
+        })
     }
 
-    /// Reads the data records of a message: what `read_in_place` gives, in values of its own. An `Err` is the first
-    /// fault from the left, or `Memory` where a growth was refused, and leaves the templates as they were.
+    /// Reads the data records of a message, as values of their own. An `Err` is the first fault from the left, or
+    /// `Memory` where a growth was refused, and leaves the templates as they were.
     ///
     /// In a template record (RFC 7011, sections 3.4 and 8.1) the order is: an ID below 256 that isn't a withdrawal of
     /// all `TemplateId`; more than 512 fields `TooMany`; fewer than 6 octets of an options template `TemplateCut`;
@@ -120,7 +136,11 @@ impl Decoder {
         ensures exact { Gives DecodeFault.Memory (λ o. outcome_view self.new o) result
             (read_of self.old message.now.header message.now.octets.now message.now.sets.items) }
         ensures err { OnErr result (self.new ≡ self.old) }
-        // Memory is wanted only where a set isn't skipped.
+        // Where no templates have to be copied first memory is wanted only where all before is right, and the record that it
+        // is wanted for.
+        ensures wanted { result ≡ Err DecodeFault.Memory → list_any is_template_set message.now.sets.items ≡ false
+            → WantsMemory self.old message.now.header message.now.octets.now message.now.sets.items }
+        // It is wanted only where a set isn't skipped.
         ensures memory { result ≡ Err DecodeFault.Memory → list_any is_read message.now.sets.items ≡ true }
     {
         read_message(alloc, &mut self.templates, message)

@@ -28,6 +28,8 @@ fn copied_template(alloc: Global, template: &Template) -> Result<Template, Alloc
         options: template.options,
         specs,
         shortest: template.shortest,
+        choice: template.choice,
+        fixed: template.fixed,
     })
 }
 

@@ -1,8 +1,10 @@
 //! The templates of a transport session, and the data records that they describe (RFC 7011).
 //!
-//! A message is refused as a whole or read as a whole. Reading a record takes no memory of its own: its fields
-//! stay in the octets of the message, in two lists that serve for one message after another. Only `read` copies
-//! them; and where a message has template sets it first copies the templates, so that a refusal changes nothing.
+//! A message is refused as a whole or read as a whole. Its records are handed on one after the other in the octets of
+//! the message, without memory of their own. Which fields of a template's records tell about a packet, and where they
+//! stand, is worked out when the template is defined; a record with a field of variable length is gone over once.
+//! Only `read` copies fields; and where a message has template sets it first copies the templates, so that a refusal
+//! changes nothing.
 //! Templates are found by a hash of their domain and ID. All that a stranger's messages can make a decoder keep
 //! is 4,096 templates of 512 fields each. Memory is the last that a record can want: one that is refused for itself
 //! is refused so whether or not there is memory for it.
@@ -10,6 +12,7 @@
 //! - `decoder`: a session; `reading`: the sets of one message;
 //! - `template`, `specifiers`, `store`: what a template says, the records that define and withdraw templates, and
 //!   the templates that are known; `draft`: a copy of them; `iter`: all of them in order;
+//! - `layout`: which fields of a template are chosen, and where they stand in a record;
 //! - `record`, `outcome`: the records of data sets, in the message's octets and as values of their own;
 //! - `fault`: what can be wrong.
 #![tactic(auto)]
@@ -18,6 +21,7 @@ mod decoder;
 mod draft;
 mod fault;
 mod iter;
+mod layout;
 mod outcome;
 mod reading;
 mod record;
@@ -25,12 +29,12 @@ mod specifiers;
 mod store;
 mod template;
 
-pub use decoder::Decoder;
+pub use decoder::{Decoder, Handed};
 pub use fault::DecodeFault;
 pub use iter::TemplatesIter;
 pub use outcome::{FieldValue, Outcome, PlacedFields};
 pub use reading::{reading_words, session_words};
-pub use record::{Field, Row};
+pub use record::{Record, TakesRecords};
 
 #[cfg(test)]
 mod tests;

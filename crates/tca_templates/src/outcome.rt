@@ -3,13 +3,14 @@ ghost use Rattle.std.specs.Prelude.{◌≡◌, [], length, map, true, false, OnO
 ghost use Rattle.std.specs.List.{list_any};
 ghost use Rattle.tca_wire.specs.Results.{Gives};
 ghost use Rattle.tca_templates.specs.Reading.{read_of};
-ghost use Rattle.tca_templates.specs.Fields.{templates_of, records_of, counted, field_view, is_template_set, is_read};
-ghost use Rattle.tca_templates.specs.Outcomes.{value_view, placed_view, outcome_view};
+ghost use Rattle.tca_templates.specs.Fields.{templates_of, is_template_set, is_read};
+ghost use Rattle.tca_templates.specs.Outcomes.{outcome_view};
+ghost use Rattle.tca_templates.specs.Wants.{WantsMemory};
 
 use crate::draft::copied;
 use crate::fault::DecodeFault;
 use crate::reading::read_sets;
-use crate::record::{Field, Row};
+use crate::record::{Record, TakesRecords};
 use crate::store::Store;
 use std::alloc::{AllocError, Global};
 use tca_wire::{Message, SetSpan};
@@ -49,57 +50,29 @@ pub struct Outcome {
     pub skipped: u32,
 }
 
-// The same octets.
-fn copied_octets(alloc: Global, octets: &[u8]) -> Result<Vec<u8>, AllocError>
-    ensures { IfOk result (λ v. v.items ≡ octets.now) }
-{
-    let mut copy = Vec::with_capacity(alloc, octets.len())?;
-    copy.extend_from_slice(octets)?;
-    Ok(copy)
-}
-
-// The same fields, with values of their own.
-fn values(alloc: Global, fields: &[Field<'_>]) -> Result<Vec<FieldValue>, AllocError>
-    ensures { IfOk result (λ v. map value_view v.items ≡ map field_view fields.now) }
-{
-    let mut copy = Vec::with_capacity(alloc, fields.len())?;
-    for field in fields {
-        let value = copied_octets(alloc, field.value)?;
-        copy.push(FieldValue {
-            element: field.element,
-            enterprise: field.enterprise,
-            value,
-        })?;
-    }
-    Ok(copy)
-}
-
-// The records, each with its fields.
-fn copied_records(
+// The records of a message so far, with values of their own.
+#[derive(Drop)]
+struct Collector {
     alloc: Global,
-    domain: u32,
-    rows: &[Row],
-    fields: &[Field<'_>],
-) -> Result<Vec<PlacedFields>, AllocError>
-    requires { counted rows.now ≡ length fields.now }
-    ensures placed { IfOk result (λ v. map placed_view v.items ≡ records_of domain (map field_view fields.now) rows.now) }
-    ensures none { rows.now ≡ [] → IsOk result }
-{
-    let mut placed = Vec::with_capacity(alloc, rows.len())?;
-    let mut start = 0;
-    for row in rows {
-        let (_, rest) = fields.split_at(start);
-        let (own, _) = rest.split_at(row.count);
-        let own = values(alloc, own)?;
-        placed.push(PlacedFields {
-            domain,
-            place: row.place,
-            options: row.options,
-            fields: own,
+    placed: Vec<PlacedFields>,
+}
+
+impl TakesRecords for Collector {
+    ghost use Rattle.std.specs.Prelude.{◌≡◌, ◌++◌, map};
+    ghost use Rattle.tca_templates.specs.Outcomes.{placed_view};
+
+    ghost took = { λ start records now. map placed_view now.placed.items ≡ map placed_view start.placed.items ++ records };
+
+    fn take(&mut self, next: &Record<'_>) -> Result<(), AllocError> {
+        let fields = next.fields(self.alloc)?;
+        self.placed.push(PlacedFields {
+            domain: next.domain(),
+            place: next.place(),
+            options: next.is_options(),
+            fields,
         })?;
-        start += row.count;
+        Ok(())
     }
-    Ok(placed)
 }
 
 // Whether a set defines or withdraws templates.
@@ -119,16 +92,19 @@ fn read_values(
         (read_of (templates_of templates.old.entries) message.now.header message.now.octets.now message.now.sets.items) }
     ensures kept { list_any is_template_set message.now.sets.items ≡ false
         → templates_of templates.new.entries ≡ templates_of templates.old.entries }
+    ensures wanted { result ≡ Err DecodeFault.Memory
+        → WantsMemory (templates_of templates.old.entries) message.now.header message.now.octets.now message.now.sets.items }
     ensures memory { result ≡ Err DecodeFault.Memory → list_any is_read message.now.sets.items ≡ true }
 {
-    let mut rows = Vec::new(alloc);
-    let mut fields = Vec::new(alloc);
-    let (unplaced, skipped) = read_sets(alloc, templates, message, &mut rows, &mut fields)?;
-    let fields = copied_records(alloc, message.header.domain, &rows, &fields)?;
+    let mut collector = Collector {
+        alloc,
+        placed: Vec::new(alloc),
+    };
+    let aside = read_sets(alloc, templates, message, &mut collector)?;
     Ok(Outcome {
-        fields,
-        unplaced,
-        skipped,
+        fields: collector.placed,
+        unplaced: aside.unplaced,
+        skipped: aside.skipped,
     })
 }
 
@@ -142,6 +118,8 @@ pub(crate) fn read_message(
     ensures exact { Gives DecodeFault.Memory (λ o. outcome_view (templates_of templates.new.entries) o) result
         (read_of (templates_of templates.old.entries) message.now.header message.now.octets.now message.now.sets.items) }
     ensures err { OnErr result (templates_of templates.new.entries ≡ templates_of templates.old.entries) }
+    ensures wanted { result ≡ Err DecodeFault.Memory → list_any is_template_set message.now.sets.items ≡ false
+        → WantsMemory (templates_of templates.old.entries) message.now.header message.now.octets.now message.now.sets.items }
     ensures memory { result ≡ Err DecodeFault.Memory → list_any is_read message.now.sets.items ≡ true }
 {
     if has_template_set(&message.sets) {

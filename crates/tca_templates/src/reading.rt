@@ -3,7 +3,6 @@ ghost use Rattle.std.specs.Prelude.{◌≡◌, ◌<◌, ◌≤◌, ◌+◌, ◌+
 ghost use Rattle.std.specs.Option.{is_none};
 ghost use Rattle.std.specs.Map.{keys_of};
 ghost use Rattle.std.specs.List.{list_any};
-ghost use Rattle.tca_wire.specs.Results.{Gives};
 ghost use Rattle.tca_templates.specs.Reading.{ReadMessage, body_of, set_of, read_of};
 ghost use Rattle.tca_templates.specs.Sessions.{HaveOctets, IsSession, of_others, ArePlaced, IsReading};
 ghost use Rattle.tca_templates.specs.FirstFaults.{IsFirstFault};
@@ -11,21 +10,25 @@ ghost use Rattle.tca_templates.specs.declared.fault.DecodeFault.{DecodeFault};
 ghost use Rattle.tca_templates.specs.Templates.{Key, Templates, TemplateView, same_key, define, withdraw, withdraw_all, known};
 ghost use Rattle.tca_wire.specs.declared.message.Header.{Header};
 ghost use Rattle.tca_wire.specs.declared.message.SetSpan.{SetSpan};
-ghost use Rattle.tca_templates.specs.Fields.{read_message_of, counted, templates_of, is_template_set, is_read};
+ghost use Rattle.tca_templates.specs.Fields.{templates_of, is_template_set, is_read};
+ghost use Rattle.tca_templates.specs.Taking.{GivesAs, HasCome};
+ghost use Rattle.tca_templates.specs.Wants.{IsWantedInSet, WantsMemory};
 
 use crate::fault::DecodeFault;
-use crate::record::{Field, Row, read_records};
+use crate::record::{TakesRecords, read_records};
 use crate::store::{Store, find, read_templates};
 use std::alloc::Global;
 use tca_wire::{Message, SetSpan};
 
 // What has come of a message beside its records.
 #[derive(Clone, Copy)]
-struct Aside {
+pub(crate) struct Aside {
     /// The first set of an unknown template.
-    unplaced: Option<u16>,
+    pub unplaced: Option<u16>,
     /// How many sets were skipped.
-    skipped: u32,
+    pub skipped: u32,
+    /// How many records there were.
+    pub count: u32,
 }
 
 // The octets of a set, behind its header.
@@ -40,30 +43,27 @@ fn set_body<'a>(octets: &'a [u8], set: SetSpan) -> &'a [u8]
 }
 
 // Goes over one set.
-fn read_set<'a>(
+fn read_set<T: TakesRecords>(
     alloc: Global,
     templates: &mut Store,
-    message: &Message<'a>,
+    message: &Message<'_>,
     set: SetSpan,
     aside: Aside,
-    rows: &mut Vec<Row>,
-    fields: &mut Vec<Field<'a>>,
+    taker: &mut T,
 ) -> Result<Aside, DecodeFault>
     requires least { 4 ≤ set.length }
     requires within { set.at + set.length ≤ length message.now.octets.now }
     requires short { length message.now.octets.now < 2 ^ 16 }
-    requires few { length rows.old.items ≤ set.at }
-    requires counted { counted rows.old.items ≡ length fields.old.items }
+    requires few { aside.count ≤ set.at }
     requires skipped { aside.skipped + 1 < 2 ^ 32 }
-    ensures exact { Gives DecodeFault.Memory
-        (λ x. read_message_of message.now.header.domain templates.new.entries rows.new.items fields.new.items x.unplaced x.skipped) result
-        (set_of message.now.header message.now.octets.now
-        (read_message_of message.now.header.domain templates.old.entries rows.old.items fields.old.items aside.unplaced aside.skipped) set) }
-    ensures few { OnOk result (length rows.new.items ≤ set.at + set.length) }
-    ensures counted { OnOk result (counted rows.new.items ≡ length fields.new.items) }
+    ensures exact { (start : T) (given : ReadMessage) → HasCome T.took start taker.old templates.old.entries aside given
+        → GivesAs DecodeFault.Memory (λ x after. HasCome T.took start taker.new templates.new.entries x after) result
+        (set_of message.now.header message.now.octets.now given set) }
+    ensures wanted { result ≡ Err DecodeFault.Memory → (start : T) (given : ReadMessage) → HasCome T.took start taker.old templates.old.entries aside given
+        → IsWantedInSet message.now.header message.now.octets.now given set }
+    ensures few { IfOk result (λ x. x.count ≤ set.at + set.length) }
     ensures skipped { IfOk result (λ x. x.skipped ≤ aside.skipped + 1) }
     ensures kept { is_template_set set ≡ false → templates_of templates.new.entries ≡ templates_of templates.old.entries }
-    ensures skips { is_read set ≡ false → rows.new.items ≡ rows.old.items }
     ensures memory { result ≡ Err DecodeFault.Memory → is_read set ≡ true }
 {
     let header = message.header;
@@ -81,6 +81,7 @@ fn read_set<'a>(
         return Ok(Aside {
             unplaced: aside.unplaced,
             skipped: aside.skipped + 1,
+            count: aside.count,
         });
     }
     if aside.unplaced.is_some() {
@@ -90,42 +91,45 @@ fn read_set<'a>(
         return Ok(Aside {
             unplaced: Some(set.id),
             skipped: aside.skipped,
+            count: aside.count,
         });
     };
-    read_records(header, template, at, body, rows, fields)?;
-    Ok(aside)
+    let count = read_records(header, template, aside.count, at, body, taker)?;
+    Ok(Aside {
+        unplaced: aside.unplaced,
+        skipped: aside.skipped,
+        count,
+    })
 }
 
-// Goes over the sets of a message, adds its records, and answers the first set of an unknown template and how
-// many sets were skipped. An `Err` leaves the templates half changed where a template set is there.
-pub(crate) fn read_sets<'a>(
+// Goes over the sets of a message and hands on its records. An `Err` leaves the templates half changed where a
+// template set is there.
+pub(crate) fn read_sets<T: TakesRecords>(
     alloc: Global,
     templates: &mut Store,
-    message: &Message<'a>,
-    rows: &mut Vec<Row>,
-    fields: &mut Vec<Field<'a>>,
-) -> Result<(Option<u16>, u32), DecodeFault>
-    requires rows { rows.old.items ≡ [] }
-    requires fields { fields.old.items ≡ [] }
-    ensures exact { Gives DecodeFault.Memory
-        (λ x. read_message_of message.now.header.domain templates.new.entries rows.new.items fields.new.items x.0 x.1) result
+    message: &Message<'_>,
+    taker: &mut T,
+) -> Result<Aside, DecodeFault>
+    ensures exact { (start : T) → T.took start [] taker.old
+        → GivesAs DecodeFault.Memory (λ x after. HasCome T.took start taker.new templates.new.entries x after) result
         (read_of (templates_of templates.old.entries) message.now.header message.now.octets.now message.now.sets.items) }
-    ensures counted { OnOk result (counted rows.new.items ≡ length fields.new.items) }
-    ensures few { OnOk result (length rows.new.items ≤ message.now.header.length) }
-    ensures skipped { IfOk result (λ x. x.1 ≤ message.now.header.length) }
+    ensures wanted { result ≡ Err DecodeFault.Memory → (start : T) → T.took start [] taker.old
+        → WantsMemory (templates_of templates.old.entries) message.now.header message.now.octets.now message.now.sets.items }
+    ensures few { IfOk result (λ x. x.count ≤ message.now.header.length) }
+    ensures skipped { IfOk result (λ x. x.skipped ≤ message.now.header.length) }
     ensures kept { list_any is_template_set message.now.sets.items ≡ false
         → templates_of templates.new.entries ≡ templates_of templates.old.entries }
-    ensures skips { OnOk result (list_any is_read message.now.sets.items ≡ false → rows.new.items ≡ []) }
     ensures memory { result ≡ Err DecodeFault.Memory → list_any is_read message.now.sets.items ≡ true }
 {
     let mut aside = Aside {
         unplaced: None,
         skipped: 0,
+        count: 0,
     };
     for set in &message.sets {
-        aside = read_set(alloc, templates, message, *set, aside, rows, fields)?;
+        aside = read_set(alloc, templates, message, *set, aside, taker)?;
     }
-    Ok((aside.unplaced, aside.skipped))
+    Ok(aside)
 }
 
 /// The law of readings: what is read set by set from the left is what the message is in its session by RFC 7011, and

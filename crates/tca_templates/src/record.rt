@@ -1,42 +1,60 @@
 //! The records of a data set.
-ghost use Rattle.std.specs.Prelude.{◌≡◌, ◌≢◌, ◌<◌, ◌≤◌, ◌+◌, ◌++◌, ◌^◌, [], length, drop, map, OnOk, OnErr, IfOk, IfErr, IfSome, None, Err};
-ghost use Rattle.std.specs.Option.{is_some};
-ghost use Rattle.tca_wire.specs.Results.{Gives};
-ghost use Rattle.tca_wire.specs.Walks.{Next, Bad, walk};
-ghost use Rattle.tca_templates.specs.Records.{field_at, fields_on, data_front};
+ghost use Rattle.std.specs.Prelude.{◌≡◌, ◌<◌, ◌≤◌, ◌+◌, ◌++◌, ◌∷◌, ◌^◌, List, ℕ, [], length, map, true, OnOk, OnErr, IfOk, IfSome, Ok, Err};
+ghost use Rattle.std.specs.Option.{is_some, option_map};
+ghost use Rattle.tca_wire.specs.Walks.{walk};
 ghost use Rattle.tca_templates.specs.Templates.{shortest_of};
-ghost use Rattle.tca_templates.specs.Fields.{field_view, fields_given, template_of, records_of, counted, IsSound};
+ghost use Rattle.tca_templates.specs.Records.{FieldView, PlacedView, field_at, fields_on, data_front};
+ghost use Rattle.tca_templates.specs.Chosen.{times, sizes, code_points, interfaces, sections, choice};
+ghost use Rattle.tca_templates.specs.Layouts.{IsLaidOut, fields_in, value_in};
+ghost use Rattle.tca_templates.specs.Fields.{template_of};
+ghost use Rattle.tca_templates.specs.Outcomes.{value_view};
+ghost use Rattle.tca_templates.specs.Taking.{GivesAs, Took};
+ghost use Rattle.tca_templates.specs.Wants.{IsWanted};
 
 use crate::fault::DecodeFault;
+use crate::layout::{Spot, Spots, locate};
+use crate::outcome::FieldValue;
 use crate::template::{FieldSpec, Template, VARIABLE};
 use byteorder::{BigEndian, ByteOrder};
+use std::alloc::{AllocError, Global};
+use std::marker::Model;
 use tca_wire::Header;
 
-/// A field of a data record, in the octets of its message (RFC 7011, section 3.4.3).
-#[derive(Clone, Copy, Debug)]
-pub struct Field<'a> {
-    /// The information element, without the enterprise bit.
-    pub element: u16,
-    /// Whose element it is, where it isn't IANA's.
-    pub enterprise: Option<u32>,
-    /// The octets of the field, without those of its length.
-    pub value: &'a [u8],
+/// A data record that is there whole, in the octets of its message (RFC 7011, section 3.4.3).
+#[derive(Drop)]
+pub struct Record<'r> {
+    domain: u32,
+    place: u32,
+    template: &'r Template,
+    spots: &'r Spots,
+    /// The record's octets, and what stands behind it.
+    octets: &'r [u8],
 }
 
-/// A data record. Its fields stand behind those of the rows before it.
-#[derive(Clone, Copy, Debug)]
-pub struct Row {
-    /// The message's sequence number and the records of the message before this one, modulo 2^32.
-    pub place: u32,
-    /// Whether it is a record of an options template.
-    pub options: bool,
-    /// How many fields it has.
-    pub count: usize,
+impl<'r> Model for Record<'r> {
+    ghost use Rattle.tca_templates.specs.Records.{PlacedView};
+    ghost use Rattle.tca_templates.specs.Layouts.{IsFound, fields_in};
+
+    ghost Value = { PlacedView };
+
+    ghost view = { λ r. record { domain = r.domain; place = r.place; options = r.template.now.options; fields = fields_in r.template.now.specs.items r.octets.now } };
+
+    ghost invariant = { λ r. IsFound r.template.now.specs.items r.spots.now r.octets.now };
+}
+
+/// What takes the data records of a message, one after the other.
+pub trait TakesRecords {
+    /// With these records the first of two values has become the second.
+    ghost took: { Self → List PlacedView → Self → Type 0 };
+
+    /// Takes the next record. An `Err` is want of memory.
+    fn take(&mut self, next: &Record<'_>) -> Result<(), AllocError>
+        ensures { (start : Self) (records : List PlacedView) → took start records self.old → OnOk result (took start (records ++ next.now ∷ []) self.new) };
 }
 
 // How many octets stand before the value of a field of this length, and how many it has: none and the length,
 // or where it is variable what stands at the front (RFC 7011, section 7). `None` where there aren't so many.
-fn measure(size: u16, octets: &[u8]) -> Option<(usize, usize)>
+pub(crate) fn measure(size: u16, octets: &[u8]) -> Option<(usize, usize)>
     ensures { result ≡ field_at size octets.now }
 {
     let (skip, size) = if size < VARIABLE {
@@ -56,131 +74,225 @@ fn measure(size: u16, octets: &[u8]) -> Option<(usize, usize)>
     Some((skip, size))
 }
 
-// Whether the fields of the record at the front are all there.
-fn is_whole(specs: &[FieldSpec], octets: &[u8]) -> bool
-    ensures { result ≡ is_some (fields_on [] 0 specs.now octets.now) }
+// The element and the octets of a spot.
+fn value_at<'r>(octets: &'r [u8], spot: Option<Spot>) -> Option<(u16, &'r [u8])>
+    requires { IfSome spot (λ s. s.at + s.length ≤ length octets.now) }
+    ensures { option_map (λ x. (x.0, x.1.now)) result ≡ value_in octets.now spot }
 {
-    let mut rest = octets;
-    for spec in specs {
-        let Some((skip, size)) = measure(spec.length, rest) else {
-            return false;
-        };
-        let (_, behind) = rest.split_at(skip + size);
-        rest = behind;
-    }
-    true
-}
-
-// Why the record at the front is refused when there is no memory for its fields: it may go on past the octets all
-// the same. Only then is a record gone over a second time.
-#[cold]
-fn refused(at: u16, specs: &[FieldSpec], octets: &[u8]) -> DecodeFault
-    ensures cut { result ≢ DecodeFault.Memory → fields_on [] 0 specs.now octets.now ≡ None }
-    ensures at { result ≢ DecodeFault.Memory → result ≡ DecodeFault.RecordCut at }
-    ensures last { result ≡ DecodeFault.Memory → fields_on [] 0 specs.now octets.now ≢ None }
-{
-    if is_whole(specs, octets) {
-        DecodeFault::Memory
-    } else {
-        DecodeFault::RecordCut { at }
+    match spot {
+        None => None,
+        Some(spot) => {
+            let (_, rest) = octets.split_at(spot.at);
+            let (value, _) = rest.split_at(spot.length);
+            Some((spot.element, value))
+        }
     }
 }
 
-// Adds the fields of the record at the front, which begins at `at` in the message, and says how many octets they
-// have. Where there is no memory for them the record isn't cut.
-#[tactic(auto, using(crate::proofs::Records::still_cut))]
-fn read_fields<'a>(
-    at: u16,
+// The same octets.
+fn copied_octets(alloc: Global, octets: &[u8]) -> Result<Vec<u8>, AllocError>
+    ensures { IfOk result (λ v. v.items ≡ octets.now) }
+{
+    let mut copy = Vec::with_capacity(alloc, octets.len())?;
+    copy.extend_from_slice(octets)?;
+    Ok(copy)
+}
+
+// The fields of the record at the front, which is there whole, with values of their own.
+fn copied_fields(
+    alloc: Global,
     specs: &[FieldSpec],
-    octets: &'a [u8],
-    fields: &mut Vec<Field<'a>>,
-) -> Result<usize, DecodeFault>
-    ensures exact { Gives DecodeFault.Memory (λ used. (map field_view fields.new.items, used)) result
-        (fields_given (DecodeFault.RecordCut at) (fields_on (map field_view fields.old.items) 0 specs.now octets.now)) }
-    ensures last { result ≡ Err DecodeFault.Memory → fields_on [] 0 specs.now octets.now ≢ None }
-    ensures within { IfOk result (λ used. used ≤ length octets.now) }
-    ensures least { IfOk result (λ used. shortest_of specs.now ≤ used) }
-    ensures longer { OnOk result (length fields.old.items ≤ length fields.new.items) }
+    octets: &[u8],
+) -> Result<Vec<FieldValue>, AllocError>
+    requires { is_some (fields_on [] 0 specs.now octets.now) ≡ true }
+    ensures { IfOk result (λ v. map value_view v.items ≡ fields_in specs.now octets.now) }
 {
-    let mut used = 0;
+    let mut copy = Vec::with_capacity(alloc, specs.len())?;
     let mut rest = octets;
     for spec in specs {
         let Some((skip, size)) = measure(spec.length, rest) else {
-            return Err(DecodeFault::RecordCut { at });
+            unreachable!();
         };
         let (field, behind) = rest.split_at(skip + size);
         let (_, value) = field.split_at(skip);
-        let Ok(()) = fields.push(Field {
+        let value = copied_octets(alloc, value)?;
+        copy.push(FieldValue {
             element: spec.element,
             enterprise: spec.enterprise,
             value,
-        }) else {
-            return Err(refused(at, specs, octets));
-        };
-        used += skip + size;
+        })?;
         rest = behind;
     }
-    Ok(used)
+    Ok(copy)
 }
 
-// Adds the record at the front, which begins at `at` in the message, and says how many octets it has.
-fn read_record<'a>(
+impl<'r> Record<'r> {
+    /// The observation domain.
+    pub fn domain(&self) -> u32
+        ensures { result ≡ self.now.domain }
+    {
+        self.domain
+    }
+
+    /// The message's sequence number and the records of the message before this one, modulo 2^32.
+    pub fn place(&self) -> u32
+        ensures { result ≡ self.now.place }
+    {
+        self.place
+    }
+
+    /// Whether it is a record of an options template.
+    pub fn is_options(&self) -> bool
+        ensures { result ≡ self.now.options }
+    {
+        self.template.options
+    }
+
+    /// The element that tells the time, and the octets of its first field: the first that is there of
+    /// observationTimeMilliseconds, observationTimeMicroseconds, observationTimeNanoseconds and
+    /// observationTimeSeconds (RFC 5477). Here and below an enterprise's elements are others.
+    pub fn time(&self) -> Option<(u16, &[u8])>
+        ensures { option_map (λ x. (x.0, x.1.now)) result ≡ choice times self.now.fields }
+    {
+        value_at(self.octets, self.spots.time)
+    }
+
+    /// The same of what tells how many octets the packet has: ipTotalLength, totalLengthIPv4, octetDeltaCount.
+    pub fn size(&self) -> Option<(u16, &[u8])>
+        ensures { option_map (λ x. (x.0, x.1.now)) result ≡ choice sizes self.now.fields }
+    {
+        value_at(self.octets, self.spots.size)
+    }
+
+    /// The same of what tells the code point: ipDiffServCodePoint, ipClassOfService.
+    pub fn code_point(&self) -> Option<(u16, &[u8])>
+        ensures { option_map (λ x. (x.0, x.1.now)) result ≡ choice code_points self.now.fields }
+    {
+        value_at(self.octets, self.spots.code_point)
+    }
+
+    /// The same of ingressInterface.
+    pub fn interface(&self) -> Option<(u16, &[u8])>
+        ensures { option_map (λ x. (x.0, x.1.now)) result ≡ choice interfaces self.now.fields }
+    {
+        value_at(self.octets, self.spots.interface)
+    }
+
+    /// The same of the packet's first octets, from its IP header on: ipHeaderPacketSection (RFC 5477).
+    pub fn section(&self) -> Option<(u16, &[u8])>
+        ensures { option_map (λ x. (x.0, x.1.now)) result ≡ choice sections self.now.fields }
+    {
+        value_at(self.octets, self.spots.section)
+    }
+
+    // Its fields, with values of their own.
+    pub(crate) fn fields(&self, alloc: Global) -> Result<Vec<FieldValue>, AllocError>
+        ensures { IfOk result (λ v. map value_view v.items ≡ self.now.fields) }
+    {
+        copied_fields(alloc, &self.template.specs, self.octets)
+    }
+}
+
+// Hands on the records of a data set whose template has no field of variable length: all have the same length, and
+// the chosen fields stand in the same places. `count` records of the message stand before them; the answer counts
+// these too. Fewer octets than a record has are padding.
+fn read_fixed<T: TakesRecords>(
     header: Header,
     template: &Template,
-    at: u16,
-    octets: &'a [u8],
-    rows: &mut Vec<Row>,
-    fields: &mut Vec<Field<'a>>,
-) -> Result<usize, DecodeFault>
-    requires long { template.now.shortest ≤ length octets.now }
-    requires few { length rows.old.items ≤ at }
-    requires counted { counted rows.old.items ≡ length fields.old.items }
-    ensures next { IfOk result (λ n. data_front header (template_of template.now) (records_of header.domain (map field_view fields.old.items) rows.old.items) at octets.now
-        ≡ Next (records_of header.domain (map field_view fields.new.items) rows.new.items) n) }
-    ensures bad { IfErr result (λ e. e ≢ DecodeFault.Memory
-        → data_front header (template_of template.now) (records_of header.domain (map field_view fields.old.items) rows.old.items) at octets.now ≡ Bad e) }
-    ensures last { result ≡ Err DecodeFault.Memory
-        → IsSound (data_front header (template_of template.now) (records_of header.domain (map field_view fields.old.items) rows.old.items) at octets.now) }
-    ensures counted { OnOk result (counted rows.new.items ≡ length fields.new.items) }
-    ensures within { IfOk result (λ n. (0 < n) × (n ≤ length octets.now)) }
-    ensures one { OnOk result (length rows.new.items ≡ length rows.old.items + 1) }
+    spots: &Spots,
+    count: u32,
+    octets: &[u8],
+    taker: &mut T,
+) -> Result<u32, AllocError>
+    requires laid { IsLaidOut template.now.choice template.now.specs.items spots.now }
+    requires few { count + length octets.now < 2 ^ 32 }
+    ensures exact { IfOk result (λ n. (start : T) (records : List PlacedView) (at : ℕ) → Took T.took start taker.old count records
+        → (all : List PlacedView) × (walk (data_front header (template_of template.now)) records at octets.now ≡ Ok all) × Took T.took start taker.new n all) }
+    ensures wanted { OnErr result ((start : T) (records : List PlacedView) (at : ℕ) → Took T.took start taker.old count records → IsWanted (data_front header (template_of template.now)) records at octets.now) }
+    ensures few { IfOk result (λ n. n ≤ count + length octets.now) }
 {
-    let before = fields.len();
-    let size = read_fields(at, &template.specs, octets, fields)?;
-    rows.push(Row {
-        place: header.sequence.wrapping_add(rows.len() as u32),
-        options: template.options,
-        count: fields.len() - before,
-    })?;
-    Ok(size)
+    let size = template.shortest as usize;
+    let mut count = count;
+    let mut rest = octets;
+    while rest.len() >= size {
+        let record = Record {
+            domain: header.domain,
+            place: header.sequence.wrapping_add(count),
+            template,
+            spots,
+            octets: rest,
+        };
+        taker.take(&record)?;
+        count += 1;
+        let (_, behind) = rest.split_at(size);
+        rest = behind;
+    }
+    Ok(count)
 }
 
-// Adds the records of a data set; `at` is where its octets begin in the message. Fewer octets than the shortest
-// record are padding.
-pub(crate) fn read_records<'a>(
+// The same where a field has a variable length: each record is gone over once, and is handed on when it is there
+// whole. `at` is where the octets begin in the message.
+fn read_variable<T: TakesRecords>(
     header: Header,
     template: &Template,
+    count: u32,
     at: u16,
-    octets: &'a [u8],
-    rows: &mut Vec<Row>,
-    fields: &mut Vec<Field<'a>>,
-) -> Result<(), DecodeFault>
+    octets: &[u8],
+    taker: &mut T,
+) -> Result<u32, DecodeFault>
+    requires few { count + length octets.now < 2 ^ 32 }
     requires place { at + length octets.now < 2 ^ 16 }
-    requires few { length rows.old.items ≤ at }
-    requires counted { counted rows.old.items ≡ length fields.old.items }
-    ensures exact { Gives DecodeFault.Memory (λ _. records_of header.domain (map field_view fields.new.items) rows.new.items) result
-        (walk (data_front header (template_of template.now)) (records_of header.domain (map field_view fields.old.items) rows.old.items) at octets.now) }
-    ensures few { OnOk result (length rows.new.items ≤ at + length octets.now) }
-    ensures counted { OnOk result (counted rows.new.items ≡ length fields.new.items) }
+    ensures exact { (start : T) (records : List PlacedView) → Took T.took start taker.old count records
+        → GivesAs DecodeFault.Memory (λ n all. Took T.took start taker.new n all) result (walk (data_front header (template_of template.now)) records at octets.now) }
+    ensures wanted { result ≡ Err DecodeFault.Memory → (start : T) (records : List PlacedView) → Took T.took start taker.old count records
+        → IsWanted (data_front header (template_of template.now)) records at octets.now }
+    ensures few { IfOk result (λ n. n ≤ count + length octets.now) }
 {
+    let shortest = template.shortest as usize;
+    let mut spots = Spots::none();
+    let mut count = count;
     let mut at = at;
     let mut rest = octets;
-    let shortest = template.shortest as usize;
     while rest.len() >= shortest {
-        let size = read_record(header, template, at, rest, rows, fields)?;
+        let Some(size) = locate(&template.choice, &template.specs, rest, &mut spots) else {
+            return Err(DecodeFault::RecordCut { at });
+        };
+        let record = Record {
+            domain: header.domain,
+            place: header.sequence.wrapping_add(count),
+            template,
+            spots: &spots,
+            octets: rest,
+        };
+        taker.take(&record)?;
+        count += 1;
         at += size as u16;
         let (_, behind) = rest.split_at(size);
         rest = behind;
     }
-    Ok(())
+    Ok(count)
+}
+
+// Hands on the records of a data set, whose octets begin at `at` in the message. `count` records of the message
+// stand before them; the answer counts these too.
+pub(crate) fn read_records<T: TakesRecords>(
+    header: Header,
+    template: &Template,
+    count: u32,
+    at: u16,
+    octets: &[u8],
+    taker: &mut T,
+) -> Result<u32, DecodeFault>
+    requires few { count + length octets.now < 2 ^ 32 }
+    requires place { at + length octets.now < 2 ^ 16 }
+    ensures exact { (start : T) (records : List PlacedView) → Took T.took start taker.old count records
+        → GivesAs DecodeFault.Memory (λ n all. Took T.took start taker.new n all) result (walk (data_front header (template_of template.now)) records at octets.now) }
+    ensures wanted { result ≡ Err DecodeFault.Memory → (start : T) (records : List PlacedView) → Took T.took start taker.old count records
+        → IsWanted (data_front header (template_of template.now)) records at octets.now }
+    ensures few { IfOk result (λ n. n ≤ count + length octets.now) }
+{
+    match &template.fixed {
+        None => read_variable(header, template, count, at, octets, taker),
+        Some(spots) => Ok(read_fixed(header, template, spots, count, octets, taker)?),
+    }
 }

@@ -6,6 +6,7 @@ ghost use Rattle.tca_templates.specs.Specifiers.{spec_at, specs_in, specs_on, he
 ghost use Rattle.tca_templates.specs.Fields.{change_view, viewed};
 
 use crate::fault::DecodeFault;
+use crate::layout::{Choice, lay_out};
 use crate::template::{Definition, FieldSpec, Template};
 use byteorder::{BigEndian, ByteOrder};
 use std::alloc::{AllocError, Global};
@@ -169,9 +170,13 @@ pub(crate) fn stored(
         let (_, behind) = rest.split_at(size);
         rest = behind;
     }
+    let choice = Choice::of(&specs);
+    let fixed = lay_out(choice, &specs);
     Ok(Template {
         options,
         specs,
         shortest: definition.shortest,
+        choice,
+        fixed,
     })
 }

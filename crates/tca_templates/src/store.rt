@@ -6,6 +6,7 @@ ghost use Rattle.tca_wire.specs.Results.{Gives};
 ghost use Rattle.tca_wire.specs.Walks.{Next, Bad, walk};
 ghost use Rattle.tca_templates.specs.Templates.{known, define, withdraw, withdraw_all};
 ghost use Rattle.tca_templates.specs.Specifiers.{changed, template_front};
+ghost use Rattle.tca_templates.specs.Wants.{IsWanted};
 ghost use Rattle.tca_templates.specs.Fields.{change_view, template_of, templates_of, IsSound};
 
 use crate::fault::DecodeFault;
@@ -113,8 +114,9 @@ pub(crate) fn read_templates(
     octets: &[u8],
 ) -> Result<(), DecodeFault>
     requires { at + length octets.now < 2 ^ 16 }
-    ensures { Gives DecodeFault.Memory (λ _. templates_of templates.new.entries) result
+    ensures exact { Gives DecodeFault.Memory (λ _. templates_of templates.new.entries) result
         (walk (template_front domain options) (templates_of templates.old.entries) at octets.now) }
+    ensures wanted { result ≡ Err DecodeFault.Memory → IsWanted (template_front domain options) (templates_of templates.old.entries) at octets.now }
 {
     let mut at = at;
     let mut rest = octets;

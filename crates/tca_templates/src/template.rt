@@ -2,6 +2,9 @@
 ghost use Rattle.std.specs.Prelude.{◌≡◌, ◌<◌, ◌≤◌, ◌*◌, length};
 ghost use Rattle.tca_templates.specs.Templates.{least_of, shortest_of};
 ghost use Rattle.tca_templates.specs.Specifiers.{specs_in};
+ghost use Rattle.tca_templates.specs.Layouts.{choice_of, layout_of};
+
+use crate::layout::{Choice, Spots};
 
 // The length of a field specifier that says that the length stands before each value (RFC 7011, section 7).
 pub(crate) const VARIABLE: u16 = 65_535;
@@ -24,8 +27,14 @@ pub(crate) struct Template {
     pub specs: Vec<FieldSpec>,
     /// The octets that a record has at least.
     pub shortest: u32,
+    /// Which elements are chosen of its fields.
+    pub choice: Choice,
+    /// Where they stand in each record, unless a field has a variable length.
+    pub fixed: Option<Spots>,
     pub ghost right: { shortest ≡ shortest_of specs.items },
     pub ghost some: { 0 < shortest },
+    pub ghost chosen: { choice ≡ choice_of specs.items },
+    pub ghost laid: { fixed ≡ layout_of choice specs.items },
 }
 
 // The specifiers of a template in the octets of the record that defines it. All of them are there.

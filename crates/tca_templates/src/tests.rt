@@ -1,4 +1,6 @@
-use crate::{DecodeFault, Decoder, Field, FieldValue, Outcome, PlacedFields, Row};
+ghost use Rattle.std.specs.Prelude.{⊤};
+
+use crate::{DecodeFault, Decoder, FieldValue, Outcome, PlacedFields, Record, TakesRecords};
 use std::alloc::{AllocError, Global};
 use std::test::Fail;
 use tca_wire::split_message;
@@ -173,31 +175,51 @@ fn reads_a_record(rt: HostRuntime) -> Result<(), Fail> {
     Ok(())
 }
 
-// The same record, as rows and fields in the octets of its message.
-fn is_read_in_place(rows: &[Row], fields: &[Field<'_>]) -> bool {
-    match (rows.first(), fields.get(2)) {
-        (Some(row), Some(field)) => {
-            rows.len() == 1
-                && (row.place, row.options, row.count) == (5, false, 4)
-                && fields.len() == 4
-                && (field.element, field.enterprise) == (195, None)
-                && field.value == b"\x0a".as_slice()
-        }
-        _ => false,
+// How many records were handed on, and whether the last of them is the one of `fixed`.
+#[derive(Drop)]
+struct Told {
+    records: u32,
+    is_fixed: bool,
+}
+
+fn is_fixed_record(record: &Record<'_>) -> bool {
+    (record.domain(), record.place()) == (7, 5)
+        && !record.is_options()
+        && record.time() == Some((323, b"\x00\x00\x01\x8b\xcf\xe5\x68\x00".as_slice()))
+        && record.size() == Some((224, b"\0\0\0\0\0\0\x05\xdc".as_slice()))
+        && record.code_point() == Some((195, b"\x0a".as_slice()))
+        && record.interface() == Some((10, b"\0\0\0\x01".as_slice()))
+        && record.section().is_none()
+}
+
+impl TakesRecords for Told {
+    ghost took = { λ start records now. ⊤ };
+
+    fn take(&mut self, next: &Record<'_>) -> Result<(), AllocError> {
+        self.records = self.records.wrapping_add(1);
+        self.is_fixed = is_fixed_record(next);
+        Ok(())
     }
 }
 
+// What a decoder hands on of the first message, and the decoder.
+fn handed(alloc: Global, decoder: Decoder, octets: &[u8]) -> Result<(Decoder, Told), Fail> {
+    let message = split_message(alloc, octets)?;
+    let mut told = Told {
+        records: 0,
+        is_fixed: false,
+    };
+    let handed = decoder.hand_records(alloc, &message, &mut told)?;
+    Ok((handed.decoder, told))
+}
+
 #[test]
-fn reads_in_place(rt: HostRuntime) -> Result<(), Fail> {
-    let mut decoder = Decoder::new(rt.alloc());
-    let mut rows = Vec::new(rt.alloc());
-    let mut fields = Vec::new(rt.alloc());
-    let message = split_message(rt.alloc(), fixed())?;
-    for _ in 0..2 {
-        let aside = decoder.read_in_place(rt.alloc(), &message, &mut rows, &mut fields)?;
-        assert_eq!(rt; aside, (None, 0));
-        assert!(rt; is_read_in_place(&rows, &fields));
-    }
+fn hands_on_records(rt: HostRuntime) -> Result<(), Fail> {
+    let decoder = Decoder::new(rt.alloc());
+    let (decoder, told) = handed(rt.alloc(), decoder, fixed())?;
+    assert!(rt; told.records == 1 && told.is_fixed);
+    let (decoder, told) = handed(rt.alloc(), decoder, variable())?;
+    assert!(rt; told.records == 1 && !told.is_fixed);
     assert!(rt; lists(&decoder, &[(7, 256, false)]));
     Ok(())
 }
@@ -271,19 +293,29 @@ fn changed(alloc: Global, octets: &[u8], at: usize, new: &[u8]) -> Result<Vec<u8
     Ok(copy)
 }
 
+// Whether a fresh decoder refuses to hand on the records of these octets for this fault.
+fn refuses_to_hand(alloc: Global, octets: &[u8], fault: DecodeFault) -> bool {
+    match split_message(alloc, octets) {
+        Ok(message) => {
+            let mut told = Told {
+                records: 0,
+                is_fixed: false,
+            };
+            let decoder = Decoder::new(alloc);
+            decoder.hand_records(alloc, &message, &mut told).err() == Some(fault)
+        }
+        Err(_) => false,
+    }
+}
+
 // Whether a fresh decoder refuses these octets so, by both calls, and has no template after `read`.
 fn is_refused(alloc: Global, octets: &[u8], fault: DecodeFault) -> bool {
     let mut decoder = Decoder::new(alloc);
-    let mut rows = Vec::new(alloc);
-    let mut fields = Vec::new(alloc);
     match split_message(alloc, octets) {
         Ok(message) => {
             decoder.read(alloc, &message).err() == Some(fault)
                 && lists(&decoder, &[])
-                && decoder
-                    .read_in_place(alloc, &message, &mut rows, &mut fields)
-                    .err()
-                    == Some(fault)
+                && refuses_to_hand(alloc, octets, fault)
         }
         Err(_) => false,
     }

@@ -15,7 +15,7 @@ IsAtFront octets (Whole n) = (n ≤ length octets) × (16 ≤ n) × IsFrame (tak
 IsAtFront octets Part = IsPart octets
 IsAtFront octets (Faulty fault) = IsFaulty octets fault
 
-whole_front : (octets : List ℕ) (n : ℕ) → 16 ≤ n → n ≤ length octets → version_at octets ≡ 10 → length_at octets ≡ n → IsFrame (take n octets)
+pub whole_front : (octets : List ℕ) (n : ℕ) → 16 ≤ n → n ≤ length octets → version_at octets ≡ 10 → length_at octets ≡ n → IsFrame (take n octets)
 whole_front octets n room within version facts =
     let size = length-take-le n octets within in
     let long : 16 ≤ length (take n octets) = omega (arith, size, room) in

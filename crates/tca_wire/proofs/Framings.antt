@@ -45,7 +45,7 @@ not_faulty g p (Trailing at) h bad = bad
 not_faulty g p Memory h bad = bad
 
 -- no frame stands in front of a rest
-no_frame : (g p : List ℕ) (x : Framing) → IsFrame g → EndsAs (g ++ p) x → ⊥
+pub no_frame : (g p : List ℕ) (x : Framing) → IsFrame g → EndsAs (g ++ p) x → ⊥
 no_frame g p (Holds held) h ends =
     let facts = length_front g p h.room in
     elim ends.1 [
@@ -80,7 +80,7 @@ fault_is octets (SetPastEnd at) bad = absurd bad
 fault_is octets (Trailing at) bad = absurd bad
 fault_is octets Memory bad = absurd bad
 
-not_part : (octets : List ℕ) (fault : WireFault) → IsPart octets → IsFaulty octets fault → ⊥
+pub not_part : (octets : List ℕ) (fault : WireFault) → IsPart octets → IsFaulty octets fault → ⊥
 not_part octets (BadVersion v) part bad =
     elim part [
       | inl short ↦ omega (arith, short, bad.0)

@@ -3,4 +3,5 @@ pub mod Sets
 pub mod Tiles
 pub mod Framings
 pub mod FramesOf
+pub mod Lending
 pub mod FirstFaults

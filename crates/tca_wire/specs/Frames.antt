@@ -44,6 +44,11 @@ abbrev pub Feeds : Framing → List ℕ → List (List ℕ) → Framing → Type
 Feeds (Holds held) piece frames after = IsStream (held ++ piece) frames after
 Feeds (Failed fault) piece frames after = (frames ≡ []) × (after ≡ Failed fault)
 
+-- Part of a message is held.
+abbrev pub HoldsPart : Framing → Type 0
+HoldsPart (Holds held) = 0 < length held
+HoldsPart (Failed fault) = ⊥
+
 -- held octets, unless there is a fault
 abbrev pub framing : List ℕ → Option WireFault → Framing
 framing held None = Holds held
@@ -95,3 +100,11 @@ frames_for (suc most) octets = elim (at_front octets) [
 -- The frames of a stream, and what stands behind the last of them.
 abbrev pub frames_of : List ℕ → List (List ℕ) × Framing
 frames_of octets = frames_for (suc (length octets)) octets
+
+-- The octets are frames, one after the other, and nothing else.
+abbrev pub AreFrames : List ℕ → Type 0
+AreFrames octets = (frames_of octets).1 ≡ Holds []
+
+-- the frames of these octets and those of the others behind them
+abbrev pub frames_of_both : List ℕ → List ℕ → List (List ℕ)
+frames_of_both octets others = (frames_of octets).0 ++ (frames_of others).0

@@ -42,6 +42,13 @@ judged at octets =
     else (if nat_lt (length octets) (big_number 2 (drop 2 octets)) then Err (SetPastEnd at)
     else Ok (record { id = big_number 2 octets; at = at; length = big_number 2 (drop 2 octets) })))
 
+-- The length that a header says, or what is wrong with the header.
+abbrev pub judged_length : List ℕ → Result ℕ WireFault
+judged_length octets =
+    if not (version_at octets == 10) then Err (BadVersion (version_at octets))
+    else (if nat_lt (length_at octets) 16 then Err (BadLength (length_at octets))
+    else Ok (length_at octets))
+
 -- The header of 16 octets or more, or what is wrong with it.
 abbrev pub judged_header : List ℕ → Result Header WireFault
 judged_header octets =

@@ -4,10 +4,13 @@
 //! left. It makes one list, of the sets; the octets stay where they are. Its time goes with the number of sets.
 //!
 //! `Framer` cuts a stream of messages, one after the other, as a file of RFC 5655 has them, into its messages. It makes
-//! no difference how the stream was cut into pieces. Between pieces less than one message is held, in a buffer that
-//! grows to the longest piece and what was held before it; behind a fault nothing is held. Each octet is copied into
-//! the buffer and out of it, so a stream takes the time of its octets, also where they come one by one. A length that a
-//! header only claims makes no room.
+//! no difference how the stream was cut into pieces. Between pieces less than one message is held; behind a fault
+//! nothing is held. A length that a header only claims makes no room.
+//!
+//! `feed` copies each message: an octet goes into a buffer, which grows to the longest piece and what was held before
+//! it, and out of it. `lend` gives slices of the piece, and copies only a message that lies across two pieces, so a
+//! piece takes the time of its headers. Either takes no more than the time of the octets, also where they come one by
+//! one.
 //!
 //! - `message`: what a message is; `split`: reading one;
 //! - `framer`: the messages of a stream;
@@ -20,7 +23,7 @@ mod message;
 mod split;
 
 pub use fault::WireFault;
-pub use framer::{Framed, Framer, framing_is_unique, pieces_join};
+pub use framer::{Framed, Framer, Lent, Messages, framing_is_unique, pieces_join};
 pub use message::{Header, Message, SetSpan};
 pub use split::{message_words, split_message};
 

@@ -2,7 +2,7 @@
 ghost use Rattle.std.specs.Prelude.{List, ℕ, Ok, Err, IfOk, IfErr, IsOk, IsErrOf, ◌≡◌, ◌≢◌, ◌<◌, ◌≤◌, ◌+◌, ◌^◌, length, take};
 ghost use Rattle.tca_wire.specs.Results.{Gives};
 ghost use Rattle.tca_wire.specs.Walks.{walk};
-ghost use Rattle.tca_wire.specs.Messages.{judged, judged_header, set_front, sets_of, message_of, HasSet, IsMessage};
+ghost use Rattle.tca_wire.specs.Messages.{length_at, judged, judged_length, judged_header, set_front, sets_of, message_of, HasSet, IsMessage};
 ghost use Rattle.tca_wire.specs.FirstFaults.{IsFirstFault};
 ghost use Rattle.tca_wire.specs.declared.message.Header.{Header};
 ghost use Rattle.tca_wire.specs.declared.message.SetSpan.{SetSpan};
@@ -75,20 +75,38 @@ fn sets_in(alloc: Global, octets: &[u8]) -> Result<Vec<SetSpan>, WireFault>
     Ok(sets)
 }
 
-// The header of the first 16 octets, or what is wrong with it.
-pub(crate) fn read_header(octets: &[u8]) -> Result<Header, WireFault>
-    requires { 16 ≤ length octets.now }
-    ensures exact { result ≡ judged_header octets.now }
+// The length that a header says.
+pub(crate) fn said_length(octets: &[u8]) -> u16
+    requires { 4 ≤ length octets.now }
+    ensures { result ≡ length_at octets.now }
+{
+    BigEndian::read_u16(&octets[2..])
+}
+
+// The length that a header says, or what is wrong with the header: its first four octets tell.
+pub(crate) fn read_length(octets: &[u8]) -> Result<u16, WireFault>
+    requires { 4 ≤ length octets.now }
+    ensures exact { result ≡ judged_length octets.now }
     ensures no_memory { IfErr result (λ e. e ≢ WireFault.Memory) }
 {
     let version = BigEndian::read_u16(octets);
     if version != 10 {
         return Err(WireFault::BadVersion(version));
     }
-    let length = BigEndian::read_u16(&octets[2..]);
+    let length = said_length(octets);
     if length < 16 {
         return Err(WireFault::BadLength(length));
     }
+    Ok(length)
+}
+
+// The header of the first 16 octets, or what is wrong with it.
+fn read_header(octets: &[u8]) -> Result<Header, WireFault>
+    requires { 16 ≤ length octets.now }
+    ensures exact { result ≡ judged_header octets.now }
+    ensures no_memory { IfErr result (λ e. e ≢ WireFault.Memory) }
+{
+    let length = read_length(octets)?;
     Ok(Header {
         length,
         export_time: BigEndian::read_u32(&octets[4..]),

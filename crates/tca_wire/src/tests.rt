@@ -245,6 +245,78 @@ fn the_cut_does_not_matter(rt: HostRuntime) -> Result<(), Fail> {
     Ok(())
 }
 
+// Whether a framer that lends says of a piece what one that copies says.
+fn agree(lender: &mut Framer, copier: &mut Framer, piece: &[u8]) -> Result<bool, WireFault> {
+    let framed = copier.feed(piece)?;
+    let lent = lender.lend(piece)?;
+    let mut copies = framed.messages.iter();
+    for message in lent.messages() {
+        match copies.next() {
+            Some(copy) if copy.as_slice() == message => {}
+            _ => return Ok(false),
+        }
+    }
+    Ok(copies.next().is_none() && lent.fault == framed.fault && lender.finish() == copier.finish())
+}
+
+#[test]
+fn pieces_of_any_length_are_lent(rt: HostRuntime) -> Result<(), Fail> {
+    let both = with_end(&rt, fixed_message(), variable_message())?;
+    let faulty = with_pair(&rt, &both, 65, [0, 9])?;
+    for octets in [both.as_slice(), faulty.as_slice()] {
+        for length in [1, 7, 16, 65, 66, 112] {
+            let mut lender = Framer::new(rt.alloc());
+            let mut copier = Framer::new(rt.alloc());
+            for piece in octets.chunks(length) {
+                assert!(rt; agree(&mut lender, &mut copier, piece)?, "{length}");
+            }
+        }
+    }
+    Ok(())
+}
+
+// Copies of the messages that are lent of two pieces of a stream.
+fn lent_in_two(rt: &HostRuntime, octets: &[u8], cut: usize) -> Result<Vec<Vec<u8>>, Fail> {
+    let (front, behind) = octets.split_at(cut.min(octets.len()));
+    let mut framer = Framer::new(rt.alloc());
+    let mut messages = Vec::new(rt.alloc());
+    for piece in [front, behind] {
+        let lent = framer.lend(piece)?;
+        for message in lent.messages() {
+            messages.push(Vec::from_slice(rt.alloc(), message)?)?;
+        }
+    }
+    framer.finish()?;
+    Ok(messages)
+}
+
+#[test]
+fn messages_are_lent_at_each_cut(rt: HostRuntime) -> Result<(), Fail> {
+    let both = with_end(&rt, fixed_message(), variable_message())?;
+    for cut in 0..113 {
+        let messages = lent_in_two(&rt, both.as_slice(), cut)?;
+        let wanted = [fixed_message(), variable_message()];
+        assert!(rt; are(messages.as_slice(), &wanted), "{cut}");
+    }
+    Ok(())
+}
+
+#[test]
+fn changed_streams_are_lent_in_two_pieces(rt: HostRuntime) -> Result<(), Fail> {
+    let both = with_end(&rt, fixed_message(), variable_message())?;
+    for at in [0, 1, 2, 3, 65, 66, 67, 68] {
+        let changed = with_pair(&rt, &both, at, [0, 17])?;
+        for cut in 0..113 {
+            let (front, behind) = changed.as_slice().split_at(cut.min(changed.len()));
+            let mut lender = Framer::new(rt.alloc());
+            let mut copier = Framer::new(rt.alloc());
+            assert!(rt; agree(&mut lender, &mut copier, front)?, "{at} {cut}");
+            assert!(rt; agree(&mut lender, &mut copier, behind)?, "{at} {cut}");
+        }
+    }
+    Ok(())
+}
+
 #[test]
 fn faults_have_texts_and_numbers(rt: HostRuntime) -> Result<(), Fail> {
     for (fault, number, text) in [

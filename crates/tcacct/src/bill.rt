@@ -6,7 +6,6 @@ ghost use Rattle.tcacct.specs.Devices.{after, before, device};
 ghost use Rattle.tcacct.specs.Noted.{IsUniting};
 ghost use Rattle.tcacct.specs.Runs.{octets_of};
 
-use crate::combine::listed;
 use crate::fault::RunFault;
 use crate::inputs::unite;
 use std::alloc::{AllocError, Global};
@@ -57,7 +56,7 @@ fn run_exported<W: Write, V: Write>(
         (device W.written W.failures out.old) (device W.written W.failures out.new)) }
 {
     let (statement, log, notes) = made(alloc, plan, inputs)?;
-    let reports = listed(alloc, &log)?;
+    let reports = log.into_reports()?;
     write_export(&reports, export)?;
     render(&statement, out)?;
     Ok(notes)

@@ -11,22 +11,8 @@ ghost use Rattle.tca_report.specs.export.Spelling.{most_reports};
 use crate::fault::RunFault;
 use crate::inputs::unite;
 use crate::texts::combine_line;
-use std::alloc::{AllocError, Global};
-use tca_log::Log;
+use std::alloc::Global;
 use tca_report::{Report, Write, put_all, write_export};
-
-/// The reports of a log as one list, since an export is written from a list.
-pub(crate) fn listed(alloc: Global, log: &Log) -> Result<Vec<Report>, AllocError>
-    ensures all { IfOk result (λ list. list.items ≡ log.now) }
-    ensures rises { OnOk result (IsStrictlySortedBy report_cmp log.now) }
-    ensures limit { OnOk result (length log.now ≤ most_reports) }
-{
-    let mut list = Vec::with_capacity(alloc, log.len() as usize)?;
-    for report in log.reports() {
-        list.push(*report)?;
-    }
-    Ok(list)
-}
 
 // The reports and the line that go out.
 fn made(alloc: Global, inputs: &[Vec<u8>]) -> Result<(Vec<Report>, String), RunFault>
@@ -40,8 +26,7 @@ fn made(alloc: Global, inputs: &[Vec<u8>]) -> Result<(Vec<Report>, String), RunF
 {
     let (log, _notes) = unite(alloc, inputs)?;
     let line = combine_line(alloc, log.len())?;
-    let reports = listed(alloc, &log)?;
-    Ok((reports, line))
+    Ok((log.into_reports()?, line))
 }
 
 /// Writes the export of the union of the inputs' reports, disputed ones too, to `export`, and then

@@ -1,7 +1,8 @@
 //! The program over a file system, standard output and standard error that are given: what `main` does,
 //! so that tests can do it too.
-ghost use Rattle.std.specs.Prelude.{◌≡◌, ◌≢◌, ◌≤◌, IfOk, None, length, map, string_bytes};
+ghost use Rattle.std.specs.Prelude.{◌≡◌, ◌≢◌, ◌≤◌, IfErr, IfOk, None, length, map, string_bytes};
 ghost use Rattle.tcacct.specs.Endings.{status_of};
+ghost use Rattle.tcacct.specs.declared.ending.Ending.TheVariants as endings;
 ghost use Rattle.tcacct.specs.Lines.{IsWithin, order_in, order_of};
 ghost use Rattle.tcacct.specs.Replicated.{IsWithinLimits};
 
@@ -27,7 +28,9 @@ const NOT_TEXT: &str = "error: a word of the command line is not UTF-8\n";
 
 /// The words of the command line, of which the first is the program's own name. They are refused where
 /// one isn't UTF-8, or where there is no memory for them.
-pub fn words_of<R: Env + AllocGlobal>(rt: &R) -> Result<Vec<String>, LineFault> {
+pub fn words_of<R: Env + AllocGlobal>(rt: &R) -> Result<Vec<String>, LineFault>
+    ensures { IfErr result (λ fault. 1 ≤ status_of (endings.NoCommand fault)) }
+{
     match env::args(rt) {
         Ok(args) => Ok(args.collect(rt.alloc())?),
         Err(error) if error.kind() == io::ErrorKind::InvalidData => {

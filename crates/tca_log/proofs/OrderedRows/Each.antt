@@ -28,7 +28,7 @@ filter_alike : {K : Type 0} (p q : K → Bool) (xs : List K) → ((x : K) → p 
 filter_alike p q [] h = refl
 filter_alike p q (x ∷ xs) h = (λ i. cond (h x i) (x ∷ filter_alike p q xs h i) (filter_alike p q xs h i))
 
-filter_all : {K : Type 0} (p : K → Bool) (xs : List K) → AllByRecursion (λ x. p x ≡ true) xs → filter p xs ≡ xs
+pub filter_all : {K : Type 0} (p : K → Bool) (xs : List K) → AllByRecursion (λ x. p x ≡ true) xs → filter p xs ≡ xs
 filter_all p [] h = refl
 filter_all p (x ∷ xs) h = rw (h.0) (ap (λ (l : List _). x ∷ l) (filter_all p xs h.1))
 

@@ -68,14 +68,14 @@ module _ {K : Type 0} (R : K → K → Ordering) (o : IsTotalOrder R) where
   turned : (x y : K) (r : Ordering) → R x y ≡ r → R y x ≡ ordering_reverse r
   turned x y r e = o.antisymm y x ∙ ap ordering_reverse e
 
-  below_of : (x m k : K) → R x m ≡ Less → is_lt (R k m) ≡ false → R x k ≡ Less
+  pub below_of : (x m k : K) → R x m ≡ Less → is_lt (R k m) ≡ false → R x k ≡ Less
   below_of x m k h n = elim (R k m) as (λ r. R k m ≡ r → is_lt r ≡ false → R x k ≡ Less) [
     | Less ↦ λ e f. absurd cc
     | Equal ↦ λ e f. alike_right o k m x e ∙ h
     | Greater ↦ λ e f. o.trans x m k h (turned k m Greater e)
   ] refl n
 
-  not_below : (k x m : K) → R k x ≡ Less → is_lt (R k m) ≡ false → is_lt (R x m) ≡ false
+  pub not_below : (k x m : K) → R k x ≡ Less → is_lt (R k m) ≡ false → is_lt (R x m) ≡ false
   not_below k x m h n = elim (R x m) as (λ r. R x m ≡ r → is_lt r ≡ false) [
     | Less ↦ λ e. sym (ap is_lt (o.trans k x m h e)) ∙ n
     | Equal ↦ λ e. refl

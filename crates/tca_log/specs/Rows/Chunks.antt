@@ -26,10 +26,13 @@ pub record IsPosition {K : Type 0} (R : K → K → Ordering) (cs : List (List K
   pub low : 0 < i → starts_after R k (get_or cs i []) ≡ false
   pub high : i + 1 < length cs → starts_after R k (get_or cs (i + 1) []) ≡ true
 
--- a container of rows within the limit, which it counts. Its spare chunk is empty, and there is a place for it
+-- a container of rows within the limit, which it counts. Its spare chunk is empty, and there is a place for it. A chunk has
+-- more than 256 rows only where it is the only one, and there is no spare one
 pub record AreRows {K : Type 0} (R : K → K → Ordering) (cs : List (List K)) (extra : Option (List K)) (number room : ℕ) : Type 0 where
   pub chunks : AreChunks R cs
   pub count : number ≡ length (joined cs)
   pub limit : length (joined cs) ≤ most_rows
   pub spare : IfSome extra (λ c. c ≡ [])
   pub spare_fits : is_some extra ≡ true → length cs < room
+  pub small_with_spare : is_some extra ≡ true → All (λ c. length c ≤ 256) cs
+  pub small_if_many : 1 < length cs → All (λ c. length c ≤ 256) cs

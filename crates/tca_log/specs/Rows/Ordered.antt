@@ -39,3 +39,15 @@ without_each R ks xs = filter (λ x. not (has R ks x)) xs
 -- none of ks ties with a member of xs
 abbrev pub AreApart : {K : Type 0} → (K → K → Ordering) → List K → List K → Type 0
 AreApart R ks xs = AllByRecursion (λ k. has R xs k ≡ false) ks
+
+-- the members that come before k, and those that don't
+unfoldable pub before_key : {K : Type 0} → (K → K → Ordering) → K → List K → List K
+before_key R k xs = filter (λ x. is_lt (R x k)) xs
+
+unfoldable pub from_key : {K : Type 0} → (K → K → Ordering) → K → List K → List K
+from_key R k xs = filter (λ x. not (is_lt (R x k))) xs
+
+-- a member that is seen before the others, where there is one
+abbrev pub seen_first : {K : Type 0} → Option K → List K → List K
+seen_first None later = []
+seen_first (Some x) later = x ∷ later

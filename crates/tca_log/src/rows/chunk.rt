@@ -12,20 +12,20 @@ use std::marker::Model;
 /// How many rows a chunk has room for.
 pub const CHUNK: usize = 256;
 
-/// Some rows in order, with room for 256.
+/// Some rows in order, with room for 256 at least. A list of more rows may be one chunk, until a row is put.
 #[derive(Drop)]
 pub struct Chunk<K: Ord + Copy, A: Allocator> {
     rows: Vec<K, A>,
 }
 
 impl<K: Ord + Copy, A: Allocator> Model for Chunk<K, A> {
-    ghost use Rattle.std.specs.Prelude.{List, ◌≤◌, vec_len, vec_capacity};
+    ghost use Rattle.std.specs.Prelude.{List, ◌≤◌, vec_capacity};
 
     ghost Value = { List K };
 
     ghost view = { λ c. c.rows.items };
 
-    ghost invariant = { λ c. (vec_len c.rows ≤ 256) × (256 ≤ vec_capacity c.rows) };
+    ghost invariant = { λ c. 256 ≤ vec_capacity c.rows };
 }
 
 impl<K: Ord + Copy, A: Allocator> Chunk<K, A> {
@@ -48,10 +48,19 @@ impl<K: Ord + Copy, A: Allocator> Chunk<K, A> {
         Ok(Chunk { rows: chunk })
     }
 
+    /// A chunk that is this list, which it copies only where the list has no room for 256.
+    pub(crate) fn of_list(alloc: A, rows: Vec<K, A>) -> Result<Chunk<K, A>, AllocError>
+        ensures { IfOk result (λ c. c ≡ rows.items) }
+    {
+        if rows.capacity() < CHUNK {
+            return Chunk::of(alloc, &rows);
+        }
+        Ok(Chunk { rows })
+    }
+
     /// How many rows there are.
     pub(crate) fn len(&self) -> usize
-        ensures length { result ≡ length self.now }
-        ensures limit { length self.now ≤ 256 }
+        ensures { result ≡ length self.now }
     {
         self.rows.len()
     }
@@ -61,6 +70,13 @@ impl<K: Ord + Copy, A: Allocator> Chunk<K, A> {
         ensures { result.now ≡ self.now }
     {
         &self.rows
+    }
+
+    /// The list of its rows.
+    pub(crate) fn into_list(self) -> Vec<K, A>
+        ensures { result.items ≡ self }
+    {
+        self.rows
     }
 
     /// Whether its first row comes after this one.
@@ -92,9 +108,8 @@ impl<K: Ord + Copy, A: Allocator> Chunk<K, A> {
     pub(crate) fn rank(&self, key: &K) -> usize
         requires { IsStrictlySortedBy K.cmp self.now }
         ensures rank { result ≡ rank K.cmp key.now self.now }
-        ensures limit { result ≤ 256 }
+        ensures limit { result ≤ length self.now }
     {
-        let _size = self.len();
         match self.search(key) {
             Ok(at) => at,
             Err(at) => at,
@@ -167,6 +182,8 @@ impl<K: Ord + Copy, A: Allocator> Chunk<K, A> {
         ensures all { put K.cmp key self.old ≡ self.new ++ upper.new }
         ensures some { 0 < length self.new }
         ensures more { 0 < length upper.new }
+        ensures small { length self.new ≤ 256 }
+        ensures small_upper { length upper.new ≤ 256 }
     {
         if is_last && self.ends_before(&key) {
             upper.push(key);
@@ -182,7 +199,8 @@ impl<K: Ord + Copy, A: Allocator> Chunk<K, A> {
 
     /// Moves the upper half of the rows to a chunk that has none.
     pub(crate) fn split(&mut self, upper: &mut Chunk<K, A>)
-        requires { upper.old ≡ [] }
+        requires empty { upper.old ≡ [] }
+        requires small { length self.old ≤ 256 }
         ensures all { self.new ++ upper.new ≡ self.old }
         ensures lower { length self.old ≡ 256 → length self.new ≡ 128 }
         ensures upper { length self.old ≡ 256 → length upper.new ≡ 128 }

@@ -29,6 +29,16 @@ impl<'a, K: Ord + Copy, A: Allocator> RowsIter<'a, K, A> {
     {
         RowsIter { now, later }
     }
+
+    /// The members of a list.
+    pub(crate) fn of(list: &'a [K]) -> RowsIter<'a, K, A>
+        ensures { result ≡ list.now }
+    {
+        RowsIter {
+            now: list,
+            later: &[],
+        }
+    }
 }
 
 impl<'a, K: Ord + Copy, A: Allocator> Iterator for RowsIter<'a, K, A> {

@@ -1,7 +1,8 @@
 pub mod FirstField
 pub mod ReasonCounts
 pub mod CaptureParts
-pub mod RowRecords
+pub mod OneMore
+pub mod ChosenFields
 pub mod ReaderAgrees
 pub mod CapturePieces
 pub mod CaptureLaws

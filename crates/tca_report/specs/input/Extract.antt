@@ -1,65 +1,17 @@
 -- Which fields of a data record make a report.
-use Rattle.std.specs.Prelude.{ℕ, ◌+◌, ◌-◌, ◌*◌, ◌/◌, ◌%◌, ◌^◌, ◌==◌, nat_lt, nat_le, Bool, not, ◌&&◌, if◌then◌else◌, List, [], ◌∷◌, length, drop, slice_index, Option, Some, None, ok_or, option_and_then, option_map, unwrap_or, Result, Ok, Err}
-use Rattle.std.specs.Option.{is_none, option_or}
+use Rattle.std.specs.Prelude.{ℕ, ◌+◌, ◌-◌, ◌*◌, ◌/◌, ◌%◌, ◌==◌, nat_lt, nat_le, Bool, not, ◌&&◌, if◌then◌else◌, List, [], ◌∷◌, length, drop, slice_index, Option, Some, None, ok_or, option_and_then, option_map, unwrap_or, Result, Ok, Err}
+use Rattle.std.specs.Option.{option_or}
 use Rattle.tca_wire.specs.Results.{◌>>=◌}
 use Rattle.byteorder.specs.Endian.{big_number}
 use Rattle.tca_report.specs.report.Reports.{PacketReport, time_end, most_octets, most_dscp}
 use Rattle.tca_templates.specs.Records.{FieldView, PlacedView}
+use Rattle.tca_templates.specs.Chosen.{octet_delta_count, ip_class_of_service, ingress_interface, total_length_ipv4, ip_diff_serv_code_point, ip_total_length, ip_header_packet_section, observation_time_seconds, observation_time_milliseconds, observation_time_microseconds, observation_time_nanoseconds, first}
 use Rattle.tca_report.specs.declared.input.extraction.NotReport.{NotReport}
 use Rattle.tca_report.specs.declared.input.extraction.NotReport.TheVariants.{Options, NoTime, NoSize, BadTime, BadSize, BadDscp, FieldLength}
 
 -- what has to hold, else this is the reason
 abbrev pub only_if : Bool → NotReport → Result Unit NotReport
 only_if holds reason = if holds then Ok tt else Err reason
-
--- octetDeltaCount: octets since the last report; unsigned64, 1 to 8 octets
-abbrev pub octet_delta_count : ℕ
-octet_delta_count = 1
-
--- ipClassOfService: the type of service or the traffic class; unsigned8, 1 octet
-abbrev pub ip_class_of_service : ℕ
-ip_class_of_service = 5
-
--- ingressInterface; unsigned32, 1 to 4 octets
-abbrev pub ingress_interface : ℕ
-ingress_interface = 10
-
--- totalLengthIPv4: octets of the IPv4 packet; unsigned16, 1 or 2 octets
-abbrev pub total_length_ipv4 : ℕ
-total_length_ipv4 = 190
-
--- ipDiffServCodePoint; unsigned8, 1 octet
-abbrev pub ip_diff_serv_code_point : ℕ
-ip_diff_serv_code_point = 195
-
--- ipTotalLength: octets of the IP packet; unsigned64, 1 to 8 octets
-abbrev pub ip_total_length : ℕ
-ip_total_length = 224
-
--- ipHeaderPacketSection: the packet's first octets, from its IP header on; octetArray, any octets
-abbrev pub ip_header_packet_section : ℕ
-ip_header_packet_section = 313
-
--- observationTimeSeconds; dateTimeSeconds, 4 octets
-abbrev pub observation_time_seconds : ℕ
-observation_time_seconds = 322
-
--- observationTimeMilliseconds; dateTimeMilliseconds, 8 octets
-abbrev pub observation_time_milliseconds : ℕ
-observation_time_milliseconds = 323
-
--- observationTimeMicroseconds; dateTimeMicroseconds, 8 octets
-abbrev pub observation_time_microseconds : ℕ
-observation_time_microseconds = 324
-
--- observationTimeNanoseconds; dateTimeNanoseconds, 8 octets
-abbrev pub observation_time_nanoseconds : ℕ
-observation_time_nanoseconds = 325
-
--- the value of the first field of this element that no enterprise has
-unfoldable pub first : ℕ → List FieldView → Option (List ℕ)
-first element [] = None
-first element (f ∷ fs) = if is_none f.enterprise && (f.element == element) then Some f.value else first element fs
 
 -- what the first of these elements that is there holds; each stands with what its octets are
 abbrev pub chosen : {X : Type 0} → List (ℕ × (List ℕ → X)) → List FieldView → Option X
@@ -114,6 +66,22 @@ times =
     ∷ (observation_time_nanoseconds, date_time_nanoseconds)
     ∷ (observation_time_seconds, date_time_seconds)
     ∷ []
+
+-- what an element that tells a time says
+abbrev pub time_value : ℕ → List ℕ → Result (Option ℕ) NotReport
+time_value element v =
+    if element == observation_time_milliseconds then date_time_milliseconds v
+    else (if element == observation_time_microseconds then date_time_microseconds v
+    else (if element == observation_time_nanoseconds then date_time_nanoseconds v
+    else date_time_seconds v))
+
+-- what an element that tells the octets of the packet says
+abbrev pub size_value : ℕ → List ℕ → Result ℕ NotReport
+size_value element v = if element == total_length_ipv4 then unsigned 2 v else unsigned 8 v
+
+-- what an element that tells the code point says
+abbrev pub code_point_value : ℕ → List ℕ → Result ℕ NotReport
+code_point_value element v = if element == ip_class_of_service then high_six_bits v else unsigned 1 v
 
 -- the elements that give the octets of the packet, the first choice first
 abbrev pub sizes : List (ℕ × (List ℕ → Result ℕ NotReport))

@@ -1,31 +1,41 @@
 //! Captures: messages one after the other, as a file of RFC 5655 has them.
-ghost use Rattle.std.specs.Prelude.{◌≡◌, ◌≢◌, ◌<◌, ◌≤◌, ◌+◌, ◌^◌, ◌++◌, ◌∷◌, [], List, ℕ, length, map, OnOk, IfErr, IsErrOf, Err};
+ghost use Rattle.std.specs.Prelude.{◌≡◌, ◌≢◌, ◌<◌, ◌≤◌, ◌+◌, ◌^◌, ◌++◌, ◌∷◌, [], List, ℕ, length, IfOk, IfErr, IsErrOf, Err};
 ghost use Rattle.std.specs.List.{concat};
 ghost use Rattle.tca_wire.specs.Results.{Gives};
-ghost use Rattle.tca_wire.specs.Frames.{octets_of, Holds};
-ghost use Rattle.tca_templates.specs.Fields.{field_view, records_of, counted};
-ghost use Rattle.tca_report.specs.input.Inputs.{CaptureSoFar, capture_with, capture_after, counts_of, or_left_out, or_taken, reports_of, reasons_of, capture_of};
+ghost use Rattle.tca_wire.specs.Frames.{Holds};
+ghost use Rattle.tca_report.specs.input.Inputs.{CaptureSoFar, capture_with, capture_after, counts_of, capture_of};
 ghost use Rattle.tca_report.specs.input.Gathered.{gathered_of, gathered_view};
-ghost use Rattle.tca_report.specs.input.CaptureReaders.{Agrees, ReaderGives, HasRead};
+ghost use Rattle.tca_report.specs.input.CaptureReaders.{noted, Agrees, ReaderGives, HasRead};
 ghost use Rattle.tca_report.specs.declared.input.extraction.NotReport.{NotReport};
 ghost use Rattle.tca_report.specs.declared.input.InputFault.TheVariants as faults;
 
-use crate::input::extraction::{NotReport, extract_fields};
+use crate::input::extraction::{NotReport, extract_from};
 use crate::input::{Gathered, InputFault, Notes};
-use crate::report::{Identity, Report};
-use std::alloc::Global;
-use tca_templates::{DecodeFault, Decoder, Field, Row};
-use tca_wire::{Framer, WireFault, split_message};
+use crate::report::Report;
+use std::alloc::{AllocError, Global};
+use tca_templates::{DecodeFault, Decoder, Record, TakesRecords};
+use tca_wire::{Framer, Messages, WireFault, split_message};
 
 // Octets of a capture that are looked at together.
 const PIECE: usize = 65_536;
+
+// The reports of the records so far, and how often each reason was why others make none.
+#[derive(Drop)]
+struct Extracted {
+    reports: Vec<Report>,
+    not_reports: [u64; 7],
+}
 
 // Reads a capture message by message, and holds what has come of it so far.
 #[derive(Drop)]
 struct CaptureReader {
     decoder: Decoder,
-    reports: Vec<Report>,
-    notes: Notes,
+    taken: Extracted,
+    messages: u64,
+    /// Messages with a data set of a template that wasn't known.
+    unplaced: u64,
+    /// Sets that were skipped.
+    skipped: u64,
     /// Octets of the messages so far.
     at: u64,
 }
@@ -52,62 +62,29 @@ fn decode_fault(at: u64, fault: DecodeFault) -> InputFault
     }
 }
 
-// Counts a record that is no report.
+// Counts a record that is no report. No count comes to its end where there are fewer than 2^64 records.
 fn count_reason(counts: &mut [u64; 7], reason: NotReport)
-    requires { (reasons : List NotReport) × (counts.old ≡ counts_of reasons) × (length reasons + 1 < 2 ^ 64) }
-    ensures { (reasons : List NotReport) → counts.old ≡ counts_of reasons → counts.new ≡ counts_of (reasons ++ reason ∷ []) }
+    ensures { (reasons : List NotReport) → counts.old ≡ counts_of reasons → length reasons + 1 < 2 ^ 64 → counts.new ≡ counts_of (reasons ++ reason ∷ []) }
 {
     let index = usize::from(reason.number()) - 1;
-    counts[index] += 1;
+    counts[index] = counts[index].wrapping_add(1);
 }
 
-// Takes the report of a record, or counts why it makes none.
-fn take_record(
-    found: Result<Report, NotReport>,
-    reports: &mut Vec<Report>,
-    counts: &mut [u64; 7],
-) -> Result<(), InputFault>
-    requires { (reasons : List NotReport) × (counts.old ≡ counts_of reasons) × (length reasons + 1 < 2 ^ 64) }
-    ensures reports { OnOk result (reports.new.items ≡ reports.old.items ++ or_left_out found []) }
-    ensures counts { OnOk result ((reasons : List NotReport) → counts.old ≡ counts_of reasons
-        → counts.new ≡ counts_of (reasons ++ or_taken found [])) }
-    ensures memory { IfErr result (λ e. e ≡ InputFault.Memory) }
-{
-    match found {
-        Ok(report) => reports.push(report)?,
-        Err(reason) => count_reason(counts, reason),
-    }
-    Ok(())
-}
+impl TakesRecords for Extracted {
+    ghost use Rattle.std.specs.Prelude.{◌≡◌, ◌++◌, ◌+◌, ◌<◌, ◌^◌, List, length};
+    ghost use Rattle.tca_report.specs.input.Inputs.{counts_of, reports_of, reasons_of};
+    ghost use Rattle.tca_report.specs.declared.input.extraction.NotReport.{NotReport};
 
-// Takes the records of a message: their reports, and why the others make none.
-fn take_records(
-    domain: u32,
-    rows: &[Row],
-    fields: &[Field<'_>],
-    reports: &mut Vec<Report>,
-    counts: &mut [u64; 7],
-) -> Result<(), InputFault>
-    requires counted { counted rows.now ≡ length fields.now }
-    requires counts { (reasons : List NotReport) × (counts.old ≡ counts_of reasons) × (length reasons + length rows.now < 2 ^ 64) }
-    ensures reports { OnOk result (reports.new.items ≡ reports.old.items ++ reports_of (records_of domain (map field_view fields.now) rows.now)) }
-    ensures counts { OnOk result ((reasons : List NotReport) → counts.old ≡ counts_of reasons
-        → counts.new ≡ counts_of (reasons ++ reasons_of (records_of domain (map field_view fields.now) rows.now))) }
-    ensures memory { IfErr result (λ e. e ≡ InputFault.Memory) }
-{
-    let mut start = 0;
-    for row in rows {
-        let (_, rest) = fields.split_at(start);
-        let (own, _) = rest.split_at(row.count);
-        let identity = Identity {
-            domain,
-            place: row.place,
-        };
-        let found = extract_fields(row.options, identity, own);
-        take_record(found, reports, counts)?;
-        start += row.count;
+    ghost took = { λ start records now. (now.reports.items ≡ start.reports.items ++ reports_of records)
+        × ((reasons : List NotReport) → start.not_reports ≡ counts_of reasons → length reasons + length records < 2 ^ 64 → now.not_reports ≡ counts_of (reasons ++ reasons_of records)) };
+
+    fn take(&mut self, next: &Record<'_>) -> Result<(), AllocError> {
+        match extract_from(next) {
+            Ok(report) => self.reports.push(report)?,
+            Err(reason) => count_reason(&mut self.not_reports, reason),
+        }
+        Ok(())
     }
-    Ok(())
 }
 
 impl CaptureReader {
@@ -117,80 +94,99 @@ impl CaptureReader {
     {
         CaptureReader {
             decoder: Decoder::new(alloc),
-            reports: Vec::new(alloc),
-            notes: Notes::none(),
+            taken: Extracted {
+                reports: Vec::new(alloc),
+                not_reports: [0; 7],
+            },
+            messages: 0,
+            unplaced: 0,
+            skipped: 0,
             at: 0,
         }
     }
 
-    // Takes the message that these octets are.
-    fn take_message<'a>(
-        &mut self,
-        alloc: Global,
-        octets: &'a [u8],
-        rows: &mut Vec<Row>,
-        fields: &mut Vec<Field<'a>>,
-    ) -> Result<(), InputFault>
-        requires held { (so_far : CaptureSoFar) × Agrees self.old so_far }
-        requires within { self.old.at + length octets.now < 2 ^ 64 }
-        ensures exact { (so_far : CaptureSoFar) → Agrees self.old so_far → ReaderGives self.new result (capture_with self.old.at so_far octets.now) }
-        ensures at { OnOk result (self.new.at ≡ self.old.at + length octets.now) }
+    // Takes the message that these octets are. A refusal ends the reading, so the reader is then gone.
+    fn take_message(self, alloc: Global, octets: &[u8]) -> Result<CaptureReader, InputFault>
+        requires held { (so_far : CaptureSoFar) × Agrees self so_far }
+        requires within { self.at + length octets.now < 2 ^ 64 }
+        ensures exact { (so_far : CaptureSoFar) → Agrees self so_far → ReaderGives result (capture_with self.at so_far octets.now) }
+        ensures at { IfOk result (λ r. r.at ≡ self.at + length octets.now) }
     {
         let message = match split_message(alloc, octets) {
             Ok(message) => message,
             Err(fault) => return Err(wire_fault(self.at, fault)),
         };
-        let found = self.decoder.read_in_place(alloc, &message, rows, fields);
-        let (unplaced, skipped) = match found {
-            Ok(found) => found,
+        let mut taken = self.taken;
+        let handed = match self.decoder.hand_records(alloc, &message, &mut taken) {
+            Ok(handed) => handed,
             Err(fault) => return Err(decode_fault(self.at, fault)),
         };
-        let domain = message.header.domain;
-        let counts = &mut self.notes.not_reports;
-        take_records(domain, rows, fields, &mut self.reports, counts)?;
-        self.notes.messages += 1;
-        self.notes.unplaced += u64::from(unplaced.is_some());
-        self.notes.skipped += u64::from(skipped);
-        self.at += octets.len() as u64;
-        Ok(())
+        Ok(CaptureReader {
+            decoder: handed.decoder,
+            taken,
+            messages: self.messages + 1,
+            unplaced: self.unplaced + u64::from(handed.unplaced.is_some()),
+            skipped: self.skipped + u64::from(handed.skipped),
+            at: self.at + octets.len() as u64,
+        })
     }
 
     // Takes messages in their order.
-    fn take_messages(&mut self, alloc: Global, messages: &[Vec<u8>]) -> Result<(), InputFault>
-        requires held { (so_far : CaptureSoFar) × Agrees self.old so_far }
-        requires within { self.old.at + length (concat (octets_of messages.now)) < 2 ^ 64 }
-        ensures exact { (so_far : CaptureSoFar) → Agrees self.old so_far → ReaderGives self.new result (capture_after self.old.at so_far (octets_of messages.now)) }
-        ensures at { OnOk result (self.new.at ≡ self.old.at + length (concat (octets_of messages.now))) }
+    fn take_messages(
+        self,
+        alloc: Global,
+        messages: Messages<'_>,
+    ) -> Result<CaptureReader, InputFault>
+        requires held { (so_far : CaptureSoFar) × Agrees self so_far }
+        requires within { self.at + length (concat messages) < 2 ^ 64 }
+        ensures exact { (so_far : CaptureSoFar) → Agrees self so_far → ReaderGives result (capture_after self.at so_far messages.entry) }
+        ensures at { IfOk result (λ r. r.at ≡ self.at + length (concat messages.entry)) }
     {
-        let mut rows = Vec::new(alloc);
-        let mut fields = Vec::new(alloc);
+        let mut reader = self;
         for message in messages {
-            self.take_message(alloc, message.as_slice(), &mut rows, &mut fields)?;
+            reader = reader.take_message(alloc, message)?;
         }
-        Ok(())
+        Ok(reader)
     }
 
     // Takes the next piece of the capture.
     fn take_piece(
-        &mut self,
+        self,
         alloc: Global,
         framer: &mut Framer,
         piece: &[u8],
-    ) -> Result<(), InputFault>
-        requires within { (octets : List ℕ) × HasRead octets framer.old self.old × (length octets + length piece.now < 2 ^ 64) }
-        ensures ok { (octets : List ℕ) → HasRead octets framer.old self.old → OnOk result (HasRead (octets ++ piece.now) framer.new self.new) }
-        ensures err { (octets behind : List ℕ) → HasRead octets framer.old self.old
+    ) -> Result<CaptureReader, InputFault>
+        requires within { (octets : List ℕ) × HasRead octets framer.old self × (length octets + length piece.now < 2 ^ 64) }
+        ensures ok { (octets : List ℕ) → HasRead octets framer.old self → IfOk result (λ r. HasRead (octets ++ piece.now) framer.new r) }
+        ensures err { (octets behind : List ℕ) → HasRead octets framer.old self
             → IfErr result (λ e. e ≢ InputFault.Memory → capture_of ((octets ++ piece.now) ++ behind) ≡ Err e) }
     {
-        let framed = match framer.feed(piece) {
-            Ok(framed) => framed,
+        let lent = match framer.lend(piece) {
+            Ok(lent) => lent,
             Err(_) => return Err(InputFault::Memory),
         };
-        self.take_messages(alloc, &framed.messages)?;
-        match framed.fault {
-            Some(fault) => Err(wire_fault(self.at, fault)),
-            None => Ok(()),
+        let reader = self.take_messages(alloc, lent.messages())?;
+        match lent.fault {
+            Some(fault) => Err(wire_fault(reader.at, fault)),
+            None => Ok(reader),
         }
+    }
+
+    // What the capture held.
+    fn gathered(self) -> Gathered
+        ensures reports { result.reports.items ≡ self.taken.reports.items }
+        ensures notes { result.notes ≡ noted self }
+    {
+        let taken = self.taken;
+        let not_reports = taken.not_reports;
+        let reports = taken.reports;
+        let notes = Notes {
+            messages: self.messages,
+            not_reports,
+            unplaced: self.unplaced,
+            skipped: self.skipped,
+        };
+        Gathered { reports, notes }
     }
 }
 
@@ -204,14 +200,11 @@ pub(crate) fn read_capture(alloc: Global, octets: &[u8]) -> Result<Gathered, Inp
     let mut rest = octets;
     while !rest.is_empty() {
         let (piece, behind) = rest.split_at(rest.len().min(PIECE));
-        reader.take_piece(alloc, &mut framer, piece)?;
+        reader = reader.take_piece(alloc, &mut framer, piece)?;
         rest = behind;
     }
     match framer.finish() {
-        Ok(()) => Ok(Gathered {
-            reports: reader.reports,
-            notes: reader.notes,
-        }),
+        Ok(()) => Ok(reader.gathered()),
         Err(fault) => Err(wire_fault(reader.at, fault)),
     }
 }

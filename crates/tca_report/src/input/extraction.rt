@@ -2,20 +2,17 @@
 ghost use Rattle.std.specs.Prelude.{◌≡◌, ◌==◌, ◌&&◌, ◌<◌, ◌≤◌, ◌^◌, IfOk, length, map, Ok, Err, Result};
 ghost use Rattle.std.specs.Option.{option_map, is_none};
 ghost use Rattle.byteorder.specs.Endian.{big_number};
-ghost use Rattle.tca_templates.specs.Fields.{field_view};
 ghost use Rattle.tca_templates.specs.Outcomes.{placed_view};
-ghost use Rattle.tca_report.specs.input.Extract.{unsigned, date_time_milliseconds, date_time_microseconds, date_time_nanoseconds, date_time_seconds, since_1970, time_in, header_in, section_in, octets_in, code_point_in, interface_in, judged, extract_of};
+ghost use Rattle.tca_report.specs.input.Extract.{unsigned, date_time_milliseconds, date_time_microseconds, date_time_nanoseconds, date_time_seconds, since_1970, time_value, size_value, code_point_value, time_in, header_in, section_in, octets_in, code_point_in, interface_in, judged, extract_of};
 ghost use Rattle.tca_report.specs.Faults.{reason_number};
 
 use crate::input::fields::{
-    DataField, INGRESS_INTERFACE, IP_CLASS_OF_SERVICE, IP_DIFF_SERV_CODE_POINT,
-    IP_HEADER_PACKET_SECTION, IP_TOTAL_LENGTH, OBSERVATION_TIME_MICROSECONDS,
-    OBSERVATION_TIME_MILLISECONDS, OBSERVATION_TIME_NANOSECONDS, OBSERVATION_TIME_SECONDS,
-    OCTET_DELTA_COUNT, TOTAL_LENGTH_IPV4, find,
+    DataRecord, IP_CLASS_OF_SERVICE, OBSERVATION_TIME_MICROSECONDS, OBSERVATION_TIME_MILLISECONDS,
+    OBSERVATION_TIME_NANOSECONDS, TOTAL_LENGTH_IPV4,
 };
 use crate::report::{Content, Identity, MOST_DSCP, MOST_OCTETS, Report, TIME_END};
 use byteorder::{BigEndian, ByteOrder};
-use tca_templates::{Field, PlacedFields};
+use tca_templates::PlacedFields;
 use thiserror::Error;
 
 /// Why a data record is no report.
@@ -61,6 +58,20 @@ impl NotReport {
     }
 }
 
+// The number of one to eight octets. The usual lengths are read at once.
+fn read_number(value: &[u8]) -> u64
+    requires { (1 ≤ length value.now) × (length value.now ≤ 8) }
+    ensures { result ≡ big_number (length value.now) value.now }
+{
+    match value.len() {
+        1 => u64::from(value[0]),
+        2 => u64::from(BigEndian::read_u16(value)),
+        4 => u64::from(BigEndian::read_u32(value)),
+        8 => BigEndian::read_u64(value),
+        _ => BigEndian::read_uint(value, value.len()),
+    }
+}
+
 // A number of one octet to so many.
 fn pick_unsigned(most: usize, value: &[u8]) -> Result<u64, NotReport>
     requires { most ≤ 8 }
@@ -70,7 +81,7 @@ fn pick_unsigned(most: usize, value: &[u8]) -> Result<u64, NotReport>
     if value.is_empty() || value.len() > most {
         return Err(NotReport::FieldLength);
     }
-    Ok(BigEndian::read_uint(value, value.len()))
+    Ok(read_number(value))
 }
 
 // Milliseconds from 1970 of seconds from 1900 and a fraction of one, None before 1970.
@@ -126,24 +137,26 @@ fn pick_seconds(value: &[u8]) -> Result<Option<u64>, NotReport>
     Ok(Some(u64::from(BigEndian::read_u32(value)) * 1000))
 }
 
-// The time of a record, of the first of the four elements that is there: its milliseconds, or none before 1970.
-#[tactic(auto, unfolding(crate::specs::input::Extract::time_in))]
-fn pick_time<F: DataField>(fields: &[F]) -> Option<Result<Option<u64>, NotReport>>
-    ensures { result ≡ time_in (map F.plain fields.now) }
+// The time of an element: its milliseconds, or none before 1970.
+fn read_time(element: u16, value: &[u8]) -> Result<Option<u64>, NotReport>
+    ensures { result ≡ time_value element value.now }
 {
-    if let Some(value) = find(fields, OBSERVATION_TIME_MILLISECONDS) {
-        return Some(pick_milliseconds(value));
+    match element {
+        OBSERVATION_TIME_MILLISECONDS => pick_milliseconds(value),
+        OBSERVATION_TIME_MICROSECONDS => pick_microseconds(value),
+        OBSERVATION_TIME_NANOSECONDS => pick_nanoseconds(value),
+        _ => pick_seconds(value),
     }
-    if let Some(value) = find(fields, OBSERVATION_TIME_MICROSECONDS) {
-        return Some(pick_microseconds(value));
+}
+
+// The time of a record, where an element tells it: its milliseconds, or none before 1970.
+fn pick_time<R: DataRecord>(placed: &R) -> Option<Result<Option<u64>, NotReport>>
+    ensures { result ≡ time_in (R.plain placed.now).fields }
+{
+    match placed.time() {
+        None => None,
+        Some((element, value)) => Some(read_time(element, value)),
     }
-    if let Some(value) = find(fields, OBSERVATION_TIME_NANOSECONDS) {
-        return Some(pick_nanoseconds(value));
-    }
-    if let Some(value) = find(fields, OBSERVATION_TIME_SECONDS) {
-        return Some(pick_seconds(value));
-    }
-    None
 }
 
 // The octets and the code point that the header of an IP packet gives.
@@ -165,31 +178,34 @@ fn read_section(value: &[u8]) -> Option<(u32, u8)>
 }
 
 // The octets and the code point of the packet's section, where it gives them.
-fn pick_section<F: DataField>(fields: &[F]) -> Option<(u32, u8)>
-    ensures { result ≡ section_in (map F.plain fields.now) }
+fn pick_section<R: DataRecord>(placed: &R) -> Option<(u32, u8)>
+    ensures { result ≡ section_in (R.plain placed.now).fields }
 {
-    match find(fields, IP_HEADER_PACKET_SECTION) {
+    match placed.section() {
         None => None,
-        Some(value) => read_section(value),
+        Some((_, value)) => read_section(value),
     }
 }
 
-// The octets of the packet: of the first of the three elements that is there, or else of the section.
-#[tactic(auto, unfolding(crate::specs::input::Extract::octets_in))]
-fn pick_octets<F: DataField>(
-    fields: &[F],
+// The octets of the packet that an element tells.
+fn read_size(element: u16, value: &[u8]) -> Result<u64, NotReport>
+    ensures { result ≡ size_value element value.now }
+{
+    if element == TOTAL_LENGTH_IPV4 {
+        return pick_unsigned(2, value);
+    }
+    pick_unsigned(8, value)
+}
+
+// The octets of the packet: of an element, or else of the section.
+fn pick_octets<R: DataRecord>(
+    placed: &R,
     section: Option<(u32, u8)>,
 ) -> Option<Result<u64, NotReport>>
-    ensures { result ≡ octets_in (map F.plain fields.now) section }
+    ensures { result ≡ octets_in (R.plain placed.now).fields section }
 {
-    if let Some(value) = find(fields, IP_TOTAL_LENGTH) {
-        return Some(pick_unsigned(8, value));
-    }
-    if let Some(value) = find(fields, TOTAL_LENGTH_IPV4) {
-        return Some(pick_unsigned(2, value));
-    }
-    if let Some(value) = find(fields, OCTET_DELTA_COUNT) {
-        return Some(pick_unsigned(8, value));
+    if let Some((element, value)) = placed.size() {
+        return Some(read_size(element, value));
     }
     match section {
         None => None,
@@ -197,16 +213,22 @@ fn pick_octets<F: DataField>(
     }
 }
 
-// The code point: of the first of the two elements that is there, or else of the section, or else 0.
-#[tactic(auto, unfolding(crate::specs::input::Extract::code_point_in))]
-fn pick_code_point<F: DataField>(fields: &[F], section: Option<(u32, u8)>) -> Result<u64, NotReport>
-    ensures { result ≡ code_point_in (map F.plain fields.now) section }
+// The code point that an element tells.
+fn read_code_point(element: u16, value: &[u8]) -> Result<u64, NotReport>
+    ensures { result ≡ code_point_value element value.now }
 {
-    if let Some(value) = find(fields, IP_DIFF_SERV_CODE_POINT) {
-        return pick_unsigned(1, value);
-    }
-    if let Some(value) = find(fields, IP_CLASS_OF_SERVICE) {
+    if element == IP_CLASS_OF_SERVICE {
         return Ok(pick_unsigned(1, value)? / 4);
+    }
+    pick_unsigned(1, value)
+}
+
+// The code point: of an element, or else of the section, or else 0.
+fn pick_code_point<R: DataRecord>(placed: &R, section: Option<(u32, u8)>) -> Result<u64, NotReport>
+    ensures { result ≡ code_point_in (R.plain placed.now).fields section }
+{
+    if let Some((element, value)) = placed.code_point() {
+        return read_code_point(element, value);
     }
     match section {
         None => Ok(0),
@@ -215,14 +237,13 @@ fn pick_code_point<F: DataField>(fields: &[F], section: Option<(u32, u8)>) -> Re
 }
 
 // The interface, or else 0.
-#[tactic(auto, unfolding(crate::specs::input::Extract::interface_in))]
-fn pick_interface<F: DataField>(fields: &[F]) -> Result<u64, NotReport>
-    ensures value { result ≡ interface_in (map F.plain fields.now) }
+fn pick_interface<R: DataRecord>(placed: &R) -> Result<u64, NotReport>
+    ensures value { result ≡ interface_in (R.plain placed.now).fields }
     ensures small { IfOk result (λ n. n < 2 ^ 32) }
 {
-    match find(fields, INGRESS_INTERFACE) {
+    match placed.interface() {
         None => Ok(0),
-        Some(value) => pick_unsigned(4, value),
+        Some((_, value)) => pick_unsigned(4, value),
     }
 }
 
@@ -265,43 +286,28 @@ fn judge(
     }
 }
 
-// The report that these fields make, or why they make none.
+// The report that a record makes, or why it makes none.
 #[tactic(auto, unfolding(crate::specs::input::Extract::extract_of))]
-fn extract_from<F: DataField>(
-    options: bool,
-    identity: Identity,
-    fields: &[F],
-) -> Result<Report, NotReport>
-    ensures { result ≡ extract_of (record { domain = identity.domain; place = identity.place; options = options; fields = map F.plain fields.now }) }
+pub(crate) fn extract_from<R: DataRecord>(placed: &R) -> Result<Report, NotReport>
+    ensures { result ≡ extract_of (R.plain placed.now) }
 {
-    if options {
+    if placed.is_options() {
         return Err(NotReport::Options);
     }
-    let Some(time) = pick_time(fields) else {
+    let Some(time) = pick_time(placed) else {
         return Err(NotReport::NoTime);
     };
-    let section = pick_section(fields);
-    let Some(octets) = pick_octets(fields, section) else {
+    let section = pick_section(placed);
+    let Some(octets) = pick_octets(placed, section) else {
         return Err(NotReport::NoSize);
     };
     judge(
         time,
         octets,
-        pick_code_point(fields, section),
-        pick_interface(fields),
-        identity,
+        pick_code_point(placed, section),
+        pick_interface(placed),
+        placed.identity(),
     )
-}
-
-// What `extract` gives, of fields that stand in the octets of their message.
-pub(crate) fn extract_fields(
-    options: bool,
-    identity: Identity,
-    fields: &[Field<'_>],
-) -> Result<Report, NotReport>
-    ensures { result ≡ extract_of (record { domain = identity.domain; place = identity.place; options = options; fields = map field_view fields.now }) }
-{
-    extract_from(options, identity, fields)
 }
 
 /// The report that a data record makes, or why it makes none. It takes no memory.
@@ -324,9 +330,5 @@ pub(crate) fn extract_fields(
 pub fn extract(placed: &PlacedFields) -> Result<Report, NotReport>
     ensures { result ≡ extract_of (placed_view placed.now) }
 {
-    let identity = Identity {
-        domain: placed.domain,
-        place: placed.place,
-    };
-    extract_from(placed.options, identity, placed.fields.as_slice())
+    extract_from(placed)
 }

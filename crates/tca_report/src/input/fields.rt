@@ -1,12 +1,12 @@
 //! The fields of a data record, and the elements of IANA's registry that are looked for among them.
 ghost use Rattle.std.specs.Prelude.{◌≡◌, ◌==◌, ◌&&◌, map};
-ghost use Rattle.std.specs.Option.{option_map, is_none, is_some};
-ghost use Rattle.tca_templates.specs.Fields.{field_view};
-ghost use Rattle.tca_templates.specs.Outcomes.{value_view};
-ghost use Rattle.tca_templates.specs.Records.{FieldView};
-ghost use Rattle.tca_report.specs.input.Extract.{first};
+ghost use Rattle.std.specs.Option.{option_map, is_none};
+ghost use Rattle.tca_templates.specs.Outcomes.{value_view, placed_view};
+ghost use Rattle.tca_templates.specs.Records.{PlacedView};
+ghost use Rattle.tca_templates.specs.Chosen.{times, sizes, code_points, interfaces, sections, first, choice};
 
-use tca_templates::{Field, FieldValue};
+use crate::report::Identity;
+use tca_templates::{FieldValue, PlacedFields, Record};
 
 // octetDeltaCount: octets since the last report, which are those of the packet where a record reports one packet.
 pub(crate) const OCTET_DELTA_COUNT: u16 = 1;
@@ -41,71 +41,152 @@ pub(crate) const OBSERVATION_TIME_MICROSECONDS: u16 = 324;
 // observationTimeNanoseconds (RFC 5477).
 pub(crate) const OBSERVATION_TIME_NANOSECONDS: u16 = 325;
 
-// A field of a data record, in the octets of its message or with octets of its own.
-pub(crate) trait DataField {
-    // The field without where it lies in memory.
-    ghost plain: { Self → FieldView };
+// The elements that tell the time, the first choice first.
+const TIMES: [u16; 4] = [
+    OBSERVATION_TIME_MILLISECONDS,
+    OBSERVATION_TIME_MICROSECONDS,
+    OBSERVATION_TIME_NANOSECONDS,
+    OBSERVATION_TIME_SECONDS,
+];
 
-    // The information element.
-    fn element(&self) -> u16
-        ensures { result ≡ (plain self.now).element };
+// Those that tell the octets of the packet.
+const SIZES: [u16; 3] = [IP_TOTAL_LENGTH, TOTAL_LENGTH_IPV4, OCTET_DELTA_COUNT];
 
-    // Whether an enterprise has the element.
-    fn is_enterprise(&self) -> bool
-        ensures { result ≡ is_some (plain self.now).enterprise };
+// Those that tell the code point.
+const CODE_POINTS: [u16; 2] = [IP_DIFF_SERV_CODE_POINT, IP_CLASS_OF_SERVICE];
 
-    // The octets of the field.
-    fn value(&self) -> &[u8]
-        ensures { result.now ≡ (plain self.now).value };
+// A data record, in the octets of its message or with values of its own: of each kind of thing that is told the
+// element that is chosen and the octets of its first field.
+pub(crate) trait DataRecord {
+    // The record without where it lies in memory.
+    ghost plain: { Self → PlacedView };
+
+    // Its observation domain and place.
+    fn identity(&self) -> Identity
+        ensures { result ≡ record { domain = (plain self.now).domain; place = (plain self.now).place } };
+
+    // Whether it is a record of an options template.
+    fn is_options(&self) -> bool
+        ensures { result ≡ (plain self.now).options };
+
+    // What tells the time.
+    fn time(&self) -> Option<(u16, &[u8])>
+        ensures { option_map (λ x. (x.0, x.1.now)) result ≡ choice times (plain self.now).fields };
+
+    // What tells the octets of the packet.
+    fn size(&self) -> Option<(u16, &[u8])>
+        ensures { option_map (λ x. (x.0, x.1.now)) result ≡ choice sizes (plain self.now).fields };
+
+    // What tells the code point.
+    fn code_point(&self) -> Option<(u16, &[u8])>
+        ensures { option_map (λ x. (x.0, x.1.now)) result ≡ choice code_points (plain self.now).fields };
+
+    // What tells the interface.
+    fn interface(&self) -> Option<(u16, &[u8])>
+        ensures { option_map (λ x. (x.0, x.1.now)) result ≡ choice interfaces (plain self.now).fields };
+
+    // The first octets of the packet.
+    fn section(&self) -> Option<(u16, &[u8])>
+        ensures { option_map (λ x. (x.0, x.1.now)) result ≡ choice sections (plain self.now).fields };
 }
 
-impl<'a> DataField for Field<'a> {
-    ghost plain = { field_view };
+impl<'r> DataRecord for Record<'r> {
+    ghost plain = { λ r. r };
 
-    fn element(&self) -> u16 {
-        self.element
+    fn identity(&self) -> Identity {
+        Identity {
+            domain: self.domain(),
+            place: self.place(),
+        }
     }
 
-    fn is_enterprise(&self) -> bool {
-        self.enterprise.is_some()
+    fn is_options(&self) -> bool {
+        Record::is_options(self)
     }
 
-    fn value(&self) -> &[u8] {
-        self.value
+    fn time(&self) -> Option<(u16, &[u8])> {
+        Record::time(self)
+    }
+
+    fn size(&self) -> Option<(u16, &[u8])> {
+        Record::size(self)
+    }
+
+    fn code_point(&self) -> Option<(u16, &[u8])> {
+        Record::code_point(self)
+    }
+
+    fn interface(&self) -> Option<(u16, &[u8])> {
+        Record::interface(self)
+    }
+
+    fn section(&self) -> Option<(u16, &[u8])> {
+        Record::section(self)
     }
 }
 
-impl DataField for FieldValue {
-    ghost plain = { value_view };
+impl DataRecord for PlacedFields {
+    ghost plain = { placed_view };
 
-    fn element(&self) -> u16 {
-        self.element
+    fn identity(&self) -> Identity {
+        Identity {
+            domain: self.domain,
+            place: self.place,
+        }
     }
 
-    fn is_enterprise(&self) -> bool {
-        self.enterprise.is_some()
+    fn is_options(&self) -> bool {
+        self.options
     }
 
-    fn value(&self) -> &[u8] {
-        self.value.as_slice()
+    fn time(&self) -> Option<(u16, &[u8])> {
+        choose(&self.fields, &TIMES)
+    }
+
+    fn size(&self) -> Option<(u16, &[u8])> {
+        choose(&self.fields, &SIZES)
+    }
+
+    fn code_point(&self) -> Option<(u16, &[u8])> {
+        choose(&self.fields, &CODE_POINTS)
+    }
+
+    fn interface(&self) -> Option<(u16, &[u8])> {
+        choose(&self.fields, &[INGRESS_INTERFACE])
+    }
+
+    fn section(&self) -> Option<(u16, &[u8])> {
+        choose(&self.fields, &[IP_HEADER_PACKET_SECTION])
     }
 }
 
 // Whether this is a field of the element, and no enterprise has it.
-fn is_element<F: DataField>(field: &F, element: u16) -> bool
-    ensures { result ≡ (is_none (F.plain field.now).enterprise && ((F.plain field.now).element == element)) }
+fn is_element(field: &FieldValue, element: u16) -> bool
+    ensures { result ≡ (is_none (value_view field.now).enterprise && ((value_view field.now).element == element)) }
 {
-    !field.is_enterprise() && field.element() == element
+    field.enterprise.is_none() && field.element == element
 }
 
 // The value of the first field of an element that no enterprise has.
-pub(crate) fn find<F: DataField>(fields: &[F], element: u16) -> Option<&[u8]>
-    ensures { option_map (λ v. v.now) result ≡ first element (map F.plain fields.now) }
+fn find(fields: &[FieldValue], element: u16) -> Option<&[u8]>
+    ensures { option_map (λ v. v.now) result ≡ first element (map value_view fields.now) }
 {
     for field in fields {
         let found = is_element(field, element);
         if found {
-            return Some(field.value());
+            return Some(field.value.as_slice());
+        }
+    }
+    None
+}
+
+// The first of these elements that is there, and its value.
+fn choose<'a>(fields: &'a [FieldValue], elements: &[u16]) -> Option<(u16, &'a [u8])>
+    ensures { option_map (λ x. (x.0, x.1.now)) result ≡ choice elements.now (map value_view fields.now) }
+{
+    for element in elements {
+        if let Some(value) = find(fields, *element) {
+            return Some((*element, value));
         }
     }
     None

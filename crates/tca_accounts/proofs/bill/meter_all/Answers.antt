@@ -9,6 +9,7 @@ pub loop-report-init : goal.loop-report-init
 loop-report-init c =
     let all : c.into_iter-report-iterator.result ≡ undisputed c.args.log.now = cc in
     record {
+      period = c.new-period.ensures ∙ c.period.ensures.value;
       running = rw all c.requires;
       rises = rw all (search rules);
       unassigned = rw all (omega arith);
@@ -42,8 +43,9 @@ loop-report-preserved c =
     let owner : account_of c.args.plan.now x ≡ Some c.in-Some-account_of.n = sym c.account_of.ensures.account ∙ c.in-Some-account_of.is in
     let inside : c.in-Some-account_of.n < length c.args.plan.now.accounts = c.in-Some-account_of.ensures.below in
     let old = c.index_mut-account.result.now in
-    let added = rw (c.period-period.ensures.value, c.index_mut-account.ensures.value) at c.in_ok-add.ensures.running in
+    let added = rw (l.invariant.period, c.index_mut-account.ensures.value) at c.in_ok-add.ensures.running in
     record {
+      period = c.add.ensures.period ∙ l.invariant.period;
       running = had_next c.args.plan.now (undisputed c.args.log.now) x c.next.new.self l.accounts.items m c.in-Some-account_of.n old c.add.new.self owner inside added c.in_ok-add.ensures.time later.0;
       rises = later.1;
       unassigned = omega (arith, none_same c.args.plan.now x c.next.new.self c.in-Some-account_of.n owner, ap (none_in c.args.plan.now) c.in-Some.ensures.steps, l.invariant.unassigned);
@@ -57,6 +59,7 @@ loop-report-preserved-in_default c =
     let later = rest_later x c.next.new.self (rw c.in-Some.ensures.steps at l.invariant.rises) in
     let none : account_of c.args.plan.now x ≡ None = sym c.account_of.ensures.account ∙ c.in_default.is in
     record {
+      period = l.invariant.period;
       running = skipped c.args.plan.now (undisputed c.args.log.now) x c.next.new.self l.accounts.items m none;
       rises = later.1;
       unassigned = omega (arith, none_more c.args.plan.now x c.next.new.self none, ap (none_in c.args.plan.now) c.in-Some.ensures.steps, l.invariant.unassigned);

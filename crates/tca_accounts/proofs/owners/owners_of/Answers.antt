@@ -13,8 +13,8 @@ loop-n-preserved c =
     let accounts = c.args.accounts.now in
     let n = c.loop-n.n in
     let a = c.index-accounts-n.result in
-    let old = c.loop-n.owners.entries in
-    let new = c.enter.new.owners.entries in
+    let old = c.loop-n.owners in
+    let new = c.enter.new.owners in
     let rest = owned (n + 1) (drop (n + 1) accounts) in
     let pairs : c.deref.result.now ≡ a.pairs = c.deref.ensures.value ∙ ap (λ (x : PlannedAccount). x.pairs) c.account.view_is in
     let split : drop n accounts ≡ a ∷ drop (n + 1) accounts = cut accounts n a c.loop-n-test.true ∙ ap (λ (x : PlannedAccount). x ∷ drop (n + 1) accounts) (sym c.index-accounts-n.is) in
@@ -27,7 +27,7 @@ returns-then-not-branch c =
     let accounts = c.args.accounts.now in
     let n = c.loop-n.n in
     let a = c.index-accounts-n.result in
-    let old = c.loop-n.owners.entries in
+    let old = c.loop-n.owners in
     let rest = owned (n + 1) (drop (n + 1) accounts) in
     let pairs : c.deref.result.now ≡ a.pairs = c.deref.ensures.value ∙ ap (λ (x : PlannedAccount). x.pairs) c.account.view_is in
     let split : drop n accounts ≡ a ∷ drop (n + 1) accounts = cut accounts n a c.loop-n-test.true ∙ ap (λ (x : PlannedAccount). x ∷ drop (n + 1) accounts) (sym c.index-accounts-n.is) in
@@ -41,4 +41,4 @@ returns c =
     let n = c.loop-n.n in
     let at : n ≡ length accounts = omega (arith, c.loop-n-test.false, c.loop-n.auto.n-end) in
     let none : owned n (drop n accounts) ≡ [] = ap (owned n) (ap (λ (m : ℕ). drop m accounts) at ∙ drop-length accounts) in
-    all_entered accounts c.loop-n.owners.entries (owned n (drop n accounts)) none c.loop-n.invariant
+    all_entered accounts c.loop-n.owners (owned n (drop n accounts)) none c.loop-n.invariant

@@ -1,14 +1,10 @@
-use Rattle.std.proofs.Common.{◌≡◌, zero, suc, ◌<◌, List, [], ◌∷◌, ◌++◌, length, append_assoc, sym, ap, ◌∙◌, arith}
-use Rattle.std.specs.List.{All}
+use Rattle.std.proofs.Common.{◌≡◌, ◌<◌, ◌≤◌, List, [], ◌∷◌, ◌++◌, length, append_assoc, sym, ap, ◌∙◌, arith}
 use Rattle.std.proofs.lemmas.List.{append-nil}
 use Rattle.std.proofs.lemmas.List.Elements.{All-append}
 use Rattle.std.proofs.lemmas.Grind.{flat_map-append}
 use Rattle.tca_log.specs.Rows.Chunks.{joined}
+use Rattle.tca_log.proofs.OrderedRows.Small.{all_one}
 use Rattle.tca_log.proofs.rows.cut.Goals as goal
-
-one : {K : Type 0} (l : List K) → 0 < length l → All (λ c. 0 < length c) (l ∷ [])
-one l some zero d below = some
-one l some (suc k) d below = absurd (omega arith)
 
 pub loop-part-preserved : goal.loop-part-preserved
 loop-part-preserved g c =
@@ -22,8 +18,10 @@ loop-part-preserved g c =
     let more : joined (old ++ chunk ∷ []) ≡ joined old ++ part =
     flat_map-append (λ (l : List K). l) old (chunk ∷ []) ∙ ap (λ (l : List K). joined old ++ l) (append-nil chunk ∙ same) in
     let some : 0 < length part = omega (arith, c.in-Some.ensures.steps.1.1, c.in-Some.ensures.steps.1.2, c.loop-part.invariant.size) in
+    let few : length part ≤ 256 = omega (arith, c.in-Some.ensures.steps.1.1, c.in-Some.ensures.steps.1.2, c.loop-part.invariant.size) in
     record {
       all = rw (items, more) (append_assoc (joined old) part rest ∙ ap (λ (l : List K). joined old ++ l) (sym c.in-Some.ensures.steps.1.0) ∙ c.loop-part.invariant.all);
       size = c.in-Some.ensures.steps.0 ∙ c.loop-part.invariant.size;
-      some = rw items (All-append (λ (l : List K). 0 < length l) old (chunk ∷ []) c.loop-part.invariant.some (one chunk (rw same some)));
+      some = rw items (All-append (λ (l : List K). 0 < length l) old (chunk ∷ []) c.loop-part.invariant.some (all_one (λ (l : List K). 0 < length l) chunk (rw same some)));
+      small = rw items (All-append (λ (l : List K). length l ≤ 256) old (chunk ∷ []) c.loop-part.invariant.small (all_one (λ (l : List K). length l ≤ 256) chunk (rw same few)));
     }

@@ -1,4 +1,4 @@
-use Rattle.std.proofs.Common.{◌≡◌, ◌<◌, ◌++◌, length}
+use Rattle.std.proofs.Common.{◌≡◌, ◌<◌, ◌≤◌, ◌++◌, length}
 use Rattle.std.specs.List.{All}
 use Rattle.tca_log.specs.Rows.Chunks.{joined}
 use Rattle.tca_log.proofs.rows.cut.Given as goal
@@ -9,4 +9,5 @@ invariant-loop-part g l = record {
   all : joined l.chunks.items ++ l.part-iterator.rest.now ≡ l.rows;
   size : l.part-iterator.size ≡ 256;
   some : All (λ c. 0 < length c) l.chunks.items;
+  small : All (λ c. length c ≤ 256) l.chunks.items;
 }

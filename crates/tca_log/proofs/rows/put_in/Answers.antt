@@ -1,6 +1,9 @@
-use Rattle.std.proofs.Common.{◌≡◌, ◌+◌, ◌∷◌, [], set, rules, sym, arith}
+use Rattle.std.proofs.Common.{◌≡◌, ◌+◌, ◌≤◌, ◌∷◌, ◌∙◌, [], length, set, rules, sym, ap, arith}
 use Rattle.std.specs.List.{insert}
-use Rattle.tca_log.proofs.OrderedRows.Whole.{rises_here, put_here, split_here, first_chunk, first_put, no_items}
+use Rattle.tca_log.proofs.OrderedRows.Whole.{here, rises_here, put_here, split_here, first_chunk, first_put, no_items}
+use Rattle.tca_log.proofs.OrderedRows.Small.{IsSmall, all_at, all_one, all_split, put_longest}
+use Rattle.tca_join.specs.Sets.{put}
+use Rattle.std.proofs.lemmas.List.Elements.{All-set}
 use Rattle.tca_log.proofs.rows.put_in.Goals as goal
 
 pub put-requires-clause-rises : goal.put-requires-clause-rises
@@ -40,3 +43,28 @@ returns-in-Some-clause-chunks g c =
     let empty : c.args.chunks.now.items ≡ [] = no_items c.args.chunks.now.items (omega (arith, c.len.ensures)) in
     let done : c.push-in-Some.new.self.items ≡ (c.args.key ∷ []) ∷ [] = search rules in
     rw done (first_chunk g.K.Ord.cmp g.met.K.Ord.total c.args.key)
+
+pub put_splitting-requires-clause-full : goal.put_splitting-requires-clause-full
+put_splitting-requires-clause-full g c =
+    let position = rw c.deref.ensures.value at c.position-at.ensures in
+    let small = all_at IsSmall c.args.chunks.now.items c.position-at.result c.index_mut-in-Some-take.result.now c.requires.small position.inside c.index_mut-in-Some-take.ensures.value in
+    let same = sym (here g.K.Ord.cmp g.met.K.Ord.total c.args.chunks.now.items c.position-at.result c.index_mut-in-Some-take.result.now position.inside c.index_mut-in-Some-take.ensures.value) ∙ here g.K.Ord.cmp g.met.K.Ord.total c.args.chunks.now.items c.position-at.result c.index.result.now position.inside c.index.ensures in
+    omega (arith, small, ap length same, c.len-2.ensures, c.if-len-lt-CHUNK.false)
+
+pub returns-then-len-lt-CHUNK-clause-small : goal.returns-then-len-lt-CHUNK-clause-small
+returns-then-len-lt-CHUNK-clause-small g c =
+    let position = rw c.deref.ensures.value at c.position-at.ensures in
+    let same = sym (here g.K.Ord.cmp g.met.K.Ord.total c.args.chunks.now.items c.position-at.result c.index_mut.result.now position.inside c.index_mut.ensures.value) ∙ here g.K.Ord.cmp g.met.K.Ord.total c.args.chunks.now.items c.position-at.result c.index.result.now position.inside c.index.ensures in
+    let few : length (put g.K.Ord.cmp c.args.key c.index_mut.result.now) ≤ 256 = omega (arith, put_longest g.K.Ord.cmp c.args.key c.index_mut.result.now, ap length same, c.len-2.ensures, c.if-len-lt-CHUNK.true) in
+    rw c.put.ensures (All-set IsSmall c.args.chunks.now.items c.position-at.result (put g.K.Ord.cmp c.args.key c.index_mut.result.now) few c.requires.small)
+
+pub returns-in-Some-take-clause-small : goal.returns-in-Some-take-clause-small
+returns-in-Some-take-clause-small g c =
+    let done : c.insert.new.self.items ≡ insert (set c.args.chunks.now.items c.position-at.result c.put_splitting.new.self) (c.position-at.result + 1) c.put_splitting.new.upper = search rules in
+    rw done (all_split IsSmall c.args.chunks.now.items c.position-at.result c.put_splitting.new.self c.put_splitting.new.upper c.requires.small c.put_splitting.ensures.small c.put_splitting.ensures.small_upper)
+
+pub returns-in-Some-clause-small : goal.returns-in-Some-clause-small
+returns-in-Some-clause-small g c =
+    let empty : c.args.chunks.now.items ≡ [] = no_items c.args.chunks.now.items (omega (arith, c.len.ensures)) in
+    let done : c.push-in-Some.new.self.items ≡ (c.args.key ∷ []) ∷ [] = search rules in
+    rw done (all_one IsSmall (c.args.key ∷ []) (omega arith))

@@ -1,11 +1,8 @@
-use Rattle.std.proofs.Common.{◌≡◌, ap, sym, subst, List, ◌∙◌, arith}
-use Rattle.std.proofs.lemmas.List.{nil_from_length}
-use Rattle.tca_report.specs.report.Reports.{PacketReport, report_cmp}
+use Rattle.std.proofs.Common.{◌≡◌, ap, ◌∙◌, arith}
+use Rattle.tca_report.specs.report.Reports.{report_cmp}
 use Rattle.tca_report.proofs.lemmas.report.Order.{report_total}
-use Rattle.tca_log.specs.Rows.Ordered.{put_each, without_each}
-use Rattle.tca_report.specs.report.Identities.{identity_cmp}
-use Rattle.tca_log.specs.Logs.{index_cmp, IsLog}
-use Rattle.tca_log.proofs.OrderedRows.Each.{put_each_none, undone_all}
+use Rattle.tca_log.specs.Rows.Ordered.{without_each}
+use Rattle.tca_log.proofs.OrderedRows.Each.{undone_all}
 use Rattle.tca_log.proofs.Uniting.{additions, few_fresh, few_newly_disputed, united_log}
 use Rattle.tca_log.proofs.union.take_with_index.Goals as goal
 
@@ -26,39 +23,6 @@ put_additions-requires-clause-apart_disputed g c =
 
 pub put_additions-requires-clause-few_disputed : goal.put_additions-requires-clause-few_disputed
 put_additions-requires-clause-few_disputed g c =
-    let t = c.in_ok-additions.ensures in
-    omega (arith, few_newly_disputed c.args.rows.now.rows c.args.index.now.rows c.args.disputed.now.rows c.args.news.rows t.0 c.in_ok-additions.additions c.requires.log t.1 t.2, c.requires.log.fewer_disputed, c.requires.few)
-
-pub returns-then-len-eq0-clause-ok : goal.returns-then-len-eq0-clause-ok
-returns-then-len-eq0-clause-ok g c =
-    let none = nil_from_length c.args.rows.now.rows (omega (arith, c.len.ensures.length, c.if-len-eq0.true)) in
-    sym (ap (put_each report_cmp c.args.news.rows) none ∙ put_each_none report_cmp report_total c.args.news.rows c.requires.rises)
-
-pub returns-then-len-eq0-clause-log : goal.returns-then-len-eq0-clause-log
-returns-then-len-eq0-clause-log g c =
-    let t = c.in_ok-additions.ensures in
-    let none = nil_from_length c.args.rows.now.rows (omega (arith, c.len.ensures.length, c.if-len-eq0.true)) in
-    let same = ap (put_each report_cmp c.args.news.rows) none ∙ put_each_none report_cmp report_total c.args.news.rows c.requires.rises in
-    let all = united_log c.args.rows.now.rows c.args.index.now.rows c.args.disputed.now.rows c.args.news.rows t.0 c.in_ok-additions.additions c.requires.log t.1 t.2 c.requires.rises c.requires.apart c.requires.few in
-    rw (c.in_ok-put_additions.ensures.index, c.in_ok-put_additions.ensures.disputed) (subst (λ (l : List PacketReport). IsLog l (put_each index_cmp c.in_ok-additions.additions.fresh c.args.index.now.rows) (put_each identity_cmp c.in_ok-additions.additions.newly_disputed c.args.disputed.now.rows)) same all)
-
-pub put_additions-requires-2-clause-apart : goal.put_additions-requires-2-clause-apart
-put_additions-requires-2-clause-apart g c =
-    let t = c.in_ok-additions.ensures in
-    (additions c.args.rows.now.rows c.args.index.now.rows c.args.disputed.now.rows c.args.news.rows t.0 c.in_ok-additions.additions c.requires.log t.1 t.2).apart
-
-pub put_additions-requires-2-clause-few : goal.put_additions-requires-2-clause-few
-put_additions-requires-2-clause-few g c =
-    let t = c.in_ok-additions.ensures in
-    omega (arith, few_fresh c.args.rows.now.rows c.args.index.now.rows c.args.disputed.now.rows c.args.news.rows t.0 c.in_ok-additions.additions c.requires.log t.1 t.2, c.requires.log.fewer, c.requires.few)
-
-pub put_additions-requires-2-clause-apart_disputed : goal.put_additions-requires-2-clause-apart_disputed
-put_additions-requires-2-clause-apart_disputed g c =
-    let t = c.in_ok-additions.ensures in
-    (additions c.args.rows.now.rows c.args.index.now.rows c.args.disputed.now.rows c.args.news.rows t.0 c.in_ok-additions.additions c.requires.log t.1 t.2).apart_disputed
-
-pub put_additions-requires-2-clause-few_disputed : goal.put_additions-requires-2-clause-few_disputed
-put_additions-requires-2-clause-few_disputed g c =
     let t = c.in_ok-additions.ensures in
     omega (arith, few_newly_disputed c.args.rows.now.rows c.args.index.now.rows c.args.disputed.now.rows c.args.news.rows t.0 c.in_ok-additions.additions c.requires.log t.1 t.2, c.requires.log.fewer_disputed, c.requires.few)
 

@@ -1,10 +1,9 @@
 -- The messages of a stream, read one after the other.
-use Rattle.std.proofs.Common.{◌≡◌, ℕ, suc, ◌+◌, ◌≤◌, ◌<◌, List, [], ◌∷◌, ◌++◌, length, drop, get_or, add-one, drop-cons, Result, Ok, Err, refl, sym, ap, ap₂, subst, ◌∙◌, arith, append_assoc}
+use Rattle.std.proofs.Common.{◌≡◌, ℕ, ◌+◌, List, [], ◌∷◌, ◌++◌, length, Result, Ok, Err, refl, sym, ap, ap₂, subst, ◌∙◌, arith, append_assoc}
 use Rattle.std.specs.List.{concat}
-use Rattle.std.proofs.lemmas.List.{length-append, length-drop, append-nil, nil_from_length}
-use Rattle.std.specs.Global.{Vec}
+use Rattle.std.proofs.lemmas.List.{length-append, append-nil}
 use Rattle.tca_wire.specs.Results.{◌>>=◌}
-use Rattle.tca_wire.specs.Frames.{IsFaulty, Framing, Holds, Failed, IsStream, frames_of, octets_of}
+use Rattle.tca_wire.specs.Frames.{IsFaulty, Framing, Holds, Failed, IsStream, frames_of}
 use Rattle.tca_wire.specs.declared.fault.WireFault.{WireFault}
 use Rattle.tca_wire.specs.declared.fault.WireFault.TheVariants.{Short, BadVersion, BadLength, SetLength, SetPastEnd, Trailing, Memory}
 use Rattle.tca_wire.proofs.Framings.{joined, version_front, length_front}
@@ -94,14 +93,3 @@ all_next at so_far next m ms e = ap (λ (r : Result CaptureSoFar InputFault). (r
 pub all_refused : (at : ℕ) (so_far : CaptureSoFar) (m : List ℕ) (ms : List (List ℕ)) (fault : InputFault) → capture_with at so_far m ≡ Err fault → capture_after at so_far (m ∷ ms) ≡ Err fault
 unfolding capture_after
 all_refused at so_far m ms fault e = ap (λ (r : Result CaptureSoFar InputFault). (r >>= (λ now. capture_after (at + length m) now ms))) e
-
--- the messages of a list, from one on
-pub rest_next : (messages : List (Vec ℕ)) (i : ℕ) (item : Vec ℕ) (octets : List ℕ) → i < length messages → item ≡ get_or messages i item → octets ≡ item.items
-    → octets_of (drop i messages) ≡ octets ∷ octets_of (drop (i + 1) messages)
-rest_next messages i item octets lt here same =
-    rw (add-one)
-    (ap (λ z. octets_of z) (drop-cons messages i item lt)
-    ∙ ap (λ (z : List ℕ). z ∷ octets_of (drop (suc i) messages)) (ap (λ (m : Vec ℕ). m.items) (sym here) ∙ sym same))
-
-pub none_left : (messages : List (Vec ℕ)) (i : ℕ) → length messages ≤ i → octets_of (drop i messages) ≡ []
-none_left messages i le = ap (λ z. octets_of z) (nil_from_length (drop i messages) (omega (arith, length-drop i messages)))

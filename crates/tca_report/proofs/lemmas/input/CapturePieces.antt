@@ -10,7 +10,7 @@ use Rattle.tca_wire.proofs.Framings.{joined}
 use Rattle.tca_report.specs.report.Reports.{PacketReport}
 use Rattle.tca_report.specs.input.Inputs.{CaptureSoFar, nothing, capture_after, ended, capture_of}
 use Rattle.tca_report.specs.input.Gathered.{gathered_of}
-use Rattle.tca_report.specs.input.CaptureReaders.{Agrees, HasRead}
+use Rattle.tca_report.specs.input.CaptureReaders.{noted, Agrees, HasRead}
 use Rattle.tca_report.specs.declared.input.InputFault.{InputFault}
 use Rattle.tca_report.specs.declared.input.InputFault.TheVariants.{Wire}
 use Rattle.tca_report.specs.declared.input.Notes.{Notes}
@@ -83,7 +83,7 @@ no_memory_at_end octets framer p fault r e =
     λ m. cc
 
 -- a capture that ends behind a message
-pub all_gathered : (octets : List ℕ) (framer : Framing) (p : CaptureReader) → HasRead octets framer p → ending framer ≡ Ok tt → gathered_of (capture_of octets) ≡ Ok (p.reports.items, p.notes)
+pub all_gathered : (octets : List ℕ) (framer : Framing) (p : CaptureReader) → HasRead octets framer p → ending framer ≡ Ok tt → gathered_of (capture_of octets) ≡ Ok (p.taken.reports.items, noted p)
 all_gathered octets framer p r e =
     let well = ends_well (length (concat r.messages)) r.held r.so_far (ap ending (sym r.holds) ∙ e) in
     ap gathered_of (capture_ends octets r.messages (Holds r.held) r.so_far r.stream r.read ∙ well)

@@ -1,15 +1,13 @@
 -- A reader that holds what has come of a capture still does with one message more.
-use Rattle.std.proofs.Common.{◌≡◌, ℕ, ◌+◌, ◌≤◌, List, [], ◌∷◌, ◌++◌, length, take, drop, Option, Some, None, Result, Ok, Err, refl, sym, ap, ap₂, ◌∙◌, arith, length-append}
+use Rattle.std.proofs.Common.{◌≡◌, ℕ, ◌+◌, ◌^◌, ◌<◌, ◌≤◌, List, [], ◌∷◌, ◌++◌, length, take, Option, Some, None, Result, Ok, Err, refl, sym, ap, ap₂, ◌∙◌, arith, length-append}
 use Rattle.std.specs.Prelude.{is_some}
 use Rattle.std.specs.Int.{from_bool}
 use Rattle.tca_wire.specs.Messages.{message_of}
 use Rattle.tca_wire.specs.declared.message.Header.{Header}
 use Rattle.tca_wire.specs.declared.message.SetSpan.{SetSpan}
 use Rattle.tca_wire.specs.declared.fault.WireFault.{WireFault}
-use Rattle.tca_templates.specs.declared.record.Row.{Row}
 use Rattle.tca_templates.specs.Templates.{Templates}
-use Rattle.tca_templates.specs.Records.{FieldView, PlacedView}
-use Rattle.tca_templates.specs.Fields.{records_of}
+use Rattle.tca_templates.specs.Records.{PlacedView}
 use Rattle.tca_templates.specs.Reading.{ReadMessage, read_of}
 use Rattle.tca_templates.specs.declared.fault.DecodeFault.{DecodeFault}
 use Rattle.tca_report.specs.report.Reports.{PacketReport}
@@ -36,10 +34,6 @@ pub reasons_few : (records : List PlacedView) → length (reasons_of records) �
 reasons_few [] = omega arith
 reasons_few (r ∷ rs) = let more = reasons_few rs in let one = taken_more (extract_of r) (reasons_of rs) in omega (arith, more, one)
 
-pub as_many_records : (domain : ℕ) (fields : List FieldView) (rows : List Row) → length (records_of domain fields rows) ≡ length rows
-as_many_records domain fields [] = refl
-as_many_records domain fields (r ∷ rs) = let more = as_many_records domain (drop r.count fields) rs in omega (arith, more)
-
 pub one_at_most : (unplaced : Option ℕ) → one_if unplaced ≤ 1
 one_at_most None = omega arith
 one_at_most (Some id) = omega arith
@@ -47,19 +41,20 @@ one_at_most (Some id) = omega arith
 -- the progress goes on by a message of so many octets
 pub record GoesOn (p q : CaptureReader) (given : ReadMessage) (size : ℕ) : Type 0 where
   pub templates : q.decoder ≡ given.templates
-  pub reports : q.reports.items ≡ p.reports.items ++ reports_of given.records
-  pub not_reports : (reasons : List NotReport) → p.notes.not_reports ≡ counts_of reasons → q.notes.not_reports ≡ counts_of (reasons ++ reasons_of given.records)
-  pub messages : q.notes.messages ≡ p.notes.messages + 1
-  pub unplaced : q.notes.unplaced ≡ p.notes.unplaced + one_if given.unplaced
-  pub skipped : q.notes.skipped ≡ p.notes.skipped + given.skipped
+  pub reports : q.taken.reports.items ≡ p.taken.reports.items ++ reports_of given.records
+  pub not_reports : (reasons : List NotReport) → p.taken.not_reports ≡ counts_of reasons → length reasons + length given.records < 2 ^ 64 → q.taken.not_reports ≡ counts_of (reasons ++ reasons_of given.records)
+  pub messages : q.messages ≡ p.messages + 1
+  pub unplaced : q.unplaced ≡ p.unplaced + one_if given.unplaced
+  pub skipped : q.skipped ≡ p.skipped + given.skipped
   pub at : q.at ≡ p.at + size
   pub some : 1 ≤ size
   pub few : length given.records ≤ size
   pub few_skipped : given.skipped ≤ size
+  pub within : p.at + size < 2 ^ 64
 
 pub agrees_more : (p q : CaptureReader) (so_far : CaptureSoFar) (given : ReadMessage) (size : ℕ) → Agrees p so_far → GoesOn p q given size → Agrees q (with_message so_far given)
 agrees_more p q so_far given size k g =
-    let counts = g.not_reports so_far.reasons (ap (λ (n : Notes). n.not_reports) k.notes) in
+    let counts = g.not_reports so_far.reasons (ap (λ (n : Notes). n.not_reports) k.notes) (omega (arith, k.reasons, g.few, g.within)) in
     let messages = g.messages ∙ ap (λ (n : Notes). n.messages + 1) k.notes in
     let unplaced = g.unplaced ∙ ap (λ (n : Notes). n.unplaced + one_if given.unplaced) k.notes in
     let skipped = g.skipped ∙ ap (λ (n : Notes). n.skipped + given.skipped) k.notes in

@@ -1,76 +1,128 @@
-use Rattle.std.proofs.Common.{◌+◌, sym, ap, ◌∙◌, List}
+use Rattle.std.proofs.Common.{◌≡◌, ◌+◌, refl, sym, ap, ◌∙◌}
 use Rattle.std.proofs.lemmas.Result.{err_from_is_err_and}
-use Rattle.std.specs.Prelude.{Result, true, false, ℕ}
-use Rattle.tca_wire.specs.Walks.{walk}
-use Rattle.tca_templates.specs.declared.fault.DecodeFault.{DecodeFault}
-use Rattle.tca_templates.specs.Specifiers.{template_front}
-use Rattle.tca_templates.specs.Records.{PlacedView, data_front}
-use Rattle.tca_templates.specs.Reading.{with_templates, with_records}
-use Rattle.tca_templates.specs.Fields.{read_message_of, template_of}
+use Rattle.std.specs.Prelude.{Some, Err, true, false}
+use Rattle.std.specs.Option.{is_some}
+use Rattle.tca_templates.specs.Templates.{Templates, known}
+use Rattle.tca_templates.specs.Fields.{template_of, templates_of}
 use Rattle.tca_templates.proofs.Sets.{set_2, set_3, set_skipped, set_stopped, set_unknown, set_known}
+use Rattle.tca_templates.specs.declared.fault.DecodeFault.TheVariants.{Memory}
+use Rattle.tca_templates.specs.Specifiers.{template_front}
+use Rattle.tca_templates.specs.Records.{data_front}
+use Rattle.tca_templates.specs.Reading.{body_of}
+use Rattle.tca_templates.specs.Wants.{TemplateSet, OptionsTemplateSet, DataSet}
+use Rattle.tca_templates.proofs.TakingSteps.{set_changes, set_records}
+use Rattle.tca_templates.proofs.Wanting.{wanted_at, none_is}
 use Rattle.tca_templates.proofs.reading.read_set.Goals as goal
 
 pub returns-in_err-read_templates-clause-exact : goal.returns-in_err-read_templates-clause-exact
-returns-in_err-read_templates-clause-exact c =
+returns-in_err-read_templates-clause-exact g c =
     let m = c.args.message.now in
-    let given = read_message_of m.header.domain c.args.templates.now.entries c.args.rows.now.items c.args.fields.now.items c.args.aside.unplaced c.args.aside.skipped in
     let p = err_from_is_err_and c.from_residual.result c.from_residual.ensures.1 in
-    rw (p.1, p.2) (λ ne. set_2 m.header m.octets.now given c.args.set c.if-set-eq2.true
-    ∙ ap (with_templates given) (ap (walk (template_front m.header.domain false) given.templates (c.args.set.at + 4)) (sym c.set_body-body.ensures) ∙ c.in_err-read_templates.ensures ne))
+    rw (p.1, p.2) (λ start given come other.
+    set_changes m.header m.octets.now given c.args.set false (templates_of c.args.templates.now.entries) c.set_body-body.result.now _ (set_2 m.header m.octets.now given c.args.set c.if-set-eq2.true) come.templates c.set_body-body.ensures
+    (c.in_err-read_templates.ensures.exact other))
 
 pub returns-then-set-eq2-clause-exact : goal.returns-then-set-eq2-clause-exact
-returns-then-set-eq2-clause-exact c =
-    let m = c.args.message.now in
-    let given = read_message_of m.header.domain c.args.templates.now.entries c.args.rows.now.items c.args.fields.now.items c.args.aside.unplaced c.args.aside.skipped in
-    set_2 m.header m.octets.now given c.args.set c.if-set-eq2.true
-    ∙ ap (with_templates given) (ap (walk (template_front m.header.domain false) given.templates (c.args.set.at + 4)) (sym c.set_body-body.ensures) ∙ c.in_ok-read_templates.ensures)
+returns-then-set-eq2-clause-exact g c = λ start given come.
+    let m = c.args.message.now in (
+      record given { templates = templates_of c.read_templates.new.templates.entries },
+      set_changes m.header m.octets.now given c.args.set false (templates_of c.args.templates.now.entries) c.set_body-body.result.now _ (set_2 m.header m.octets.now given c.args.set c.if-set-eq2.true) come.templates c.set_body-body.ensures
+          c.in_ok-read_templates.ensures.exact,
+      record { templates = refl; records = come.records; count = come.count; unplaced = come.unplaced; skipped = come.skipped },
+    )
 
 pub returns-in_err-read_templates-2-clause-exact : goal.returns-in_err-read_templates-2-clause-exact
-returns-in_err-read_templates-2-clause-exact c =
+returns-in_err-read_templates-2-clause-exact g c =
     let m = c.args.message.now in
-    let given = read_message_of m.header.domain c.args.templates.now.entries c.args.rows.now.items c.args.fields.now.items c.args.aside.unplaced c.args.aside.skipped in
     let p = err_from_is_err_and c.from_residual-in_err-read_templates-2.result c.from_residual-in_err-read_templates-2.ensures.1 in
-    rw (p.1, p.2) (λ ne. set_3 m.header m.octets.now given c.args.set c.if-set-eq2.false c.if-set-eq3.true
-    ∙ ap (with_templates given) (ap (walk (template_front m.header.domain true) given.templates (c.args.set.at + 4)) (sym c.set_body-body.ensures) ∙ c.in_err-read_templates-2.ensures ne))
+    rw (p.1, p.2) (λ start given come other.
+    set_changes m.header m.octets.now given c.args.set true (templates_of c.args.templates.now.entries) c.set_body-body.result.now _ (set_3 m.header m.octets.now given c.args.set c.if-set-eq2.false c.if-set-eq3.true) come.templates c.set_body-body.ensures
+    (c.in_err-read_templates-2.ensures.exact other))
 
 pub returns-then-set-eq3-clause-exact : goal.returns-then-set-eq3-clause-exact
-returns-then-set-eq3-clause-exact c =
-    let m = c.args.message.now in
-    let given = read_message_of m.header.domain c.args.templates.now.entries c.args.rows.now.items c.args.fields.now.items c.args.aside.unplaced c.args.aside.skipped in
-    set_3 m.header m.octets.now given c.args.set c.if-set-eq2.false c.if-set-eq3.true
-    ∙ ap (with_templates given) (ap (walk (template_front m.header.domain true) given.templates (c.args.set.at + 4)) (sym c.set_body-body.ensures) ∙ c.in_ok-read_templates-2.ensures)
+returns-then-set-eq3-clause-exact g c = λ start given come.
+    let m = c.args.message.now in (
+      record given { templates = templates_of c.read_templates-then-set-eq3.new.templates.entries },
+      set_changes m.header m.octets.now given c.args.set true (templates_of c.args.templates.now.entries) c.set_body-body.result.now _ (set_3 m.header m.octets.now given c.args.set c.if-set-eq2.false c.if-set-eq3.true) come.templates c.set_body-body.ensures
+          c.in_ok-read_templates-2.ensures.exact,
+      record { templates = refl; records = come.records; count = come.count; unplaced = come.unplaced; skipped = come.skipped },
+    )
 
 pub returns-then-set-lt256-clause-exact : goal.returns-then-set-lt256-clause-exact
-returns-then-set-lt256-clause-exact c =
-    let m = c.args.message.now in
-    let given = read_message_of m.header.domain c.args.templates.now.entries c.args.rows.now.items c.args.fields.now.items c.args.aside.unplaced c.args.aside.skipped in
-    set_skipped m.header m.octets.now given c.args.set c.if-set-eq2.false c.if-set-eq3.false c.if-set-lt256.true
+returns-then-set-lt256-clause-exact g c = λ start given come.
+    let m = c.args.message.now in (
+      record given { skipped = given.skipped + 1 },
+      set_skipped m.header m.octets.now given c.args.set c.if-set-eq2.false c.if-set-eq3.false c.if-set-lt256.true,
+      record { templates = come.templates; records = come.records; count = come.count; unplaced = come.unplaced; skipped = ap (λ n. n + 1) come.skipped },
+    )
 
 pub returns-then-is_some-clause-exact : goal.returns-then-is_some-clause-exact
-returns-then-is_some-clause-exact c =
-    let m = c.args.message.now in
-    let given = read_message_of m.header.domain c.args.templates.now.entries c.args.rows.now.items c.args.fields.now.items c.args.aside.unplaced c.args.aside.skipped in
-    set_stopped m.header m.octets.now given c.args.set c.if-set-eq2.false c.if-set-eq3.false c.if-set-lt256.false (sym c.is_some.ensures ∙ c.if-is_some.true)
+returns-then-is_some-clause-exact g c = λ start given come.
+    let m = c.args.message.now in (
+      given,
+      set_stopped m.header m.octets.now given c.args.set c.if-set-eq2.false c.if-set-eq3.false c.if-set-lt256.false (ap is_some come.unplaced ∙ sym c.is_some.ensures ∙ c.if-is_some.true),
+      come,
+    )
 
 pub returns-in_default-clause-exact : goal.returns-in_default-clause-exact
-returns-in_default-clause-exact c =
-    let m = c.args.message.now in
-    let given = read_message_of m.header.domain c.args.templates.now.entries c.args.rows.now.items c.args.fields.now.items c.args.aside.unplaced c.args.aside.skipped in
-    set_unknown m.header m.octets.now given c.args.set c.if-set-eq2.false c.if-set-eq3.false c.if-set-lt256.false (sym c.is_some.ensures ∙ c.if-is_some.false) (sym c.in_default.ensures)
+returns-in_default-clause-exact g c = λ start given come.
+    let m = c.args.message.now in (
+      record given { unplaced = Some c.args.set.id },
+      set_unknown m.header m.octets.now given c.args.set c.if-set-eq2.false c.if-set-eq3.false c.if-set-lt256.false (ap is_some come.unplaced ∙ sym c.is_some.ensures ∙ c.if-is_some.false)
+          (ap (λ (ts : Templates). known (m.header.domain, c.args.set.id) ts) come.templates ∙ sym c.in_default.ensures),
+      record { templates = come.templates; records = come.records; count = come.count; unplaced = refl; skipped = come.skipped },
+    )
 
-pub returns-in_err-read_records-clause-exact : goal.returns-in_err-read_records-clause-exact
-returns-in_err-read_records-clause-exact c =
+pub returns-in_err-count-clause-exact : goal.returns-in_err-count-clause-exact
+returns-in_err-count-clause-exact g c =
     let m = c.args.message.now in
-    let given = read_message_of m.header.domain c.args.templates.now.entries c.args.rows.now.items c.args.fields.now.items c.args.aside.unplaced c.args.aside.skipped in
-    let on : List ℕ → Result (List PlacedView) DecodeFault = λ b. walk (data_front m.header (template_of c.in-Some.template.now)) given.records (c.args.set.at + 4) b in
-    let p = err_from_is_err_and c.from_residual-in_err-read_records.result c.from_residual-in_err-read_records.ensures.1 in
-    rw (p.1, p.2) (λ ne. set_known m.header m.octets.now given c.args.set c.if-set-eq2.false c.if-set-eq3.false c.if-set-lt256.false (sym c.is_some.ensures ∙ c.if-is_some.false) (template_of c.in-Some.template.now) (sym c.in-Some.ensures)
-    ∙ ap (with_records given) (ap on (sym c.set_body-body.ensures) ∙ c.in_err-read_records.ensures.exact ne))
+    let t = template_of c.in-Some.template.now in
+    let p = err_from_is_err_and c.from_residual-in_err-count.result c.from_residual-in_err-count.ensures.1 in
+    rw (p.1, p.2) (λ start given come other.
+    set_records m.header m.octets.now given c.args.set t c.set_body-body.result.now _
+    (set_known m.header m.octets.now given c.args.set c.if-set-eq2.false c.if-set-eq3.false c.if-set-lt256.false (ap is_some come.unplaced ∙ sym c.is_some.ensures ∙ c.if-is_some.false) t
+    (ap (λ (ts : Templates). known (m.header.domain, c.args.set.id) ts) come.templates ∙ sym c.in-Some.ensures))
+    c.set_body-body.ensures (c.in_err-count.ensures.exact start given.records (come.records, come.count) other))
 
 pub returns-clause-exact : goal.returns-clause-exact
-returns-clause-exact c =
+returns-clause-exact g c = λ start given come.
     let m = c.args.message.now in
-    let given = read_message_of m.header.domain c.args.templates.now.entries c.args.rows.now.items c.args.fields.now.items c.args.aside.unplaced c.args.aside.skipped in
-    let on : List ℕ → Result (List PlacedView) DecodeFault = λ b. walk (data_front m.header (template_of c.in-Some.template.now)) given.records (c.args.set.at + 4) b in
-    set_known m.header m.octets.now given c.args.set c.if-set-eq2.false c.if-set-eq3.false c.if-set-lt256.false (sym c.is_some.ensures ∙ c.if-is_some.false) (template_of c.in-Some.template.now) (sym c.in-Some.ensures)
-    ∙ ap (with_records given) (ap on (sym c.set_body-body.ensures) ∙ c.in_ok-read_records.ensures.exact)
+    let t = template_of c.in-Some.template.now in
+    let read = c.in_ok-count.ensures.exact start given.records (come.records, come.count) in (
+      record given { records = read.0 },
+      set_records m.header m.octets.now given c.args.set t c.set_body-body.result.now _
+          (set_known m.header m.octets.now given c.args.set c.if-set-eq2.false c.if-set-eq3.false c.if-set-lt256.false (ap is_some come.unplaced ∙ sym c.is_some.ensures ∙ c.if-is_some.false) t
+          (ap (λ (ts : Templates). known (m.header.domain, c.args.set.id) ts) come.templates ∙ sym c.in-Some.ensures))
+          c.set_body-body.ensures read.1,
+      record { templates = come.templates; records = read.2.0; count = read.2.1; unplaced = come.unplaced; skipped = come.skipped },
+    )
+
+pub returns-in_err-read_templates-clause-wanted : goal.returns-in_err-read_templates-clause-wanted
+returns-in_err-read_templates-clause-wanted g c =
+    let m = c.args.message.now in
+    let p = err_from_is_err_and c.from_residual.result c.from_residual.ensures.1 in
+    rw (p.1, p.2) (λ memory start given come.
+    let same : c.in_err-read_templates.field-0.0 ≡ Memory = cc in
+    TemplateSet c.if-set-eq2.true (wanted_at (template_front m.header.domain false) given.templates (templates_of c.args.templates.now.entries) (c.args.set.at + 4) (body_of m.octets.now c.args.set) c.set_body-body.result.now
+    come.templates (sym c.set_body-body.ensures) (c.in_err-read_templates.ensures.wanted (ap (λ f. Err f) same))))
+
+pub returns-in_err-read_templates-2-clause-wanted : goal.returns-in_err-read_templates-2-clause-wanted
+returns-in_err-read_templates-2-clause-wanted g c =
+    let m = c.args.message.now in
+    let p = err_from_is_err_and c.from_residual-in_err-read_templates-2.result c.from_residual-in_err-read_templates-2.ensures.1 in
+    rw (p.1, p.2) (λ memory start given come.
+    let same : c.in_err-read_templates-2.field-0.0 ≡ Memory = cc in
+    OptionsTemplateSet c.if-set-eq3.true (wanted_at (template_front m.header.domain true) given.templates (templates_of c.args.templates.now.entries) (c.args.set.at + 4) (body_of m.octets.now c.args.set) c.set_body-body.result.now
+    come.templates (sym c.set_body-body.ensures) (c.in_err-read_templates-2.ensures.wanted (ap (λ f. Err f) same))))
+
+pub returns-in_err-count-clause-wanted : goal.returns-in_err-count-clause-wanted
+returns-in_err-count-clause-wanted g c =
+    let m = c.args.message.now in
+    let t = template_of c.in-Some.template.now in
+    let p = err_from_is_err_and c.from_residual-in_err-count.result c.from_residual-in_err-count.ensures.1 in
+    rw (p.1, p.2) (λ memory start given come.
+    let same : c.in_err-count.field-0.0 ≡ Memory = cc in
+    DataSet c.if-set-lt256.false (come.unplaced ∙ none_is c.args.aside.unplaced (sym c.is_some.ensures ∙ c.if-is_some.false)) t
+    (ap (λ (ts : Templates). known (m.header.domain, c.args.set.id) ts) come.templates ∙ sym c.in-Some.ensures)
+    (wanted_at (data_front m.header t) given.records given.records (c.args.set.at + 4) (body_of m.octets.now c.args.set) c.set_body-body.result.now refl (sym c.set_body-body.ensures)
+    (c.in_err-count.ensures.wanted (ap (λ f. Err f) same) start given.records (come.records, come.count))))

@@ -10,4 +10,6 @@ invariant_of-result g c =
       limit = omega arith;
       spare = tt;
       spare_fits = λ e. absurd cc;
+      small_with_spare = λ e. absurd cc;
+      small_if_many = λ h. absurd (omega arith);
     })

@@ -14,4 +14,6 @@ invariant_of-self g c =
       limit = omega (arith, more, ap (λ v. length v.rows) c.self.view_is);
       spare = c.put_in.ensures.spare;
       spare_fits = λ e. omega (arith, c.put_in.ensures.room e);
+      small_with_spare = λ e. c.put_in.ensures.small;
+      small_if_many = λ h. c.put_in.ensures.small;
     }

@@ -2,6 +2,7 @@ use Rattle.std.proofs.Common.{◌+◌, ◌≤◌, List, length, take, sym, ap, �
 use Rattle.tca_log.specs.Rows.Chunks.{joined, IsPosition}
 use Rattle.tca_log.specs.Rows.Ordered.{rank}
 use Rattle.tca_log.proofs.OrderedRows.Ranks.{rank_place, rank_none, front-le}
+use Rattle.tca_log.proofs.OrderedRows.Small.{here-le}
 use Rattle.tca_log.proofs.OrderedRows.Whole.{rises_here, here}
 use Rattle.tca_log.proofs.rows.Rows.rank.Goals as goal
 
@@ -18,7 +19,9 @@ rank-requires g c =
 pub overflow_add-result : goal.overflow_add-result
 overflow_add-result g c =
     let few : length (joined (take c.position-at.result c.deref-2.result.now)) ≤ 4194304 = rw c.deref-2.ensures.value (omega (arith, front-le g.K.Ord.cmp g.met.K.Ord.total c.self.inside.chunks.items c.position-at.result (rw c.deref.ensures.value at c.position-at.ensures).inside, c.self.invariant.limit)) in
-    omega (arith, c.count_of.ensures, c.rank.ensures.limit, few)
+    let at = rw c.deref.ensures.value at c.position-at.ensures in
+    let size : length c.index.result.now ≤ 4194304 = omega (arith, ap length (here g.K.Ord.cmp g.met.K.Ord.total c.self.inside.chunks.items c.position-at.result c.index.result.now at.inside c.index.ensures), here-le c.self.inside.chunks.items c.position-at.result at.inside, c.self.invariant.limit) in
+    omega (arith, c.count_of.ensures, c.rank.ensures.limit, few, size)
 
 pub returns : goal.returns
 returns g c =

@@ -25,4 +25,6 @@ invariant_of-self g c =
       limit = omega (arith, less, c.self.invariant.limit);
       spare = c.self.invariant.spare;
       spare_fits = λ e. omega (arith, c.self.invariant.spare_fits e, c.take_from.ensures.fewer, c.take_from.ensures.capacity);
+      small_with_spare = λ e. c.take_from.ensures.small (c.self.invariant.small_with_spare e);
+      small_if_many = λ h. c.take_from.ensures.small (c.self.invariant.small_if_many (omega (arith, c.take_from.ensures.fewer, h)));
     }

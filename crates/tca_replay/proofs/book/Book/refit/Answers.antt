@@ -3,9 +3,9 @@ use Rattle.tca_meters.specs.declared.any_meter.AnyMeter.{AnyMeter}
 use Rattle.std.proofs.Common.{List}
 use Rattle.tca_log.specs.Disputes.{disputed}
 use Rattle.tca_replay.specs.Lanes.{LaneView}
-use Rattle.tca_replay.specs.Books.{BookView, Fits, all_steps}
+use Rattle.tca_replay.specs.Books.{BookView, Fits, all_steps, row_count}
 use Rattle.tca_replay.proofs.Books.{fits_settled, lanes_resumed}
-use Rattle.tca_replay.proofs.Filling.{fits_filled}
+use Rattle.tca_replay.proofs.Filling.{fits_filled, row_counts}
 use Rattle.tca_replay.proofs.Loops.{resumed_steps}
 use Rattle.tca_replay.proofs.Totals.{settled_all}
 use Rattle.tca_replay.proofs.book.Book.refit.Goals as goal
@@ -33,3 +33,6 @@ invariant_of-self g c = record {
   some = c.self.invariant.some;
   small = c.self.invariant.small;
 }
+
+pub returns-clause-all : goal.returns-clause-all
+returns-clause-all g c = omega (arith, c.resume_all-steps.ensures.all, row_counts c.in_ok-lanes.lanes.items c.in_ok-lanes.ensures.changed, ap (λ (ls : List (LaneView AnyMeter)). row_count ls) c.resume_all-steps.ensures.lanes)

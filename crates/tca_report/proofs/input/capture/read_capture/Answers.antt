@@ -1,5 +1,7 @@
 use Rattle.std.proofs.Common.{◌≡◌, ◌<◌, ◌++◌, ◌∙◌, ap, ap₂, sym, true, false, arith, append_assoc, length, length-append, take, drop, List, ℕ}
-use Rattle.std.specs.Prelude.{Err, ◌==◌}
+use Rattle.std.specs.Prelude.{Ok, Err, ◌==◌}
+use Rattle.tca_report.specs.report.Reports.{PacketReport}
+use Rattle.tca_report.specs.declared.input.Notes.{Notes}
 use Rattle.std.proofs.lemmas.Bool.Decides.{nat_tests}
 use Rattle.std.proofs.lemmas.List.{take-append-drop, append-nil, nil_from_length}
 use Rattle.std.proofs.lemmas.Result.{err_from_is_err_and}
@@ -22,15 +24,15 @@ some_left octets done rest whole some =
     let more : 0 < length rest = grind (arith, nat_tests, some) in
     omega (arith, more, ap length whole, length-append done rest)
 
-pub returns-in_err-take_piece : goal.returns-in_err-take_piece
-returns-in_err-take_piece c =
+pub returns-in_err-reader : goal.returns-in_err-reader
+returns-in_err-reader c =
     let s = c.loop-rest.invariant.so_far in
     let piece = c.split_at.result.0.now in
     let behind = c.split_at.result.1.now in
     let whole = cut c.args.octets.now s.0 c.loop-rest.rest.now piece behind c.min.result s.2 c.split_at.ensures.front c.split_at.ensures.back in
     let p = err_from_is_err_and c.from_residual.result c.from_residual.ensures.1 in
     record {
-      exact = rw (p.1, p.2) (λ ne. ap (λ z. gathered_of (capture_of z)) whole ∙ ap gathered_of (c.in_err-take_piece.ensures.err s.0 behind s.1 ne));
+      exact = rw (p.1, p.2) (λ ne. ap (λ z. gathered_of (capture_of z)) whole ∙ ap gathered_of (c.in_err-reader.ensures.err s.0 behind s.1 ne));
       memory = λ _. some_left c.args.octets.now s.0 c.loop-rest.rest.now s.2 (sym c.is_empty.ensures ∙ c.loop-rest-test.true);
     }
 
@@ -40,7 +42,7 @@ loop-rest-preserved c =
     let piece = c.split_at.result.0.now in
     let behind = c.split_at.result.1.now in
     let whole = cut c.args.octets.now s.0 c.loop-rest.rest.now piece behind c.min.result s.2 c.split_at.ensures.front c.split_at.ensures.back in
-    record { so_far = (s.0 ++ piece, c.in_ok-take_piece.ensures.ok s.0 s.1, whole) }
+    record { so_far = (s.0 ++ piece, c.in_ok-reader.ensures.ok s.0 s.1, whole) }
 
 -- nothing is left
 whole_read : (octets done rest : List ℕ) → octets ≡ done ++ rest → (length rest == 0) ≡ true → octets ≡ done
@@ -51,7 +53,8 @@ returns-in-Ok c =
     let s = c.loop-rest.invariant.so_far in
     let whole = whole_read c.args.octets.now s.0 c.loop-rest.rest.now s.2 (sym c.is_empty.ensures ∙ c.loop-rest-test.false) in
     record {
-      exact = ap (λ z. gathered_of (capture_of z)) whole ∙ all_gathered s.0 c.loop-rest.framer c.loop-rest.reader s.1 (sym c.in-Ok.ensures);
+      exact = ap (λ z. gathered_of (capture_of z)) whole ∙ all_gathered s.0 c.loop-rest.framer c.loop-rest.reader s.1 (sym c.in-Ok.ensures)
+          ∙ ap₂ (λ (reports : List PacketReport) (notes : Notes). Ok (reports, notes)) (sym c.gathered.ensures.reports) (sym c.gathered.ensures.notes);
       memory = λ m. absurd cc;
     }
 

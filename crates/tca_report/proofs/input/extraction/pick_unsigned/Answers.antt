@@ -9,4 +9,4 @@ returns-clause-small c = λ le.
     let most : length v ≤ 4 = omega (arith, c.if-value-most.false) in
     let a = big_from-lt 0 (length v) v (λ k. omega (arith, c.type_inv.value k)) in
     let power : 256 ^ length v ≤ 256 ^ 4 = pow-le-pow_right {n = 256} (omega arith) {i = length v} {j = 4} most in
-    omega (arith, a, power, c.read_uint.ensures)
+    omega (arith, a, power, c.read_number.ensures)

@@ -1,5 +1,6 @@
-use Rattle.std.proofs.Common.{◌∙◌, ◌<◌, length, sym, arith}
+use Rattle.std.proofs.Common.{◌∙◌, ◌<◌, length, sym, ap, arith}
 use Rattle.tca_log.proofs.OrderedRows.Positions.{some_put}
+use Rattle.tca_log.proofs.OrderedRows.Small.{put_longest}
 use Rattle.tca_log.proofs.OrderedRows.Whole.{put_low, put_high, low_rises, high_rises}
 use Rattle.tca_log.proofs.rows.chunk.Chunk.put_splitting.Goals as goal
 
@@ -23,3 +24,11 @@ returns-else-starts_after-clause-all g c =
 
 pub returns-else-starts_after-clause-more : goal.returns-else-starts_after-clause-more
 returns-else-starts_after-clause-more g c = rw c.put-else-starts_after.ensures (some_put g.K.Ord.cmp g.met.K.Ord.total c.args.key c.split.new.upper)
+
+pub returns-then-starts_after-clause-small : goal.returns-then-starts_after-clause-small
+returns-then-starts_after-clause-small g c =
+    omega (arith, ap length c.put.ensures, put_longest g.K.Ord.cmp c.args.key c.split.new.self, c.split.ensures.lower c.requires.full)
+
+pub returns-else-starts_after-clause-small_upper : goal.returns-else-starts_after-clause-small_upper
+returns-else-starts_after-clause-small_upper g c =
+    omega (arith, ap length c.put-else-starts_after.ensures, put_longest g.K.Ord.cmp c.args.key c.split.new.upper, c.split.ensures.upper c.requires.full)

@@ -1,0 +1,62 @@
+//! Which identities of a set of reports are disputed.
+ghost use Rattle.std.specs.Prelude.{◌≡◌, ◌≤◌, IfOk, length, map, nat_lt};
+ghost use Rattle.std.specs.List.Sorted.{IsPermutation, IsSorted};
+ghost use Rattle.tca_join.specs.Sets.{has};
+ghost use Rattle.tca_report.specs.declared.report.Identity.{Identity};
+ghost use Rattle.tca_report.specs.report.Identities.{identity_cmp, identity_of};
+ghost use Rattle.tca_log.specs.Additions.{times};
+ghost use Rattle.tca_log.specs.Disputes.{disputed};
+ghost use Rattle.tca_log.specs.Rows.Ordered.{most_rows};
+
+use crate::ascending::places_ascend;
+use crate::rows::Rows;
+use std::alloc::{AllocError, Allocator};
+use tca_report::{Identity, Report};
+
+/// The identities that two or more of the reports have. It keeps nothing of the others.
+pub(crate) fn disputes_of<A: Allocator + Copy>(
+    reports: &Rows<Report, A>,
+) -> Result<Rows<Identity, A>, AllocError>
+    requires { length reports.now.rows ≤ most_rows }
+    ensures { IfOk result (λ all. all.rows ≡ disputed reports.now.rows) }
+{
+    let alloc = reports.allocator();
+    if places_ascend(alloc, reports)? {
+        return Ok(Rows::new(alloc));
+    }
+    let identities = identities_in_order(alloc, reports)?;
+    let mut disputed = repeated(alloc, &identities)?;
+    disputed.dedup();
+    Rows::of_ascending(alloc, disputed)
+}
+
+// The identities of the reports in their order.
+fn identities_in_order<A: Allocator + Copy>(
+    alloc: A,
+    reports: &Rows<Report, A>,
+) -> Result<Vec<Identity, A>, AllocError>
+    ensures all { IfOk result (λ all. IsPermutation (map identity_of reports.now.rows) all.items) }
+    ensures sorted { IfOk result (λ all. IsSorted identity_cmp all.items) }
+{
+    let mut identities = Vec::with_capacity(alloc, reports.len())?;
+    for report in reports.iter() {
+        identities.push(report.identity())?;
+    }
+    identities.sort_unstable();
+    Ok(identities)
+}
+
+// Each identity that the one before it equals: those that stand there twice, once for each further time.
+fn repeated<A: Allocator>(alloc: A, identities: &[Identity]) -> Result<Vec<Identity, A>, AllocError>
+    requires { IsSorted identity_cmp identities.now }
+    ensures twice { IfOk result (λ again. (i : Identity) → has identity_cmp again.items i ≡ nat_lt 1 (times identity_cmp i identities.now)) }
+    ensures sorted { IfOk result (λ again. IsSorted identity_cmp again.items) }
+{
+    let mut again = Vec::new(alloc);
+    for at in 1..identities.len() {
+        if identities[at] == identities[at - 1] {
+            again.push(identities[at])?;
+        }
+    }
+    Ok(again)
+}
