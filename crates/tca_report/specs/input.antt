@@ -2,5 +2,6 @@ pub mod Extract
 pub mod Inputs
 pub mod Captures
 pub mod FirstFaults
+pub mod Wants
 pub mod Gathered
 pub mod CaptureReaders

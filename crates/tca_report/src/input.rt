@@ -9,6 +9,7 @@ ghost use Rattle.tca_report.specs.export.FirstFaults.{IsFaultyExport};
 ghost use Rattle.tca_report.specs.input.Inputs.{CaptureSoFar, input_of, is_export, nothing};
 ghost use Rattle.tca_report.specs.input.Captures.{IsInput};
 ghost use Rattle.tca_report.specs.input.FirstFaults.{IsFirstFault};
+ghost use Rattle.tca_report.specs.input.Wants.{WantsMemory};
 ghost use Rattle.tca_report.specs.declared.input.InputFault.TheVariants as faults;
 ghost use Rattle.tca_report.specs.input.Gathered.{gathered_of, gathered_view, notes_of};
 
@@ -57,7 +58,7 @@ pub enum InputFault {
     /// A message has a fault in a template or in a data record.
     #[error("the message at offset {at} is refused: {fault}")]
     Decode { at: u64, fault: DecodeFault },
-    /// There was no memory for the reports, a message or its templates.
+    /// There was no memory for the reports, the list of a message's sets or its templates.
     #[error("out of memory")]
     Memory,
 }
@@ -120,8 +121,8 @@ fn has_magic(octets: &[u8]) -> bool
 /// a report is among the reports, in the order of the input; each other is counted in the notes.
 ///
 /// The first fault from the left refuses the whole input: that of a message's header or of its sets' lengths before
-/// one of its templates and records, `Short` where the capture ends within a message. An input without octets is a
-/// capture without messages.
+/// one of its templates and records, `Short` where the capture ends within a message. `Memory` is answered only where
+/// everything before that growth is right. An input without octets is a capture without messages.
 pub fn gather(alloc: Global, octets: &[u8]) -> Result<Gathered, InputFault>
     ensures exact { Gives InputFault.Memory gathered_view result (gathered_of (input_of octets.now)) }
 
@@ -133,6 +134,9 @@ pub fn gather(alloc: Global, octets: &[u8]) -> Result<Gathered, InputFault>
     ensures memory { IsErrOf result InputFault.Memory → 0 < length octets.now }
     ensures memory_last { IsErrOf result InputFault.Memory → is_export octets.now ≡ true
         → (rs : List PacketReport) × IsExportable rs × (octets.now ≡ export rs) × (0 < length rs) }
+
+    // Memory is wanted only where everything before is right.
+    ensures memory_wanted { result ≡ Err InputFault.Memory → WantsMemory octets.now }
 {
     if !has_magic(octets) {
         return read_capture(alloc, octets);

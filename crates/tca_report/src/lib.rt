@@ -1,10 +1,10 @@
 //! Packet reports, their order, the devices that octets come from and go to, the log export, and the reports of a
 //! capture of IPFIX messages (RFC 7011).
 //!
-//! `gather` reads either input. A capture is gone through in pieces; each of its octets is copied twice, into a buffer
-//! of a piece and into its message. A record's report is made of the fields that were chosen when its template was
-//! defined, in the octets of the message: but for the reports themselves nothing is allocated for a record. What is kept
-//! is the templates of one session, which are limited, and the reports.
+//! `gather` reads either input. A capture is gone through in pieces, and of it only a message that lies across two
+//! pieces is copied; without memory for that copy the rest is read where it lies. A record's report is made of the
+//! fields that were chosen when its template was defined, in the octets of the message: but for the reports themselves
+//! nothing is allocated for a record. What is kept is the templates of one session, which are limited, and the reports.
 //!
 //! - `report`: a report and the order of reports;
 //! - `device`: what octets come from and go to; in it `octets` reads and writes all of them, `limited` counts reads;

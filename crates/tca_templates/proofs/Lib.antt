@@ -9,7 +9,8 @@ pub mod TakingSteps
 pub mod Stored
 pub mod Changes
 pub mod Sets
-pub mod Copies
+pub mod Keys
+pub mod SlotLaws
 pub mod PartLaws
 pub mod TemplateSetLaws
 pub mod DataSetLaws

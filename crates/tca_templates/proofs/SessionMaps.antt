@@ -1,5 +1,5 @@
 -- What a session knows is a finite map, and stays one with each message.
-use Rattle.std.proofs.Common.{◌≡◌, ℕ, suc, ◌+◌, ◌%◌, ◌^◌, ◌<◌, ◌≤◌, Bool, true, false, cond, not, ◌&&◌, List, [], ◌∷◌, ◌++◌, length, Option, Some, None, is_none, Result, Ok, Err, filter, nat_lt, ◌==◌, refl, sym, ap, ap₂, subst, ◌∙◌, arith}
+use Rattle.std.proofs.Common.{◌≡◌, ℕ, suc, ◌+◌, ◌%◌, ◌^◌, ◌<◌, ◌≤◌, Bool, true, false, cond, not, ◌&&◌, List, [], ◌∷◌, ◌++◌, length, Option, Some, None, is_none, Result, Ok, Err, filter, nat_lt, refl, sym, ap, subst, ◌∙◌, arith}
 use Rattle.std.specs.List.{IsDistinct, AllByRecursion}
 use Rattle.std.specs.Map.{keys_of}
 use Rattle.std.proofs.lemmas.Bool.Decides.{nat_tests}
@@ -17,7 +17,7 @@ use Rattle.tca_templates.specs.DataSets.{placed_behind}
 use Rattle.tca_templates.specs.Parts.{InTurn}
 use Rattle.tca_templates.specs.Sessions.{IsSession, of_others, ArePlaced, IsSet, TemplateSet, OptionsTemplateSet, Skipped, DataSet, Unplaced, Unread, AreSets, IsReading}
 use Rattle.tca_templates.proofs.Choices.{refused, same_ok}
-use Rattle.tca_templates.proofs.Copies.{turned}
+use Rattle.tca_templates.proofs.Keys.{same_is, back, on, clash, turned}
 use Rattle.tca_templates.proofs.SessionLaws.{define_has, withdraw_has, filter_has}
 
 -- no two of one domain and identifier
@@ -26,32 +26,6 @@ IsOnce ts = IsDistinct same_key (keys_of ts)
 
 abbrev HasFields : Key × TemplateView → Type 0
 HasFields e = length e.1.specs ≤ 512
-
--- keys that pass the test are one
-same_is : (a b : Key) → same_key a b ≡ true → a ≡ b
-same_is a b e =
-    let both : ((a.0 == b.0) && (a.1 == b.1)) ≡ true = e in
-    let x : a.0 ≡ b.0 = grind (arith, nat_tests, both) in
-    let y : a.1 ≡ b.1 = grind (arith, nat_tests, both) in
-    let key : ℕ → ℕ → Key = λ m n. (m, n) in
-    ap₂ key x y
-
-same_self : (a : Key) → same_key a a ≡ true
-same_self a =
-    let both : ((a.0 == a.0) && (a.1 == a.1)) ≡ true = grind (arith, nat_tests) in
-    both
-
-same : (a b : Key) → a ≡ b → same_key a b ≡ true
-same a b e = subst (λ (z : Key). same_key a z ≡ true) e (same_self a)
-
-back : (a b : Key) → same_key a b ≡ true → same_key b a ≡ true
-back a b e = same b a (sym (same_is a b e))
-
-on : (a b c : Key) → same_key a b ≡ true → same_key b c ≡ true → same_key a c ≡ true
-on a b c p q = same a c (same_is a b p ∙ same_is b c q)
-
-clash : {X : Type 0} → (b : Bool) → b ≡ true → b ≡ false → X
-clash b t f = let bad : true ≡ false = sym t ∙ f in absurd cc
 
 known_nil : (k : Key) → known k [] ≡ None
 unfolding known

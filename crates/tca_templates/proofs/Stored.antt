@@ -1,6 +1,7 @@
--- The map's entries and the templates that they stand for.
-use Rattle.std.proofs.Common.{◌≡◌, Bool, ℕ, List, [], ◌∷◌, length, true, false, cond, refl, ap, suc, Option, Some, None}
-use Rattle.std.specs.Prelude.{filter}
+-- The templates with their keys, and what they stand for.
+use Rattle.std.proofs.Common.{◌≡◌, Bool, ℕ, List, [], ◌∷◌, length, true, false, cond, not, ◌&&◌, ◌==◌, refl, ap, ◌∙◌, arith, suc, Option, Some, None}
+use Rattle.std.proofs.lemmas.Bool.Decides.{nat_tests}
+use Rattle.std.specs.Prelude.{filter, ◌≢◌}
 use Rattle.std.specs.Option.{option_map, option_copied}
 use Rattle.std.specs.Map.{lookup}
 use Rattle.std.proofs.Common.{Bor}
@@ -43,6 +44,24 @@ templates-known (e ∷ es) k = go (same_key k e.0) (templates-known es k)
 
 abbrev pub stays_there : ℕ → Bool → Key × Template → Bool
 stays_there domain options e = stays domain options (e.0, template_of e.1)
+
+-- a template of this domain and kind goes, and each other one stays
+pub goes : (m n : ℕ) (b : Bool) → m ≡ n → b ≡ true → not ((m == n) && b) ≡ false
+goes m n b e t =
+    let same : (m == n) ≡ true = grind (arith, nat_tests) in
+    ap (λ x. not (x && b)) same ∙ ap (λ x. not (true && x)) t
+
+pub other_kind : (m n : ℕ) (b : Bool) → b ≡ false → not ((m == n) && b) ≡ true
+other_kind m n b f = ap (λ x. not ((m == n) && x)) f ∙ neither (m == n)
+  where
+    neither : (x : Bool) → not (x && false) ≡ true
+    neither true = refl
+    neither false = refl
+
+pub other_domain : (m n : ℕ) (b : Bool) → m ≢ n → not ((m == n) && b) ≡ true
+other_domain m n b ne =
+    let apart : (m == n) ≡ false = grind (arith, nat_tests) in
+    ap (λ x. not (x && b)) apart
 
 pub templates-filter : (es : List (Key × Template)) (domain : ℕ) (options : Bool)
     → templates_of (filter (stays_there domain options) es) ≡ filter (stays domain options) (templates_of es)

@@ -8,6 +8,7 @@ pub mod Handing
 pub mod Wants
 pub mod Reading
 pub mod Fields
+pub mod Slotted
 pub mod Outcomes
 pub mod Faults
 pub mod Parts

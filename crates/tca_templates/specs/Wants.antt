@@ -1,5 +1,5 @@
 -- Where memory is wanted for a message: all that stands before is right, and so is the record that it is wanted for.
-use Rattle.std.specs.Prelude.{◌≡◌, ℕ, zero, suc, ◌+◌, ◌≤◌, false, true, List, ◌∷◌, ◌++◌, drop, Option, Some, None}
+use Rattle.std.specs.Prelude.{◌≡◌, ℕ, zero, suc, ◌+◌, ◌≤◌, false, true, List, ◌∷◌, ◌++◌, drop, Some, None}
 use Rattle.tca_wire.specs.Walks.{Front, Next}
 use Rattle.tca_wire.specs.declared.message.Header.{Header}
 use Rattle.tca_wire.specs.declared.message.SetSpan.{SetSpan}

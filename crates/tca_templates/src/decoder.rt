@@ -17,8 +17,7 @@ use crate::iter::TemplatesIter;
 use crate::outcome::{Outcome, read_message};
 use crate::reading::read_sets;
 use crate::record::TakesRecords;
-use crate::store::Store;
-use indexmap::IndexMap;
+use crate::slots::Slots;
 use std::alloc::Global;
 use std::marker::Model;
 use tca_wire::Message;
@@ -26,7 +25,7 @@ use tca_wire::Message;
 /// One transport session, with the templates that its messages defined (RFC 7011, section 8).
 #[derive(Drop)]
 pub struct Decoder {
-    templates: Store,
+    templates: Slots,
 }
 
 /// What a message gave beside its records.
@@ -46,7 +45,7 @@ impl Model for Decoder {
 
     ghost Value = { Templates };
 
-    ghost view = { λ d. templates_of d.templates.entries };
+    ghost view = { λ d. templates_of d.templates };
 }
 
 impl Decoder {
@@ -57,7 +56,7 @@ impl Decoder {
         ensures { result ≡ [] }
     {
         Decoder {
-            templates: IndexMap::new(alloc),
+            templates: Slots::new(alloc),
         }
     }
 

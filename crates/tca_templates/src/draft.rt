@@ -2,9 +2,8 @@
 ghost use Rattle.std.specs.Prelude.{◌≡◌, IfOk};
 ghost use Rattle.tca_templates.specs.Fields.{templates_of};
 
-use crate::store::Store;
+use crate::slots::Slots;
 use crate::template::{FieldSpec, Template};
-use indexmap::IndexMap;
 use std::alloc::{AllocError, Global};
 
 // The same specifiers.
@@ -34,14 +33,15 @@ fn copied_template(alloc: Global, template: &Template) -> Result<Template, Alloc
 }
 
 // The same templates in the same order.
-pub(crate) fn copied(alloc: Global, templates: &Store) -> Result<Store, AllocError>
-    ensures { IfOk result (λ m. templates_of m.entries ≡ templates_of templates.now.entries) }
+pub(crate) fn copied(alloc: Global, templates: &Slots) -> Result<Slots, AllocError>
+    ensures { IfOk result (λ m. templates_of m ≡ templates_of templates.now) }
 {
-    let mut copy = IndexMap::with_capacity(alloc, templates.len())?;
-    for i in 0..templates.len() {
-        let (key, template) = templates.get_index(i).unwrap();
-        let template = copied_template(alloc, template)?;
-        copy.insert(*key, template)?;
+    let mut copy = Slots::with_capacity(alloc, templates.len())?;
+    for slot in templates.as_slice() {
+        if let Some((key, template)) = slot {
+            let template = copied_template(alloc, template)?;
+            copy.define(key.0, key.1, template)?;
+        }
     }
     Ok(copy)
 }

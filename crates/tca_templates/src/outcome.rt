@@ -11,7 +11,7 @@ use crate::draft::copied;
 use crate::fault::DecodeFault;
 use crate::reading::read_sets;
 use crate::record::{Record, TakesRecords};
-use crate::store::Store;
+use crate::slots::Slots;
 use std::alloc::{AllocError, Global};
 use tca_wire::{Message, SetSpan};
 
@@ -85,15 +85,15 @@ fn has_template_set(sets: &[SetSpan]) -> bool
 // Reads a message into values of its own. An `Err` leaves the templates half changed where a template set is there.
 fn read_values(
     alloc: Global,
-    templates: &mut Store,
+    templates: &mut Slots,
     message: &Message<'_>,
 ) -> Result<Outcome, DecodeFault>
-    ensures exact { Gives DecodeFault.Memory (λ o. outcome_view (templates_of templates.new.entries) o) result
-        (read_of (templates_of templates.old.entries) message.now.header message.now.octets.now message.now.sets.items) }
+    ensures exact { Gives DecodeFault.Memory (λ o. outcome_view (templates_of templates.new) o) result
+        (read_of (templates_of templates.old) message.now.header message.now.octets.now message.now.sets.items) }
     ensures kept { list_any is_template_set message.now.sets.items ≡ false
-        → templates_of templates.new.entries ≡ templates_of templates.old.entries }
+        → templates_of templates.new ≡ templates_of templates.old }
     ensures wanted { result ≡ Err DecodeFault.Memory
-        → WantsMemory (templates_of templates.old.entries) message.now.header message.now.octets.now message.now.sets.items }
+        → WantsMemory (templates_of templates.old) message.now.header message.now.octets.now message.now.sets.items }
     ensures memory { result ≡ Err DecodeFault.Memory → list_any is_read message.now.sets.items ≡ true }
 {
     let mut collector = Collector {
@@ -112,14 +112,14 @@ fn read_values(
 // onto a copy of them.
 pub(crate) fn read_message(
     alloc: Global,
-    templates: &mut Store,
+    templates: &mut Slots,
     message: &Message<'_>,
 ) -> Result<Outcome, DecodeFault>
-    ensures exact { Gives DecodeFault.Memory (λ o. outcome_view (templates_of templates.new.entries) o) result
-        (read_of (templates_of templates.old.entries) message.now.header message.now.octets.now message.now.sets.items) }
-    ensures err { OnErr result (templates_of templates.new.entries ≡ templates_of templates.old.entries) }
+    ensures exact { Gives DecodeFault.Memory (λ o. outcome_view (templates_of templates.new) o) result
+        (read_of (templates_of templates.old) message.now.header message.now.octets.now message.now.sets.items) }
+    ensures err { OnErr result (templates_of templates.new ≡ templates_of templates.old) }
     ensures wanted { result ≡ Err DecodeFault.Memory → list_any is_template_set message.now.sets.items ≡ false
-        → WantsMemory (templates_of templates.old.entries) message.now.header message.now.octets.now message.now.sets.items }
+        → WantsMemory (templates_of templates.old) message.now.header message.now.octets.now message.now.sets.items }
     ensures memory { result ≡ Err DecodeFault.Memory → list_any is_read message.now.sets.items ≡ true }
 {
     if has_template_set(&message.sets) {

@@ -16,7 +16,8 @@ ghost use Rattle.tca_templates.specs.Wants.{IsWantedInSet, WantsMemory};
 
 use crate::fault::DecodeFault;
 use crate::record::{TakesRecords, read_records};
-use crate::store::{Store, find, read_templates};
+use crate::slots::Slots;
+use crate::store::read_templates;
 use std::alloc::Global;
 use tca_wire::{Message, SetSpan};
 
@@ -45,7 +46,7 @@ fn set_body<'a>(octets: &'a [u8], set: SetSpan) -> &'a [u8]
 // Goes over one set.
 fn read_set<T: TakesRecords>(
     alloc: Global,
-    templates: &mut Store,
+    templates: &mut Slots,
     message: &Message<'_>,
     set: SetSpan,
     aside: Aside,
@@ -56,14 +57,14 @@ fn read_set<T: TakesRecords>(
     requires short { length message.now.octets.now < 2 ^ 16 }
     requires few { aside.count ≤ set.at }
     requires skipped { aside.skipped + 1 < 2 ^ 32 }
-    ensures exact { (start : T) (given : ReadMessage) → HasCome T.took start taker.old templates.old.entries aside given
-        → GivesAs DecodeFault.Memory (λ x after. HasCome T.took start taker.new templates.new.entries x after) result
+    ensures exact { (start : T) (given : ReadMessage) → HasCome T.took start taker.old templates.old aside given
+        → GivesAs DecodeFault.Memory (λ x after. HasCome T.took start taker.new templates.new x after) result
         (set_of message.now.header message.now.octets.now given set) }
-    ensures wanted { result ≡ Err DecodeFault.Memory → (start : T) (given : ReadMessage) → HasCome T.took start taker.old templates.old.entries aside given
+    ensures wanted { result ≡ Err DecodeFault.Memory → (start : T) (given : ReadMessage) → HasCome T.took start taker.old templates.old aside given
         → IsWantedInSet message.now.header message.now.octets.now given set }
     ensures few { IfOk result (λ x. x.count ≤ set.at + set.length) }
     ensures skipped { IfOk result (λ x. x.skipped ≤ aside.skipped + 1) }
-    ensures kept { is_template_set set ≡ false → templates_of templates.new.entries ≡ templates_of templates.old.entries }
+    ensures kept { is_template_set set ≡ false → templates_of templates.new ≡ templates_of templates.old }
     ensures memory { result ≡ Err DecodeFault.Memory → is_read set ≡ true }
 {
     let header = message.header;
@@ -87,7 +88,7 @@ fn read_set<T: TakesRecords>(
     if aside.unplaced.is_some() {
         return Ok(aside);
     }
-    let Some(template) = find(templates, header.domain, set.id) else {
+    let Some(template) = templates.find(header.domain, set.id) else {
         return Ok(Aside {
             unplaced: Some(set.id),
             skipped: aside.skipped,
@@ -106,19 +107,19 @@ fn read_set<T: TakesRecords>(
 // template set is there.
 pub(crate) fn read_sets<T: TakesRecords>(
     alloc: Global,
-    templates: &mut Store,
+    templates: &mut Slots,
     message: &Message<'_>,
     taker: &mut T,
 ) -> Result<Aside, DecodeFault>
     ensures exact { (start : T) → T.took start [] taker.old
-        → GivesAs DecodeFault.Memory (λ x after. HasCome T.took start taker.new templates.new.entries x after) result
-        (read_of (templates_of templates.old.entries) message.now.header message.now.octets.now message.now.sets.items) }
+        → GivesAs DecodeFault.Memory (λ x after. HasCome T.took start taker.new templates.new x after) result
+        (read_of (templates_of templates.old) message.now.header message.now.octets.now message.now.sets.items) }
     ensures wanted { result ≡ Err DecodeFault.Memory → (start : T) → T.took start [] taker.old
-        → WantsMemory (templates_of templates.old.entries) message.now.header message.now.octets.now message.now.sets.items }
+        → WantsMemory (templates_of templates.old) message.now.header message.now.octets.now message.now.sets.items }
     ensures few { IfOk result (λ x. x.count ≤ message.now.header.length) }
     ensures skipped { IfOk result (λ x. x.skipped ≤ message.now.header.length) }
     ensures kept { list_any is_template_set message.now.sets.items ≡ false
-        → templates_of templates.new.entries ≡ templates_of templates.old.entries }
+        → templates_of templates.new ≡ templates_of templates.old }
     ensures memory { result ≡ Err DecodeFault.Memory → list_any is_read message.now.sets.items ≡ true }
 {
     let mut aside = Aside {

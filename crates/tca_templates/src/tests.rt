@@ -432,6 +432,55 @@ fn templates_keep_their_places(rt: HostRuntime) -> Result<(), Fail> {
     Ok(())
 }
 
+// Whether these are the IDs of the templates, in this order.
+fn knows(decoder: &Decoder, ids: &[u16]) -> bool {
+    let mut left = decoder.templates();
+    for id in ids {
+        if left.next() != Some((7, *id, false)) {
+            return false;
+        }
+    }
+    left.next().is_none()
+}
+
+// The session after an ID is withdrawn and defined again, and another one redefined; and the IDs, as they should be then.
+fn exchanged(
+    alloc: Global,
+    decoder: Decoder,
+    ids: &mut Vec<u16>,
+    id: u16,
+    other: u16,
+) -> Result<Decoder, Fail> {
+    let withdrawn = withdrawal(alloc, 2, id)?;
+    let again = many_templates(alloc, id, 1)?;
+    let redefined = many_templates(alloc, other, 1)?;
+    let sets: &[&[u8]] = &[&withdrawn, &again, &redefined];
+    let octets = message(alloc, 0, sets)?;
+    let (decoder, _) = handed(alloc, decoder, &octets)?;
+    ids.retain(|known| *known != id);
+    ids.push(id)?;
+    Ok(decoder)
+}
+
+#[test]
+fn withdrawn_templates_go_last(rt: HostRuntime) -> Result<(), Fail> {
+    let many = many_templates(rt.alloc(), 256, 200)?;
+    let sets: &[&[u8]] = &[&many];
+    let octets = message(rt.alloc(), 0, sets)?;
+    let (mut decoder, _) = handed(rt.alloc(), Decoder::new(rt.alloc()), &octets)?;
+    let mut ids = Vec::new(rt.alloc());
+    for id in 256..456 {
+        ids.push(id)?;
+    }
+    for i in 0..1_000 {
+        let id = 256 + 7 * i % 200;
+        let other = 256 + 3 * i % 200;
+        decoder = exchanged(rt.alloc(), decoder, &mut ids, id, other)?;
+        assert!(rt; knows(&decoder, &ids), "turn {i}");
+    }
+    Ok(())
+}
+
 // Template sets that are refused, each behind one that would define template 300.
 const REFUSED: [(&'static [u8], DecodeFault); 9] = [
     // ID 3 in a template set, and ID 2 there with a field.

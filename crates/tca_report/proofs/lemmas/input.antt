@@ -7,3 +7,5 @@ pub mod ReaderAgrees
 pub mod CapturePieces
 pub mod CaptureLaws
 pub mod CaptureFaults
+pub mod CaptureWants
+pub mod InPlace

@@ -1,8 +1,10 @@
 -- What has come of a capture so far, as its reader holds it. Cited inside this crate alone.
-use Rattle.std.specs.Prelude.{◌≡◌, ◌≢◌, ◌≤◌, ℕ, List, length, Result, Ok, Err}
-use Rattle.std.specs.List.{concat}
-use Rattle.tca_wire.specs.Frames.{Framing, Holds, IsStream}
+use Rattle.std.specs.Prelude.{◌≡◌, ◌≢◌, ◌≤◌, ℕ, List, ◌∷◌, ◌++◌, length, Result, Ok, Err}
+use Rattle.std.specs.List.{concat, AllByRecursion}
+use Rattle.tca_wire.specs.Frames.{IsFrame, Framing, Holds, IsStream, Feeds, fault_of, frames_of_both}
+use Rattle.tca_wire.specs.declared.framer.Lent.{Lent}
 use Rattle.tca_report.specs.input.Inputs.{CaptureSoFar, nothing, capture_after}
+use Rattle.tca_report.specs.input.Wants.{IsWantedFor}
 use Rattle.tca_report.specs.input.Gathered.{notes_of}
 use Rattle.tca_report.specs.declared.input.InputFault.{InputFault}
 use Rattle.tca_report.specs.declared.input.InputFault.TheVariants.{Memory}
@@ -38,3 +40,31 @@ pub record HasRead (octets : List ℕ) (framer : Framing) (r : CaptureReader) : 
   pub read : capture_after 0 nothing messages ≡ Ok so_far
   pub agrees : Agrees r so_far
   pub at : r.at ≡ length (concat messages)
+
+-- A piece behind the octets so far brings these messages and the fault behind them, and the framer is then as after.
+pub record Brings (octets piece : List ℕ) (r : CaptureReader) (lent : Lent) (after : Framing) : Type 0 where
+  pub framer : Framing
+  pub read : HasRead octets framer r
+  pub feeds : Feeds framer piece (frames_of_both lent.begun.items lent.whole.now) after
+  pub fault : lent.fault ≡ fault_of after
+
+-- The octets are messages, which were read, and a rest, at which the reader stands.
+pub record StandsIn (octets : List ℕ) (r : CaptureReader) : Type 0 where
+  pub messages : List (List ℕ)
+  pub rest : List ℕ
+  pub so_far : CaptureSoFar
+  pub whole : octets ≡ concat messages ++ rest
+  pub each : AllByRecursion IsFrame messages
+  pub read : capture_after 0 nothing messages ≡ Ok so_far
+  pub agrees : Agrees r so_far
+  pub at : r.at ≡ length (concat messages)
+
+-- Memory is wanted for one of these messages, the first of which has this offset, and those before it were read.
+pub record IsWantedAmong (at : ℕ) (so_far : CaptureSoFar) (messages : List (List ℕ)) : Type 0 where
+  pub before : List (List ℕ)
+  pub message : List ℕ
+  pub others : List (List ℕ)
+  pub now : CaptureSoFar
+  pub whole : messages ≡ before ++ message ∷ others
+  pub read : capture_after at so_far before ≡ Ok now
+  pub wanted : IsWantedFor now message

@@ -1,11 +1,13 @@
 //! Captures: messages one after the other, as a file of RFC 5655 has them.
-ghost use Rattle.std.specs.Prelude.{◌≡◌, ◌≢◌, ◌<◌, ◌≤◌, ◌+◌, ◌^◌, ◌++◌, ◌∷◌, [], List, ℕ, length, IfOk, IfErr, IsErrOf, Err};
-ghost use Rattle.std.specs.List.{concat};
+ghost use Rattle.std.specs.Prelude.{◌≡◌, ◌≢◌, ◌<◌, ◌≤◌, ◌+◌, ◌^◌, ◌++◌, ◌∷◌, [], List, ℕ, length, IfOk, IfErr, IsErrOf, Err, take};
+ghost use Rattle.std.specs.List.{AllByRecursion, concat};
 ghost use Rattle.tca_wire.specs.Results.{Gives};
-ghost use Rattle.tca_wire.specs.Frames.{Holds};
+ghost use Rattle.tca_wire.specs.Messages.{length_at};
+ghost use Rattle.tca_wire.specs.Frames.{IsFrame, Framing, Holds};
 ghost use Rattle.tca_report.specs.input.Inputs.{CaptureSoFar, capture_with, capture_after, counts_of, capture_of};
 ghost use Rattle.tca_report.specs.input.Gathered.{gathered_of, gathered_view};
-ghost use Rattle.tca_report.specs.input.CaptureReaders.{noted, Agrees, ReaderGives, HasRead};
+ghost use Rattle.tca_report.specs.input.Wants.{IsWantedFor, IsWantedInCapture};
+ghost use Rattle.tca_report.specs.input.CaptureReaders.{noted, Agrees, ReaderGives, HasRead, Brings, StandsIn, IsWantedAmong};
 ghost use Rattle.tca_report.specs.declared.input.extraction.NotReport.{NotReport};
 ghost use Rattle.tca_report.specs.declared.input.InputFault.TheVariants as faults;
 
@@ -14,7 +16,7 @@ use crate::input::{Gathered, InputFault, Notes};
 use crate::report::Report;
 use std::alloc::{AllocError, Global};
 use tca_templates::{DecodeFault, Decoder, Record, TakesRecords};
-use tca_wire::{Framer, Messages, WireFault, split_message};
+use tca_wire::{Framer, Lent, Messages, WireFault, split_message};
 
 // Octets of a capture that are looked at together.
 const PIECE: usize = 65_536;
@@ -43,7 +45,7 @@ struct CaptureReader {
 // The fault of a message, or want of memory.
 fn wire_fault(at: u64, fault: WireFault) -> InputFault
     ensures fault { result ≢ InputFault.Memory → (fault ≢ WireFault.Memory) × (result ≡ faults.Wire at fault) }
-    ensures memory { fault ≢ WireFault.Memory → result ≢ InputFault.Memory }
+    ensures memory { result ≡ InputFault.Memory → fault ≡ WireFault.Memory }
 {
     match fault {
         WireFault::Memory => InputFault::Memory,
@@ -54,7 +56,7 @@ fn wire_fault(at: u64, fault: WireFault) -> InputFault
 // The fault of a message's sets, or want of memory.
 fn decode_fault(at: u64, fault: DecodeFault) -> InputFault
     ensures fault { result ≢ InputFault.Memory → (fault ≢ DecodeFault.Memory) × (result ≡ faults.Decode at fault) }
-    ensures memory { fault ≢ DecodeFault.Memory → result ≢ InputFault.Memory }
+    ensures memory { result ≡ InputFault.Memory → fault ≡ DecodeFault.Memory }
 {
     match fault {
         DecodeFault::Memory => InputFault::Memory,
@@ -105,12 +107,14 @@ impl CaptureReader {
         }
     }
 
-    // Takes the message that these octets are. A refusal ends the reading, so the reader is then gone.
+    // Takes the message at the front of these octets. A refusal ends the reading, so the reader is then gone.
     fn take_message(self, alloc: Global, octets: &[u8]) -> Result<CaptureReader, InputFault>
         requires held { (so_far : CaptureSoFar) × Agrees self so_far }
         requires within { self.at + length octets.now < 2 ^ 64 }
         ensures exact { (so_far : CaptureSoFar) → Agrees self so_far → ReaderGives result (capture_with self.at so_far octets.now) }
-        ensures at { IfOk result (λ r. r.at ≡ self.at + length octets.now) }
+        ensures at { IfOk result (λ r. r.at ≡ self.at + length_at octets.now) }
+        ensures frame { IfOk result (λ _. IsFrame (take (length_at octets.now) octets.now)) }
+        ensures wanted { result ≡ Err InputFault.Memory → (so_far : CaptureSoFar) → Agrees self so_far → IsWantedFor so_far octets.now }
     {
         let message = match split_message(alloc, octets) {
             Ok(message) => message,
@@ -127,7 +131,7 @@ impl CaptureReader {
             messages: self.messages + 1,
             unplaced: self.unplaced + u64::from(handed.unplaced.is_some()),
             skipped: self.skipped + u64::from(handed.skipped),
-            at: self.at + octets.len() as u64,
+            at: self.at + u64::from(message.header.length),
         })
     }
 
@@ -139,8 +143,10 @@ impl CaptureReader {
     ) -> Result<CaptureReader, InputFault>
         requires held { (so_far : CaptureSoFar) × Agrees self so_far }
         requires within { self.at + length (concat messages) < 2 ^ 64 }
+        requires frames { AllByRecursion IsFrame messages }
         ensures exact { (so_far : CaptureSoFar) → Agrees self so_far → ReaderGives result (capture_after self.at so_far messages.entry) }
         ensures at { IfOk result (λ r. r.at ≡ self.at + length (concat messages.entry)) }
+        ensures wanted { result ≡ Err InputFault.Memory → (so_far : CaptureSoFar) → Agrees self so_far → IsWantedAmong self.at so_far messages.entry }
     {
         let mut reader = self;
         for message in messages {
@@ -149,27 +155,34 @@ impl CaptureReader {
         Ok(reader)
     }
 
-    // Takes the next piece of the capture.
-    fn take_piece(
-        self,
-        alloc: Global,
-        framer: &mut Framer,
-        piece: &[u8],
-    ) -> Result<CaptureReader, InputFault>
-        requires within { (octets : List ℕ) × HasRead octets framer.old self × (length octets + length piece.now < 2 ^ 64) }
-        ensures ok { (octets : List ℕ) → HasRead octets framer.old self → IfOk result (λ r. HasRead (octets ++ piece.now) framer.new r) }
-        ensures err { (octets behind : List ℕ) → HasRead octets framer.old self
-            → IfErr result (λ e. e ≢ InputFault.Memory → capture_of ((octets ++ piece.now) ++ behind) ≡ Err e) }
+    // Takes the messages that a piece of the capture brought.
+    fn take_lent(self, alloc: Global, lent: &Lent<'_>) -> Result<CaptureReader, InputFault>
+        requires within { (octets : List ℕ) × (piece : List ℕ) × (after : Framing) × Brings octets piece self lent.now after × (length octets + length piece < 2 ^ 64) }
+        ensures ok { (octets piece : List ℕ) (after : Framing) → Brings octets piece self lent.now after → IfOk result (λ r. HasRead (octets ++ piece) after r) }
+        ensures err { (octets piece behind : List ℕ) (after : Framing) → Brings octets piece self lent.now after
+            → IfErr result (λ e. e ≢ InputFault.Memory → capture_of ((octets ++ piece) ++ behind) ≡ Err e) }
+        ensures wanted { (octets piece behind : List ℕ) (after : Framing) → Brings octets piece self lent.now after
+            → result ≡ Err InputFault.Memory → IsWantedInCapture ((octets ++ piece) ++ behind) }
     {
-        let lent = match framer.lend(piece) {
-            Ok(lent) => lent,
-            Err(_) => return Err(InputFault::Memory),
-        };
         let reader = self.take_messages(alloc, lent.messages())?;
         match lent.fault {
             Some(fault) => Err(wire_fault(reader.at, fault)),
             None => Ok(reader),
         }
+    }
+
+    // Reads the rest of the capture where it lies: no message is copied.
+    fn read_in_place(self, alloc: Global, octets: &[u8]) -> Result<Gathered, InputFault>
+        requires { StandsIn octets.now self }
+        ensures exact { Gives InputFault.Memory gathered_view result (gathered_of (capture_of octets.now)) }
+        ensures wanted { result ≡ Err InputFault.Memory → IsWantedInCapture octets.now }
+    {
+        let mut reader = self;
+        while reader.at < octets.len() as u64 {
+            let (_, rest) = octets.split_at(reader.at as usize);
+            reader = reader.take_message(alloc, rest)?;
+        }
+        Ok(reader.gathered())
     }
 
     // What the capture held.
@@ -190,17 +203,21 @@ impl CaptureReader {
     }
 }
 
-// Reads a capture piece by piece.
+// Reads a capture piece by piece, and where a piece's messages can't be copied, the rest where it lies.
 pub(crate) fn read_capture(alloc: Global, octets: &[u8]) -> Result<Gathered, InputFault>
     ensures exact { Gives InputFault.Memory gathered_view result (gathered_of (capture_of octets.now)) }
     ensures memory { IsErrOf result InputFault.Memory → 0 < length octets.now }
+    ensures wanted { result ≡ Err InputFault.Memory → IsWantedInCapture octets.now }
 {
     let mut reader = CaptureReader::new(alloc);
     let mut framer = Framer::new(alloc);
     let mut rest = octets;
     while !rest.is_empty() {
         let (piece, behind) = rest.split_at(rest.len().min(PIECE));
-        reader = reader.take_piece(alloc, &mut framer, piece)?;
+        let Ok(lent) = framer.lend(piece) else {
+            return reader.read_in_place(alloc, octets);
+        };
+        reader = reader.take_lent(alloc, &lent)?;
         rest = behind;
     }
     match framer.finish() {

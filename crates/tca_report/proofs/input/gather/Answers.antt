@@ -6,6 +6,7 @@ use Rattle.tca_report.specs.declared.export.ExportFault.{ExportFault}
 use Rattle.tca_report.specs.declared.input.InputFault.TheVariants.{Export}
 use Rattle.tca_report.proofs.lemmas.export.FirstFaults.{never_memory, same_export}
 use Rattle.tca_report.proofs.lemmas.input.CaptureFaults.{capture_first, export_first}
+use Rattle.tca_report.specs.input.Wants.{AnExport, ACapture}
 use Rattle.tca_report.proofs.input.gather.Goals as goal
 
 pub returns-then-not-has_magic-clause-first : goal.returns-then-not-has_magic-clause-first
@@ -31,3 +32,14 @@ returns-in-Err-Memory-clause-refused c = λ f is wrong.
 pub returns-in-Err-clause-refused : goal.returns-in-Err-clause-refused
 returns-in-Err-clause-refused c = λ f is wrong.
     ap (λ (g : ExportFault). Err (Export g)) (same_export c.in-Err.fault f (c.in-Err.ensures.refused f wrong))
+
+pub returns-then-not-has_magic-clause-memory_wanted : goal.returns-then-not-has_magic-clause-memory_wanted
+returns-then-not-has_magic-clause-memory_wanted c = λ e.
+    let other : is_export c.args.octets.now ≡ false = sym c.has_magic.ensures.exact ∙ c.if-not-has_magic.true in
+    ACapture other (c.read_capture.ensures.wanted e)
+
+pub returns-in-Err-Memory-clause-memory_wanted : goal.returns-in-Err-Memory-clause-memory_wanted
+returns-in-Err-Memory-clause-memory_wanted c = λ e.
+    let is : is_export c.args.octets.now ≡ true = sym c.has_magic.ensures.exact ∙ c.if-not-has_magic.false in
+    let wanted = c.in-Err-Memory.ensures.memory (ap (λ (f : ExportFault). Err f) c.in-Err-Memory.field-0-is) in
+    AnExport is wanted.0 wanted.1 wanted.2 wanted.3

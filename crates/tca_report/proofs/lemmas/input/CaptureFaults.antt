@@ -66,14 +66,14 @@ own_octets : (m behind : List ℕ) → 16 ≤ length m → length_at m ≤ lengt
 own_octets m behind long within =
     ap (λ (n : ℕ). take n (m ++ behind)) (length_front m behind long) ∙ take-append-le (length_at m) m behind within
 
-frame_own : (m behind : List ℕ) → 16 ≤ length m → version_at (m ++ behind) ≡ 10 → length_at (m ++ behind) ≡ length m → IsFrame m
+pub frame_own : (m behind : List ℕ) → 16 ≤ length m → version_at (m ++ behind) ≡ 10 → length_at (m ++ behind) ≡ length m → IsFrame m
 frame_own m behind long version facts = record {
   version = sym (version_front m behind long) ∙ version;
   whole = sym (length_front m behind long) ∙ facts;
   room = long;
 }
 
-message_front : (m behind : List ℕ) (h : Header) (ss : List SetSpan) → IsMessage m h ss → IsMessage (m ++ behind) h ss
+pub message_front : (m behind : List ℕ) (h : Header) (ss : List SetSpan) → IsMessage m h ss → IsMessage (m ++ behind) h ss
 message_front m behind h ss p =
     let long : 16 ≤ length m = omega (arith, p.room, p.whole) in
     let own = take-append-le h.length m behind p.whole in
@@ -85,7 +85,7 @@ message_front m behind h ss p =
       sets = subst (λ (o : List ℕ). tile 16 ss (drop 16 o) ≡ true) (sym own) p.sets;
     }
 
-message_own : (m behind : List ℕ) (h : Header) (ss : List SetSpan) → h.length ≡ length m → IsMessage (m ++ behind) h ss → IsMessage m h ss
+pub message_own : (m behind : List ℕ) (h : Header) (ss : List SetSpan) → h.length ≡ length m → IsMessage (m ++ behind) h ss → IsMessage m h ss
 message_own m behind h ss size p =
     let long : 16 ≤ length m = omega (arith, p.room, size) in
     let within : h.length ≤ length m = omega (arith, size) in
@@ -289,7 +289,7 @@ module _ (octets : List ℕ) (ms : List (List ℕ)) (rest : List ℕ) (h : Captu
   frames = frames_all nothing ms h before
 
   -- they begin with a message that is refused
-  refused_there : (m behind : List ℕ) (fault : InputFault) → rest ≡ m ++ behind → IsFrame m → capture_with at h m ≡ Err fault → capture_of octets ≡ Err fault
+  pub refused_there : (m behind : List ℕ) (fault : InputFault) → rest ≡ m ++ behind → IsFrame m → capture_with at h m ≡ Err fault → capture_of octets ≡ Err fault
   refused_there m behind fault parts frame e =
       let all = ms ++ m ∷ [] in
       let stream : IsStream (concat all) all (Holds []) = record {
@@ -303,7 +303,7 @@ module _ (octets : List ℕ) (ms : List (List ℕ)) (rest : List ℕ) (h : Captu
       all_on 0 nothing ms (m ∷ []) h all_after ∙ ap (λ (n : ℕ). capture_after n h (m ∷ [])) here ∙ all_refused at h m [] fault e in
       ap (λ (o : List ℕ). capture_of o) (frame_more octets ms m rest behind split parts) ∙ capture_stops (concat all) behind all (Holds []) fault stream stops
 
-  no_message : (f : WireFault) → 0 < length rest → wire.IsFirstFault rest f → capture_of octets ≡ Err (Wire at f)
+  pub no_message : (f : WireFault) → 0 < length rest → wire.IsFirstFault rest f → capture_of octets ≡ Err (Wire at f)
   no_message f some w =
       elim w [
         | inl part ↦

@@ -1,9 +1,9 @@
 -- Reading a capture piece by piece.
 use Rattle.std.proofs.Common.{◌≡◌, ◌≢◌, ℕ, ◌+◌, ◌≤◌, List, [], ◌∷◌, ◌++◌, length, Some, None, Result, Ok, Err, refl, sym, ap, ap₂, subst, ◌∙◌, arith}
-use Rattle.std.specs.List.{concat}
+use Rattle.std.specs.List.{AllByRecursion, concat}
 use Rattle.std.proofs.lemmas.List.{length-append}
 use Rattle.std.proofs.lemmas.List.Folds.{concat-append}
-use Rattle.tca_wire.specs.Frames.{Framing, Holds, Failed, Feeds, IsStream, fault_of, ending}
+use Rattle.tca_wire.specs.Frames.{IsFrame, IsFaulty, Framing, Holds, Failed, Feeds, IsStream, fault_of, ending}
 use Rattle.tca_wire.specs.declared.fault.WireFault.{WireFault}
 use Rattle.tca_wire.specs.declared.fault.WireFault.TheVariants.{Short, Memory}
 use Rattle.tca_wire.proofs.Framings.{joined}
@@ -20,12 +20,27 @@ use Rattle.tca_report.proofs.lemmas.input.CaptureParts.{all_on, capture_ends, ca
 same_fault : (a b : WireFault) → Some a ≡ Some b → a ≡ b
 same_fault a b e = cc
 
+back_frames : (a b : List (List ℕ)) → AllByRecursion IsFrame (a ++ b) → AllByRecursion IsFrame b
+back_frames [] b all = all
+back_frames (m ∷ a) b all = back_frames a b all.1
+
 module _ (octets piece : List ℕ) (framer after : Framing) (p : CaptureReader) (ms : List (List ℕ)) (r : HasRead octets framer p) (feeds : Feeds framer piece ms after) where
-  fed : IsStream (octets ++ piece) (r.messages ++ ms) after
+  pub fed : IsStream (octets ++ piece) (r.messages ++ ms) after
   fed = joined octets piece r.held r.messages ms after r.stream (subst (λ f. Feeds f piece ms after) r.holds feeds)
 
   far : length (concat (r.messages ++ ms)) ≡ p.at + length (concat ms)
   far = omega (arith, r.at, ap length (concat-append r.messages ms), length-append (concat r.messages) (concat ms))
+
+  pub each_brought : AllByRecursion IsFrame ms
+  each_brought = back_frames r.messages ms fed.each
+
+  -- a header with a fault doesn't want memory
+  pub no_memory_behind : (fault : WireFault) → fault_of after ≡ Some fault → fault ≢ Memory
+  no_memory_behind fault bad is = go after bad fed
+    where
+      go : (x : Framing) → fault_of x ≡ Some fault → IsStream (octets ++ piece) (r.messages ++ ms) x → ⊥
+      go (Holds held) some stream = absurd cc
+      go (Failed other) some stream = subst (λ (f : WireFault). IsFaulty stream.rest f) (same_fault other fault some ∙ is) stream.ends
 
   pub within_piece : p.at + length (concat ms) ≤ length octets + length piece
   within_piece = omega (arith, far, ap length fed.whole, length-append octets piece, length-append (concat (r.messages ++ ms)) fed.rest)

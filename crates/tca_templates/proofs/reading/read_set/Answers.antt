@@ -19,14 +19,14 @@ returns-in_err-read_templates-clause-exact g c =
     let m = c.args.message.now in
     let p = err_from_is_err_and c.from_residual.result c.from_residual.ensures.1 in
     rw (p.1, p.2) (λ start given come other.
-    set_changes m.header m.octets.now given c.args.set false (templates_of c.args.templates.now.entries) c.set_body-body.result.now _ (set_2 m.header m.octets.now given c.args.set c.if-set-eq2.true) come.templates c.set_body-body.ensures
+    set_changes m.header m.octets.now given c.args.set false (templates_of c.args.templates.now) c.set_body-body.result.now _ (set_2 m.header m.octets.now given c.args.set c.if-set-eq2.true) come.templates c.set_body-body.ensures
     (c.in_err-read_templates.ensures.exact other))
 
 pub returns-then-set-eq2-clause-exact : goal.returns-then-set-eq2-clause-exact
 returns-then-set-eq2-clause-exact g c = λ start given come.
     let m = c.args.message.now in (
-      record given { templates = templates_of c.read_templates.new.templates.entries },
-      set_changes m.header m.octets.now given c.args.set false (templates_of c.args.templates.now.entries) c.set_body-body.result.now _ (set_2 m.header m.octets.now given c.args.set c.if-set-eq2.true) come.templates c.set_body-body.ensures
+      record given { templates = templates_of c.read_templates.new.templates },
+      set_changes m.header m.octets.now given c.args.set false (templates_of c.args.templates.now) c.set_body-body.result.now _ (set_2 m.header m.octets.now given c.args.set c.if-set-eq2.true) come.templates c.set_body-body.ensures
           c.in_ok-read_templates.ensures.exact,
       record { templates = refl; records = come.records; count = come.count; unplaced = come.unplaced; skipped = come.skipped },
     )
@@ -36,14 +36,14 @@ returns-in_err-read_templates-2-clause-exact g c =
     let m = c.args.message.now in
     let p = err_from_is_err_and c.from_residual-in_err-read_templates-2.result c.from_residual-in_err-read_templates-2.ensures.1 in
     rw (p.1, p.2) (λ start given come other.
-    set_changes m.header m.octets.now given c.args.set true (templates_of c.args.templates.now.entries) c.set_body-body.result.now _ (set_3 m.header m.octets.now given c.args.set c.if-set-eq2.false c.if-set-eq3.true) come.templates c.set_body-body.ensures
+    set_changes m.header m.octets.now given c.args.set true (templates_of c.args.templates.now) c.set_body-body.result.now _ (set_3 m.header m.octets.now given c.args.set c.if-set-eq2.false c.if-set-eq3.true) come.templates c.set_body-body.ensures
     (c.in_err-read_templates-2.ensures.exact other))
 
 pub returns-then-set-eq3-clause-exact : goal.returns-then-set-eq3-clause-exact
 returns-then-set-eq3-clause-exact g c = λ start given come.
     let m = c.args.message.now in (
-      record given { templates = templates_of c.read_templates-then-set-eq3.new.templates.entries },
-      set_changes m.header m.octets.now given c.args.set true (templates_of c.args.templates.now.entries) c.set_body-body.result.now _ (set_3 m.header m.octets.now given c.args.set c.if-set-eq2.false c.if-set-eq3.true) come.templates c.set_body-body.ensures
+      record given { templates = templates_of c.read_templates-then-set-eq3.new.templates },
+      set_changes m.header m.octets.now given c.args.set true (templates_of c.args.templates.now) c.set_body-body.result.now _ (set_3 m.header m.octets.now given c.args.set c.if-set-eq2.false c.if-set-eq3.true) come.templates c.set_body-body.ensures
           c.in_ok-read_templates-2.ensures.exact,
       record { templates = refl; records = come.records; count = come.count; unplaced = come.unplaced; skipped = come.skipped },
     )
@@ -103,7 +103,7 @@ returns-in_err-read_templates-clause-wanted g c =
     let p = err_from_is_err_and c.from_residual.result c.from_residual.ensures.1 in
     rw (p.1, p.2) (λ memory start given come.
     let same : c.in_err-read_templates.field-0.0 ≡ Memory = cc in
-    TemplateSet c.if-set-eq2.true (wanted_at (template_front m.header.domain false) given.templates (templates_of c.args.templates.now.entries) (c.args.set.at + 4) (body_of m.octets.now c.args.set) c.set_body-body.result.now
+    TemplateSet c.if-set-eq2.true (wanted_at (template_front m.header.domain false) given.templates (templates_of c.args.templates.now) (c.args.set.at + 4) (body_of m.octets.now c.args.set) c.set_body-body.result.now
     come.templates (sym c.set_body-body.ensures) (c.in_err-read_templates.ensures.wanted (ap (λ f. Err f) same))))
 
 pub returns-in_err-read_templates-2-clause-wanted : goal.returns-in_err-read_templates-2-clause-wanted
@@ -112,7 +112,7 @@ returns-in_err-read_templates-2-clause-wanted g c =
     let p = err_from_is_err_and c.from_residual-in_err-read_templates-2.result c.from_residual-in_err-read_templates-2.ensures.1 in
     rw (p.1, p.2) (λ memory start given come.
     let same : c.in_err-read_templates-2.field-0.0 ≡ Memory = cc in
-    OptionsTemplateSet c.if-set-eq3.true (wanted_at (template_front m.header.domain true) given.templates (templates_of c.args.templates.now.entries) (c.args.set.at + 4) (body_of m.octets.now c.args.set) c.set_body-body.result.now
+    OptionsTemplateSet c.if-set-eq3.true (wanted_at (template_front m.header.domain true) given.templates (templates_of c.args.templates.now) (c.args.set.at + 4) (body_of m.octets.now c.args.set) c.set_body-body.result.now
     come.templates (sym c.set_body-body.ensures) (c.in_err-read_templates-2.ensures.wanted (ap (λ f. Err f) same))))
 
 pub returns-in_err-count-clause-wanted : goal.returns-in_err-count-clause-wanted

@@ -9,12 +9,12 @@ use Rattle.tca_templates.proofs.reading.read_sets.Given as goal
 abbrev pub invariant-loop-set : goal.invariant-loop-set
 invariant-loop-set g l = record {
   so_far : (start : _) → g.T.TakesRecords.took start [] l.fn.taker
-      → (given : ReadMessage) × HasCome g.T.TakesRecords.took start l.taker l.templates.entries l.aside given
-      × (sets_on l.message.header l.message.octets.now given (drop l.set-index l.message.sets.items) ≡ read_of (templates_of l.fn.templates.entries) l.message.header l.message.octets.now l.message.sets.items)
-      × (read_of (templates_of l.fn.templates.entries) l.message.header l.message.octets.now (take l.set-index l.message.sets.items) ≡ Ok given);
+      → (given : ReadMessage) × HasCome g.T.TakesRecords.took start l.taker l.templates l.aside given
+      × (sets_on l.message.header l.message.octets.now given (drop l.set-index l.message.sets.items) ≡ read_of (templates_of l.fn.templates) l.message.header l.message.octets.now l.message.sets.items)
+      × (read_of (templates_of l.fn.templates) l.message.header l.message.octets.now (take l.set-index l.message.sets.items) ≡ Ok given);
   few : l.set-index < length l.message.sets.items → l.aside.count ≤ (get_or l.message.sets.items l.set-index blank_set).at;
   bound : l.aside.count ≤ length l.message.octets.now;
   sets : l.set-index ≤ length l.message.sets.items;
   skipped : l.aside.skipped ≤ l.set-index;
-  kept : list_any is_template_set l.message.sets.items ≡ false → templates_of l.templates.entries ≡ templates_of l.fn.templates.entries;
+  kept : list_any is_template_set l.message.sets.items ≡ false → templates_of l.templates ≡ templates_of l.fn.templates;
 }

@@ -14,7 +14,7 @@ loop-rest-preserved c =
     let rest = c.loop-rest.rest.now in
     let n = c.in_ok-size.size in
     let step = walk_next (template_front c.args.domain c.args.options) (change_advances c.args.domain c.args.options)
-    (templates_of c.loop-rest.templates.entries) (templates_of c.read_template.new.templates.entries) c.loop-rest.at n rest c.in_ok-size.ensures.next in
+    (templates_of c.loop-rest.templates) (templates_of c.read_template.new.templates) c.loop-rest.at n rest c.in_ok-size.ensures.next in
     record {
       so_far = rw c.split_at.ensures.back (sym step ∙ c.loop-rest.invariant.so_far);
       leads = (suc c.loop-rest.invariant.leads.0, rw c.split_at.ensures.back (leads_more (template_front c.args.domain c.args.options) c.loop-rest.invariant.leads.0 _ _ _ c.args.at c.loop-rest.at n c.args.octets.now rest c.loop-rest.invariant.leads.1 c.in_ok-size.ensures.next));
@@ -26,12 +26,12 @@ returns-in_err-size-clause-exact c =
     let p = err_from_is_err_and c.from_residual.result c.from_residual.ensures.1 in
     rw (p.1, p.2) (λ ne. sym c.loop-rest.invariant.so_far
     ∙ walk_bad (template_front c.args.domain c.args.options) (change_advances c.args.domain c.args.options)
-    (templates_of c.loop-rest.templates.entries) c.loop-rest.at c.loop-rest.rest.now _ (c.in_err-size.ensures.bad ne))
+    (templates_of c.loop-rest.templates) c.loop-rest.at c.loop-rest.rest.now _ (c.in_err-size.ensures.bad ne))
 
 pub returns-clause-exact : goal.returns-clause-exact
 returns-clause-exact c =
     sym c.loop-rest.invariant.so_far
-    ∙ changes_end c.args.domain c.args.options (templates_of c.loop-rest.templates.entries) c.loop-rest.at c.loop-rest.rest.now c.loop-rest-test.false
+    ∙ changes_end c.args.domain c.args.options (templates_of c.loop-rest.templates) c.loop-rest.at c.loop-rest.rest.now c.loop-rest-test.false
 
 pub loop-rest-init : goal.loop-rest-init
 loop-rest-init c = record { so_far = refl; leads = (0, (refl, refl, refl)); place = refl }
@@ -43,7 +43,7 @@ returns-in_err-size-clause-wanted c =
     let same : c.in_err-size.field-0.0 ≡ Memory = cc in
     record {
       pieces = c.loop-rest.invariant.leads.0;
-      come = templates_of c.loop-rest.templates.entries;
+      come = templates_of c.loop-rest.templates;
       there = c.loop-rest.at;
       rest = c.loop-rest.rest.now;
       leads = c.loop-rest.invariant.leads.1;
