@@ -6,6 +6,7 @@ pub mod LayoutSteps
 pub mod LayoutLaws
 pub mod Wanting
 pub mod TakingSteps
+pub mod StepLaws
 pub mod Stored
 pub mod Changes
 pub mod Sets

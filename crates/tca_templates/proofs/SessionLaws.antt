@@ -16,7 +16,7 @@ use Rattle.tca_templates.specs.Templates.{Key, Templates, TemplateView, same_key
 use Rattle.tca_templates.specs.Specifiers.{ChangeView, AllGone, Gone, New, changed}
 use Rattle.tca_templates.specs.Records.{PlacedView, data_front}
 use Rattle.tca_templates.specs.Reading.{ReadMessage, with_templates, with_records, body_of, data_of, set_of, sets_on, before, read_of}
-use Rattle.tca_templates.specs.Fields.{templates_of}
+use Rattle.tca_templates.specs.Fields.{SlotsView, entries_of, templates_of}
 use Rattle.tca_templates.specs.TemplateSets.{IsTemplateRecord, after_changes, IsTemplateSet}
 use Rattle.tca_templates.specs.Parts.{InTurn}
 use Rattle.tca_templates.specs.Sessions.{HaveOctets, IsSet, TemplateSet, OptionsTemplateSet, Skipped, DataSet, Unplaced, Unread, AreSets, IsReading}
@@ -81,9 +81,12 @@ set_has : (domain : ℕ) (options : Bool) (ts us : Templates) (octets : List ℕ
 set_has domain options ts us octets p all = after_has domain options p.changes p.records ts us p.each all p.effect
 
 -- the templates of a decoder have no empty records
-pub templates_have : (entries : List (Key × Template)) → HaveOctets (templates_of entries)
-templates_have [] = tt
-templates_have (e ∷ es) = (omega (arith, e.1.right, e.1.some), templates_have es)
+entries_have : (entries : List (Key × Template)) → HaveOctets (entries_of entries)
+entries_have [] = tt
+entries_have (e ∷ es) = (omega (arith, e.1.right, e.1.some), entries_have es)
+
+pub templates_have : (v : SlotsView) → HaveOctets (templates_of v)
+templates_have v = entries_have v.known
 
 -- what came of a set
 pub record IsFound (h : Header) (octets : List ℕ) (given after : ReadMessage) (s : SetSpan) : Type 0 where

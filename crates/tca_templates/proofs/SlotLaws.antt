@@ -21,7 +21,7 @@ before : (o : Option ℕ) → option_map suc o ≡ None → o ≡ None
 before None e = refl
 before (Some j) e = absurd cc
 
-miss : {Y : Type 0} (b : Bool) (y : Y) (o : Option Y) → cond b (Some y) o ≡ None → (b ≡ false) × (o ≡ None)
+pub miss : {Y : Type 0} (b : Bool) (y : Y) (o : Option Y) → cond b (Some y) o ≡ None → (b ≡ false) × (o ≡ None)
 miss true y o e = absurd cc
 miss false y o e = (refl, e)
 
@@ -139,7 +139,7 @@ filled_push k t (Some x ∷ ss) e =
     let o = other k x ss e in
     ap (λ es. x ∷ es) (filled_push k t ss o.1) ∙ sym (ap (λ b. cond b ((x.0, t) ∷ filled ss) (x ∷ insert_entry same_key (filled ss) k t)) o.0)
 
-deeper : (b : Bool) (o : Option ℕ) (n : ℕ) → option_map suc (cond b (Some n) o) ≡ cond b (Some (suc n)) (option_map suc o)
+pub deeper : (b : Bool) (o : Option ℕ) (n : ℕ) → option_map suc (cond b (Some n) o) ≡ cond b (Some (suc n)) (option_map suc o)
 deeper true o n = refl
 deeper false o n = refl
 
@@ -184,7 +184,7 @@ place_gap j [] = refl
 place_gap j (None ∷ ss) = ap (option_map suc) (place_gap j ss)
 place_gap j (Some x ∷ ss) = ap (λ o. cond (same_key j x.0) (Some 0) (option_map suc o)) (place_gap j ss)
 
-apart_gap : {X : Type 0} (ss : Slots X) → IsApart ss → IsApart (ss ++ None ∷ [])
+pub apart_gap : {X : Type 0} (ss : Slots X) → IsApart ss → IsApart (ss ++ None ∷ [])
 apart_gap [] a = tt
 apart_gap (None ∷ ss) a = apart_gap ss a
 apart_gap (Some x ∷ ss) a = (place_gap x.0 ss ∙ a.0, apart_gap ss a.1)

@@ -7,38 +7,38 @@ use Rattle.std.specs.Map.{lookup}
 use Rattle.std.proofs.Common.{Bor}
 use Rattle.indexmap.specs.IndexMap.{insert_entry, shift_remove_entry}
 use Rattle.tca_templates.specs.Templates.{Key, Templates, listed, define, same_key, withdraw, known, stays}
-use Rattle.tca_templates.specs.Fields.{template_of, templates_of}
+use Rattle.tca_templates.specs.Fields.{template_of, entries_of}
 use Rattle.tca_templates.specs.declared.template.Template.{Template}
 
-pub templates-insert : (es : List (Key × Template)) (k : Key) (t : Template) → templates_of (insert_entry same_key es k t) ≡ define k (template_of t) (templates_of es)
+pub templates-insert : (es : List (Key × Template)) (k : Key) (t : Template) → entries_of (insert_entry same_key es k t) ≡ define k (template_of t) (entries_of es)
 unfolding define
 templates-insert [] k t = refl
 templates-insert (e ∷ es) k t = go (same_key k e.0) (templates-insert es k t)
   where
-    go : (b : Bool) → templates_of (insert_entry same_key es k t) ≡ define k (template_of t) (templates_of es)
-        → templates_of (cond b ((e.0, t) ∷ es) (e ∷ insert_entry same_key es k t))
-        ≡ cond b ((e.0, template_of t) ∷ templates_of es) ((e.0, template_of e.1) ∷ define k (template_of t) (templates_of es))
+    go : (b : Bool) → entries_of (insert_entry same_key es k t) ≡ define k (template_of t) (entries_of es)
+        → entries_of (cond b ((e.0, t) ∷ es) (e ∷ insert_entry same_key es k t))
+        ≡ cond b ((e.0, template_of t) ∷ entries_of es) ((e.0, template_of e.1) ∷ define k (template_of t) (entries_of es))
     go true h = refl
     go false h = ap (λ ts. (e.0, template_of e.1) ∷ ts) h
 
-pub templates-remove : (es : List (Key × Template)) (k : Key) → templates_of (shift_remove_entry (same_key k) es) ≡ withdraw k (templates_of es)
+pub templates-remove : (es : List (Key × Template)) (k : Key) → entries_of (shift_remove_entry (same_key k) es) ≡ withdraw k (entries_of es)
 unfolding withdraw
 templates-remove [] k = refl
 templates-remove (e ∷ es) k = go (same_key k e.0) (templates-remove es k)
   where
-    go : (b : Bool) → templates_of (shift_remove_entry (same_key k) es) ≡ withdraw k (templates_of es)
-        → templates_of (cond b es (e ∷ shift_remove_entry (same_key k) es))
-        ≡ cond b (templates_of es) ((e.0, template_of e.1) ∷ withdraw k (templates_of es))
+    go : (b : Bool) → entries_of (shift_remove_entry (same_key k) es) ≡ withdraw k (entries_of es)
+        → entries_of (cond b es (e ∷ shift_remove_entry (same_key k) es))
+        ≡ cond b (entries_of es) ((e.0, template_of e.1) ∷ withdraw k (entries_of es))
     go true h = refl
     go false h = ap (λ ts. (e.0, template_of e.1) ∷ ts) h
 
-pub templates-known : (es : List (Key × Template)) (k : Key) → known k (templates_of es) ≡ option_map template_of (lookup (same_key k) es)
+pub templates-known : (es : List (Key × Template)) (k : Key) → known k (entries_of es) ≡ option_map template_of (lookup (same_key k) es)
 unfolding known
 templates-known [] k = refl
 templates-known (e ∷ es) k = go (same_key k e.0) (templates-known es k)
   where
-    go : (b : Bool) → known k (templates_of es) ≡ option_map template_of (lookup (same_key k) es)
-        → cond b (Some (template_of e.1)) (known k (templates_of es)) ≡ option_map template_of (cond b (Some e.1) (lookup (same_key k) es))
+    go : (b : Bool) → known k (entries_of es) ≡ option_map template_of (lookup (same_key k) es)
+        → cond b (Some (template_of e.1)) (known k (entries_of es)) ≡ option_map template_of (cond b (Some e.1) (lookup (same_key k) es))
     go true h = refl
     go false h = h
 
@@ -64,17 +64,17 @@ other_domain m n b ne =
     ap (λ x. not (x && b)) apart
 
 pub templates-filter : (es : List (Key × Template)) (domain : ℕ) (options : Bool)
-    → templates_of (filter (stays_there domain options) es) ≡ filter (stays domain options) (templates_of es)
+    → entries_of (filter (stays_there domain options) es) ≡ filter (stays domain options) (entries_of es)
 templates-filter [] domain options = refl
 templates-filter (e ∷ es) domain options = go (stays_there domain options e) (templates-filter es domain options)
   where
-    go : (b : Bool) → templates_of (filter (stays_there domain options) es) ≡ filter (stays domain options) (templates_of es)
-        → templates_of (cond b (e ∷ filter (stays_there domain options) es) (filter (stays_there domain options) es))
-        ≡ cond b ((e.0, template_of e.1) ∷ filter (stays domain options) (templates_of es)) (filter (stays domain options) (templates_of es))
+    go : (b : Bool) → entries_of (filter (stays_there domain options) es) ≡ filter (stays domain options) (entries_of es)
+        → entries_of (cond b (e ∷ filter (stays_there domain options) es) (filter (stays_there domain options) es))
+        ≡ cond b ((e.0, template_of e.1) ∷ filter (stays domain options) (entries_of es)) (filter (stays domain options) (entries_of es))
     go true h = ap (λ ts. (e.0, template_of e.1) ∷ ts) h
     go false h = h
 
-pub length-templates : (es : List (Key × Template)) → length (templates_of es) ≡ length es
+pub length-templates : (es : List (Key × Template)) → length (entries_of es) ≡ length es
 length-templates [] = refl
 length-templates (e ∷ es) = ap suc (length-templates es)
 

@@ -1,5 +1,5 @@
 -- What the code holds of templates and records, as the definitions see it. Cited by the code and its proofs.
-use Rattle.std.specs.Prelude.{Bool, ◌==◌, ◌||◌, nat_le, List, map, Result, Ok, Err, ⊤}
+use Rattle.std.specs.Prelude.{Bool, ◌==◌, ◌||◌, nat_le, List, map, Option, Result, Ok, Err, ⊤}
 use Rattle.tca_wire.specs.Walks.{Front, Ends, Bad, Next}
 use Rattle.tca_templates.specs.declared.template.Template.{Template}
 use Rattle.tca_templates.specs.declared.specifiers.Change.{Change}
@@ -12,8 +12,16 @@ use Rattle.tca_wire.specs.declared.message.SetSpan.{SetSpan}
 abbrev pub template_of : Template → TemplateView
 template_of t = record { options = t.options; specs = t.specs.items }
 
-abbrev pub templates_of : List (Key × Template) → Templates
-templates_of = map (λ e. (e.0, template_of e.1))
+abbrev pub entries_of : List (Key × Template) → Templates
+entries_of = map (λ e. (e.0, template_of e.1))
+
+-- the templates that are known, and those that were known before the message, where it may be refused
+pub record SlotsView : Type 0 where
+  pub known : List (Key × Template)
+  pub before : Option (List (Key × Template))
+
+abbrev pub templates_of : SlotsView → Templates
+templates_of v = entries_of v.known
 
 abbrev pub change_view : Change → ChangeView
 change_view changes.AllGone = AllGone

@@ -1,5 +1,5 @@
 -- The slots in which the templates of a session stand, in the order in which these were first seen. Cited by the code and its proofs.
-use Rattle.std.specs.Prelude.{◌≡◌, ℕ, suc, List, [], ◌∷◌, length, if◌then◌else◌, Option, Some, None, ⊤}
+use Rattle.std.specs.Prelude.{◌≡◌, ◌≤◌, ◌<◌, ◌++◌, ℕ, suc, List, [], ◌∷◌, length, set, if◌then◌else◌, Option, Some, None, IfSome, ⊤}
 use Rattle.std.specs.Option.{option_map}
 use Rattle.std.specs.Map.{lookup}
 use Rattle.tca_templates.specs.Templates.{Key, same_key}
@@ -27,3 +27,35 @@ pub record IsSlotted {X : Type 0} (slots : List (Option (Key × X))) (places : L
   pub found : (k : Key) → lookup (same_key k) places ≡ place_of k slots
   pub apart : IsApart slots
   pub counted : length places ≡ length (filled slots)
+
+-- A step back: the slot of this place stood so.
+abbrev pub Step : Type 0 → Type 0
+Step X = ℕ × Option (Key × X)
+
+-- the slots before these steps, of which the last is taken back first
+abbrev pub undone : {X : Type 0} → List (Step X) → List (Option (Key × X)) → List (Option (Key × X))
+undone [] ss = ss
+undone (u ∷ us) ss = set (undone us ss) u.0 u.1
+
+-- each step back is to a slot that is there, and leaves no two slots with one key
+abbrev pub AreSteps : {X : Type 0} → List (Step X) → List (Option (Key × X)) → Type 0
+AreSteps [] ss = ⊤
+AreSteps (u ∷ us) ss = AreSteps us ss × (u.0 < length ss) × IsApart (set (undone us ss) u.0 u.1)
+
+-- the steps, where they are noted, with one more
+abbrev pub noted : {X : Type 0} → Option (List (Step X)) → ℕ → Option (Key × X) → Option (List (Step X))
+noted steps place slot = option_map (λ us. us ++ (place, slot) ∷ []) steps
+
+-- what stood in the slots before the steps, where these are noted
+abbrev pub before_of : {X : Type 0} → Option (List (Step X)) → List (Option (Key × X)) → Option (List (Key × X))
+before_of steps ss = option_map (λ us. filled (undone us ss)) steps
+
+-- the steps, where they are noted, are no more than this
+abbrev pub AreFew : {X : Type 0} → Option (List (Step X)) → ℕ → Type 0
+AreFew steps most = IfSome steps (λ us. length us ≤ most)
+
+-- The places are those of the slots, and all steps can be taken back without more room than there is.
+pub record IsKept {X : Type 0} (slots : List (Option (Key × X))) (places : List (Key × ℕ)) (room : ℕ) (steps : Option (List (Step X))) : Type 0 where
+  pub slotted : IsSlotted slots places
+  pub steps_back : IfSome steps (λ us. AreSteps us slots)
+  pub few : AreFew steps room

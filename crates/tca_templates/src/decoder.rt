@@ -1,12 +1,12 @@
 //! A session, which reads messages.
-ghost use Rattle.std.specs.Prelude.{◌≡◌, ◌≢◌, false, ◌<◌, ◌≤◌, ◌^◌, length, OnOk, OnErr, IfOk, IfErr, Ok, Err, map, true};
+ghost use Rattle.std.specs.Prelude.{◌≡◌, ◌≢◌, ◌<◌, ◌≤◌, ◌^◌, length, OnOk, OnErr, IfOk, IfErr, Ok, Err, map, true};
 ghost use Rattle.std.specs.List.{list_any};
 ghost use Rattle.tca_wire.specs.Results.{Gives};
 ghost use Rattle.tca_templates.specs.Templates.{listed};
 ghost use Rattle.tca_templates.specs.Reading.{read_of, ReadMessage};
 ghost use Rattle.tca_templates.specs.Sessions.{IsReading};
 ghost use Rattle.tca_templates.specs.FirstFaults.{IsFirstFault};
-ghost use Rattle.tca_templates.specs.Fields.{is_template_set, is_read};
+ghost use Rattle.tca_templates.specs.Fields.{is_read};
 ghost use Rattle.tca_templates.specs.Taking.{GivesAs};
 ghost use Rattle.tca_templates.specs.Wants.{WantsMemory};
 ghost use Rattle.tca_templates.specs.Handing.{IsHanded};
@@ -135,9 +135,8 @@ impl Decoder {
         ensures exact { Gives DecodeFault.Memory (λ o. outcome_view self.new o) result
             (read_of self.old message.now.header message.now.octets.now message.now.sets.items) }
         ensures err { OnErr result (self.new ≡ self.old) }
-        // Where no templates have to be copied first memory is wanted only where all before is right, and the record that it
-        // is wanted for.
-        ensures wanted { result ≡ Err DecodeFault.Memory → list_any is_template_set message.now.sets.items ≡ false
+        // Memory is wanted only where all before is right, and the record that it is wanted for.
+        ensures wanted { result ≡ Err DecodeFault.Memory
             → WantsMemory self.old message.now.header message.now.octets.now message.now.sets.items }
         // It is wanted only where a set isn't skipped.
         ensures memory { result ≡ Err DecodeFault.Memory → list_any is_read message.now.sets.items ≡ true }

@@ -18,13 +18,13 @@ pub struct TemplatesIter<'a> {
 impl<'a> Model for TemplatesIter<'a> {
     ghost use Rattle.std.specs.Prelude.{List, ℕ, Bool};
     ghost use Rattle.tca_templates.specs.Templates.{listed};
-    ghost use Rattle.tca_templates.specs.Fields.{templates_of};
+    ghost use Rattle.tca_templates.specs.Fields.{entries_of};
     ghost use Rattle.tca_templates.specs.Slotted.{filled};
     ghost use Rattle.std.specs.Slice.Iter.{iter_rest};
 
     ghost Value = { List (ℕ × ℕ × Bool) };
 
-    ghost view = { λ t. listed (templates_of (filled (iter_rest t.left))) };
+    ghost view = { λ t. listed (entries_of (filled (iter_rest t.left))) };
 }
 
 impl<'a> TemplatesIter<'a> {

@@ -3,22 +3,21 @@
 //! A message is refused as a whole or read as a whole. Its records are handed on one after the other in the octets of
 //! the message, without memory of their own. Which fields of a template's records tell about a packet, and where they
 //! stand, is worked out when the template is defined; a record with a field of variable length is gone over once.
-//! Only `read` copies fields; and where a message has template sets it first copies the templates, so that a refusal
-//! changes nothing.
+//! Only `read` copies fields; and it notes what template sets change, and puts that back where the message is refused.
 //! Templates are found by a hash of their domain and ID, and withdrawn without moving the others. All that a stranger's
-//! messages can make a decoder keep is 4,096 templates of 512 fields each, in at most twice as many slots. Memory is the
-//! last that a record can want: one that is refused for itself is refused so whether or not there is memory for it.
+//! messages can make a decoder keep is 4,096 templates of 512 fields each, in at most twice as many slots and those that
+//! the last message added. Memory is the last that a record can want: one that is refused for itself is refused so
+//! whether or not there is memory for it.
 //!
 //! - `decoder`: a session; `reading`: the sets of one message;
 //! - `template`, `specifiers`, `store`: what a template says, the records that define and withdraw templates, and
-//!   the sets of these; `slots`: the templates that are known; `draft`: a copy of them; `iter`: all of them in order;
+//!   the sets of these; `slots`: the templates that are known; `iter`: all of them in order;
 //! - `layout`: which fields of a template are chosen, and where they stand in a record;
 //! - `record`, `outcome`: the records of data sets, in the message's octets and as values of their own;
 //! - `fault`: what can be wrong.
 #![tactic(auto)]
 
 mod decoder;
-mod draft;
 mod fault;
 mod iter;
 mod layout;

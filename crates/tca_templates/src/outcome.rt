@@ -1,19 +1,18 @@
 //! The records of a message as values of their own.
-ghost use Rattle.std.specs.Prelude.{◌≡◌, [], length, map, true, false, OnOk, OnErr, IfOk, IsOk, Err};
+ghost use Rattle.std.specs.Prelude.{◌≡◌, [], length, map, true, OnOk, OnErr, IfOk, IsOk, Err};
 ghost use Rattle.std.specs.List.{list_any};
 ghost use Rattle.tca_wire.specs.Results.{Gives};
 ghost use Rattle.tca_templates.specs.Reading.{read_of};
-ghost use Rattle.tca_templates.specs.Fields.{templates_of, is_template_set, is_read};
+ghost use Rattle.tca_templates.specs.Fields.{templates_of, is_read};
 ghost use Rattle.tca_templates.specs.Outcomes.{outcome_view};
 ghost use Rattle.tca_templates.specs.Wants.{WantsMemory};
 
-use crate::draft::copied;
 use crate::fault::DecodeFault;
 use crate::reading::read_sets;
 use crate::record::{Record, TakesRecords};
 use crate::slots::Slots;
 use std::alloc::{AllocError, Global};
-use tca_wire::{Message, SetSpan};
+use tca_wire::Message;
 
 /// A field of a data record.
 #[derive(Drop)]
@@ -75,13 +74,6 @@ impl TakesRecords for Collector {
     }
 }
 
-// Whether a set defines or withdraws templates.
-fn has_template_set(sets: &[SetSpan]) -> bool
-    ensures { result ≡ list_any is_template_set sets.now }
-{
-    sets.iter().any(|s| s.id == 2 || s.id == 3)
-}
-
 // Reads a message into values of its own. An `Err` leaves the templates half changed where a template set is there.
 fn read_values(
     alloc: Global,
@@ -90,8 +82,7 @@ fn read_values(
 ) -> Result<Outcome, DecodeFault>
     ensures exact { Gives DecodeFault.Memory (λ o. outcome_view (templates_of templates.new) o) result
         (read_of (templates_of templates.old) message.now.header message.now.octets.now message.now.sets.items) }
-    ensures kept { list_any is_template_set message.now.sets.items ≡ false
-        → templates_of templates.new ≡ templates_of templates.old }
+    ensures before { templates.new.before ≡ templates.old.before }
     ensures wanted { result ≡ Err DecodeFault.Memory
         → WantsMemory (templates_of templates.old) message.now.header message.now.octets.now message.now.sets.items }
     ensures memory { result ≡ Err DecodeFault.Memory → list_any is_read message.now.sets.items ≡ true }
@@ -108,8 +99,7 @@ fn read_values(
     })
 }
 
-// Reads a message. A refused message leaves the templates as they were: where it has a template set it is read
-// onto a copy of them.
+// Reads a message. A refused message leaves the templates as they were: what it changed is put back.
 pub(crate) fn read_message(
     alloc: Global,
     templates: &mut Slots,
@@ -118,15 +108,19 @@ pub(crate) fn read_message(
     ensures exact { Gives DecodeFault.Memory (λ o. outcome_view (templates_of templates.new) o) result
         (read_of (templates_of templates.old) message.now.header message.now.octets.now message.now.sets.items) }
     ensures err { OnErr result (templates_of templates.new ≡ templates_of templates.old) }
-    ensures wanted { result ≡ Err DecodeFault.Memory → list_any is_template_set message.now.sets.items ≡ false
+    ensures wanted { result ≡ Err DecodeFault.Memory
         → WantsMemory (templates_of templates.old) message.now.header message.now.octets.now message.now.sets.items }
     ensures memory { result ≡ Err DecodeFault.Memory → list_any is_read message.now.sets.items ≡ true }
 {
-    if has_template_set(&message.sets) {
-        let mut draft = copied(alloc, templates)?;
-        let outcome = read_values(alloc, &mut draft, message)?;
-        *templates = draft;
-        return Ok(outcome);
+    templates.begin(alloc);
+    match read_values(alloc, templates, message) {
+        Ok(outcome) => {
+            templates.keep();
+            Ok(outcome)
+        }
+        Err(fault) => {
+            templates.put_back();
+            Err(fault)
+        }
     }
-    read_values(alloc, templates, message)
 }

@@ -10,7 +10,7 @@ ghost use Rattle.tca_templates.specs.declared.fault.DecodeFault.{DecodeFault};
 ghost use Rattle.tca_templates.specs.Templates.{Key, Templates, TemplateView, same_key, define, withdraw, withdraw_all, known};
 ghost use Rattle.tca_wire.specs.declared.message.Header.{Header};
 ghost use Rattle.tca_wire.specs.declared.message.SetSpan.{SetSpan};
-ghost use Rattle.tca_templates.specs.Fields.{templates_of, is_template_set, is_read};
+ghost use Rattle.tca_templates.specs.Fields.{templates_of, is_read};
 ghost use Rattle.tca_templates.specs.Taking.{GivesAs, HasCome};
 ghost use Rattle.tca_templates.specs.Wants.{IsWantedInSet, WantsMemory};
 
@@ -64,7 +64,7 @@ fn read_set<T: TakesRecords>(
         → IsWantedInSet message.now.header message.now.octets.now given set }
     ensures few { IfOk result (λ x. x.count ≤ set.at + set.length) }
     ensures skipped { IfOk result (λ x. x.skipped ≤ aside.skipped + 1) }
-    ensures kept { is_template_set set ≡ false → templates_of templates.new ≡ templates_of templates.old }
+    ensures before { templates.new.before ≡ templates.old.before }
     ensures memory { result ≡ Err DecodeFault.Memory → is_read set ≡ true }
 {
     let header = message.header;
@@ -118,8 +118,7 @@ pub(crate) fn read_sets<T: TakesRecords>(
         → WantsMemory (templates_of templates.old) message.now.header message.now.octets.now message.now.sets.items }
     ensures few { IfOk result (λ x. x.count ≤ message.now.header.length) }
     ensures skipped { IfOk result (λ x. x.skipped ≤ message.now.header.length) }
-    ensures kept { list_any is_template_set message.now.sets.items ≡ false
-        → templates_of templates.new ≡ templates_of templates.old }
+    ensures before { templates.new.before ≡ templates.old.before }
     ensures memory { result ≡ Err DecodeFault.Memory → list_any is_read message.now.sets.items ≡ true }
 {
     let mut aside = Aside {

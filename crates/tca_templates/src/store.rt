@@ -25,10 +25,11 @@ fn apply(
 ) -> Result<(), DecodeFault>
     ensures exact { Gives DecodeFault.Memory (λ _. templates_of templates.new) result (changed domain options (templates_of templates.old) (change_view change.entry)) }
     ensures last { result ≡ Err DecodeFault.Memory → IsOk (changed domain options (templates_of templates.old) (change_view change.entry)) }
+    ensures before { templates.new.before ≡ templates.old.before }
 {
     match change {
-        Change::AllGone => templates.withdraw_all(domain, options),
-        Change::Gone(id) => templates.withdraw(domain, id),
+        Change::AllGone => templates.withdraw_all(domain, options)?,
+        Change::Gone(id) => templates.withdraw(domain, id)?,
         Change::New(id, definition) => {
             let is_new = templates.find(domain, id).is_none();
             if is_new && templates.len() >= MOST_TEMPLATES {
@@ -56,6 +57,7 @@ fn read_template(
     ensures bad { IfErr result (λ e. e ≢ DecodeFault.Memory → template_front domain options (templates_of templates.old) at octets.now ≡ Bad e) }
     ensures last { result ≡ Err DecodeFault.Memory → IsSound (template_front domain options (templates_of templates.old) at octets.now) }
     ensures within { IfOk result (λ n. (0 < n) × (n ≤ length octets.now)) }
+    ensures before { templates.new.before ≡ templates.old.before }
 {
     let (change, size) = read_change(options, at, octets)?;
     apply(alloc, templates, domain, options, change)?;
@@ -76,6 +78,7 @@ pub(crate) fn read_templates(
     ensures exact { Gives DecodeFault.Memory (λ _. templates_of templates.new) result
         (walk (template_front domain options) (templates_of templates.old) at octets.now) }
     ensures wanted { result ≡ Err DecodeFault.Memory → IsWanted (template_front domain options) (templates_of templates.old) at octets.now }
+    ensures before { templates.new.before ≡ templates.old.before }
 {
     let mut at = at;
     let mut rest = octets;

@@ -540,6 +540,71 @@ fn refused_templates_change_nothing(rt: HostRuntime) -> Result<(), Fail> {
     Ok(())
 }
 
+// The templates that a decoder knows.
+fn listed(alloc: Global, decoder: &Decoder) -> Result<Vec<(u32, u16, bool)>, AllocError> {
+    let mut templates = Vec::new(alloc);
+    for template in decoder.templates() {
+        templates.push(template)?;
+    }
+    Ok(templates)
+}
+
+// What a decoder answers to sets that redefine, withdraw and define, withdraw all and define once more, and to another
+// behind them.
+fn turned_over(
+    alloc: Global,
+    decoder: &mut Decoder,
+    last: &'static [u8],
+) -> Result<Outcome, DecodeFault> {
+    let redefined = many_templates(alloc, 257, 9)?;
+    let one = withdrawal(alloc, 2, 300)?;
+    let again = many_templates(alloc, 300, 1)?;
+    let new = many_templates(alloc, 400, 50)?;
+    let all = withdrawal(alloc, 2, 2)?;
+    let options = withdrawal(alloc, 3, 3)?;
+    let sets: &[&[u8]] = &[
+        &redefined,
+        &one,
+        &again,
+        &new,
+        &one,
+        options_set(),
+        &all,
+        template_set(),
+        &options,
+        last,
+    ];
+    read(alloc, decoder, 0, sets)
+}
+
+#[test]
+fn refusals_put_all_back(rt: HostRuntime) -> Result<(), Fail> {
+    let mut decoder = Decoder::new(rt.alloc());
+    let many = many_templates(rt.alloc(), 256, 100)?;
+    let known: &[&[u8]] = &[&many, options_set()];
+    assert!(rt; reads(rt.alloc(), &mut decoder, 0, known, &[], None, 0));
+    let before = listed(rt.alloc(), &decoder)?;
+    assert!(rt; before.len() == 100);
+    for _ in 0..3 {
+        let refused = turned_over(
+            rt.alloc(),
+            &mut decoder,
+            b"\x00\x02\x00\x08\x00\x03\x00\x00",
+        );
+        assert!(rt; refused.is_err() && lists(&decoder, &before));
+        // Both have the fields that they had.
+        let sets: &[&[u8]] = &[
+            b"\x01\x00\x00\x06\xaa\xbb",
+            b"\x01\x01\x00\x0a\x00\x00\x00\x07\x12\x34",
+        ];
+        let places: &[(u32, bool)] = &[(5, false), (6, false), (7, true)];
+        assert!(rt; reads(rt.alloc(), &mut decoder, 5, sets, places, None, 0));
+    }
+    let kept = turned_over(rt.alloc(), &mut decoder, data_set())?;
+    assert!(rt; has_places(&kept, &[(0, false)]) && lists(&decoder, &[(7, 256, false)]));
+    Ok(())
+}
+
 // A template set of templates of one octet, from one ID on.
 fn many_templates(alloc: Global, first: u16, count: u16) -> Result<Vec<u8>, AllocError> {
     let mut octets = Vec::new(alloc);
@@ -650,33 +715,56 @@ fn skips_sets_and_padding(rt: HostRuntime) -> Result<(), Fail> {
     Ok(())
 }
 
+// The templates that sessions know before they get something damaged: none; that of the first message, and an options
+// template of another domain.
+const KNOWN: [&[(u32, u16, bool)]; 2] = [&[], &[(8, 300, true), (7, 256, false)]];
+
 // Whether these octets are read, or refused with the templates as they were.
-fn is_harmless(alloc: Global, decoder: &mut Decoder, octets: &[u8]) -> bool {
+fn is_harmless(
+    alloc: Global,
+    decoder: &mut Decoder,
+    octets: &[u8],
+    known: &[(u32, u16, bool)],
+) -> bool {
     match answer(alloc, decoder, octets) {
         Some(Ok(_)) => true,
-        Some(Err(fault)) => fault != DecodeFault::Memory && lists(decoder, &[(8, 300, true)]),
-        None => lists(decoder, &[(8, 300, true)]),
+        Some(Err(fault)) => fault != DecodeFault::Memory && lists(decoder, known),
+        None => lists(decoder, known),
     }
 }
 
-// A session of which domain 8 has an options template.
-fn session(alloc: Global) -> Result<Decoder, DecodeFault> {
-    let mut decoder = Decoder::new(alloc);
-    let sets: &[&[u8]] = &[b"\x00\x03\x00\x0e\x01\x2c\x00\x01\x00\x01\x00\x95\x00\x04"];
-    let known = message(alloc, 0, sets)?;
-    let octets = changed(alloc, &known, 12, b"\x00\x00\x00\x08")?;
-    match answer(alloc, &mut decoder, &octets) {
-        Some(Ok(_)) => Ok(decoder),
+// Reads a message that has no fault.
+fn learn(alloc: Global, decoder: &mut Decoder, octets: &[u8]) -> Result<(), DecodeFault> {
+    match answer(alloc, decoder, octets) {
+        Some(Ok(_)) => Ok(()),
         Some(Err(fault)) => Err(fault),
         None => Err(DecodeFault::Memory),
     }
 }
 
-fn survives_cuts(alloc: Global, octets: &[u8]) -> Result<bool, DecodeFault> {
-    let mut decoder = session(alloc)?;
+// A session that knows these templates.
+fn session(alloc: Global, known: &[(u32, u16, bool)]) -> Result<Decoder, DecodeFault> {
+    let mut decoder = Decoder::new(alloc);
+    if known.is_empty() {
+        return Ok(decoder);
+    }
+    let sets: &[&[u8]] = &[b"\x00\x03\x00\x0e\x01\x2c\x00\x01\x00\x01\x00\x95\x00\x04"];
+    let options = message(alloc, 0, sets)?;
+    let octets = changed(alloc, &options, 12, b"\x00\x00\x00\x08")?;
+    learn(alloc, &mut decoder, &octets)?;
+    learn(alloc, &mut decoder, &message(alloc, 0, &[template_set()])?)?;
+    Ok(decoder)
+}
+
+fn survives_cuts(
+    alloc: Global,
+    octets: &[u8],
+    known: &[(u32, u16, bool)],
+) -> Result<bool, DecodeFault> {
+    let mut decoder = session(alloc, known)?;
     for length in 0..octets.len() {
         if split_message(alloc, part(octets, 0, length)).is_ok()
-            || !is_harmless(alloc, &mut decoder, part(octets, 0, length))
+            || !is_harmless(alloc, &mut decoder, part(octets, 0, length), known)
         {
             return Ok(false);
         }
@@ -684,24 +772,37 @@ fn survives_cuts(alloc: Global, octets: &[u8]) -> Result<bool, DecodeFault> {
     Ok(true)
 }
 
-fn survives_at(alloc: Global, octets: &[u8], at: usize) -> Result<bool, DecodeFault> {
+fn survives_at(
+    alloc: Global,
+    octets: &[u8],
+    at: usize,
+    known: &[(u32, u16, bool)],
+) -> Result<bool, DecodeFault> {
     for octet in 0..=255 {
-        let mut decoder = session(alloc)?;
+        let mut decoder = session(alloc, known)?;
         let octets = changed(alloc, octets, at, &[octet])?;
-        if !is_harmless(alloc, &mut decoder, &octets) {
+        if !is_harmless(alloc, &mut decoder, &octets, known) {
             return Ok(false);
         }
     }
     Ok(true)
 }
 
+// Whether each cut and each change of an octet is harmless to a session that knows these templates.
+fn survives(alloc: Global, octets: &[u8], known: &[(u32, u16, bool)]) -> Result<bool, DecodeFault> {
+    for at in 0..octets.len() {
+        if !survives_at(alloc, octets, at, known)? {
+            return Ok(false);
+        }
+    }
+    Ok(survives_cuts(alloc, octets, known)? && lists(&session(alloc, known)?, known))
+}
+
 #[test]
 fn no_damage_is_kept(rt: HostRuntime) -> Result<(), Fail> {
-    for octets in [fixed(), variable()] {
-        assert!(rt; survives_cuts(rt.alloc(), octets)?);
-        for at in 0..octets.len() {
-            assert!(rt; survives_at(rt.alloc(), octets, at)?, "octet {at}");
-        }
+    for known in KNOWN {
+        assert!(rt; survives(rt.alloc(), fixed(), known)?);
+        assert!(rt; survives(rt.alloc(), variable(), known)?);
     }
     Ok(())
 }
@@ -722,9 +823,9 @@ fn faults_have_numbers_and_texts(rt: HostRuntime) -> Result<(), Fail> {
         let line = format!(in rt.alloc(); "{} {fault}\n", fault.number())?;
         text.push_str(&line)?;
     }
-    assert_eq!(rt;
-        text.as_str(),
-        "1 the template record at offset 20 has an ID below 256\n\
+    assert!(rt;
+        text.as_str()
+            == "1 the template record at offset 20 has an ID below 256\n\
 2 the template record at offset 21 goes on past the end of its set\n\
 3 the options template at offset 22 has no scope field, or more of them than fields\n\
 4 template 256 gives its records no octet\n\

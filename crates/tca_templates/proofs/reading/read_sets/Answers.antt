@@ -5,13 +5,12 @@ use Rattle.std.proofs.lemmas.Result.{err_from_is_err_and}
 use Rattle.tca_wire.specs.declared.message.SetSpan.{SetSpan}
 use Rattle.tca_wire.proofs.Tiles.{blank_set, tile_span, tile_next, tile_few}
 use Rattle.tca_templates.specs.Reading.{set_of, before}
-use Rattle.tca_templates.specs.Fields.{is_template_set}
 use Rattle.tca_templates.specs.declared.fault.DecodeFault.TheVariants.{Memory}
 use Rattle.tca_templates.specs.Fields.{templates_of}
 use Rattle.tca_templates.specs.Wants.{IsWantedInSet}
 use Rattle.tca_templates.proofs.SessionLaws.{templates_have, reading_found}
 use Rattle.tca_templates.proofs.Wanting.{sets_more, none_read, three_parts}
-use Rattle.tca_templates.proofs.Sets.{sets_step, sets_all, none_at}
+use Rattle.tca_templates.proofs.Sets.{sets_step, sets_all}
 use Rattle.tca_templates.proofs.reading.read_sets.Goals as goal
 
 pub read_set-requires-clause-least : goal.read_set-requires-clause-least
@@ -44,7 +43,7 @@ loop-set-init g c =
       bound = omega arith;
       sets = omega arith;
       skipped = omega arith;
-      kept = λ none. refl;
+      before = refl;
     }
 
 pub returns-in_err-aside-clause-exact : goal.returns-in_err-aside-clause-exact
@@ -73,7 +72,7 @@ loop-set-preserved g c =
       bound = omega (arith, c.in_ok-aside.ensures.few, ap (λ (s : SetSpan). s.at + s.length) here, (tile_span m.sets.items 16 (drop 16 m.octets.now) m.tiled c.loop-set.set-index lt).within, m.whole, m.room, length-drop 16 m.octets.now);
       sets = omega (arith, lt);
       skipped = omega (arith, c.in_ok-aside.ensures.skipped, c.loop-set.invariant.skipped);
-      kept = λ none. c.in_ok-aside.ensures.kept (ap is_template_set here ∙ none_at is_template_set m.sets.items c.loop-set.set-index none lt) ∙ c.loop-set.invariant.kept none;
+      before = c.in_ok-aside.ensures.before ∙ c.loop-set.invariant.before;
     }
 
 pub returns-clause-exact : goal.returns-clause-exact

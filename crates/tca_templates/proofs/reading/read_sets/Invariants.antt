@@ -1,8 +1,7 @@
-use Rattle.std.proofs.Common.{◌≡◌, ◌≤◌, ◌<◌, [], length, take, drop, get_or, false, Ok}
-use Rattle.std.specs.List.{list_any}
+use Rattle.std.proofs.Common.{◌≡◌, ◌≤◌, ◌<◌, [], length, take, drop, get_or, Ok}
 use Rattle.tca_wire.proofs.Tiles.{blank_set}
 use Rattle.tca_templates.specs.Reading.{ReadMessage, sets_on, read_of}
-use Rattle.tca_templates.specs.Fields.{templates_of, is_template_set}
+use Rattle.tca_templates.specs.Fields.{templates_of}
 use Rattle.tca_templates.specs.Taking.{HasCome}
 use Rattle.tca_templates.proofs.reading.read_sets.Given as goal
 
@@ -16,5 +15,5 @@ invariant-loop-set g l = record {
   bound : l.aside.count ≤ length l.message.octets.now;
   sets : l.set-index ≤ length l.message.sets.items;
   skipped : l.aside.skipped ≤ l.set-index;
-  kept : list_any is_template_set l.message.sets.items ≡ false → templates_of l.templates ≡ templates_of l.fn.templates;
+  before : l.templates.before ≡ l.fn.templates.before;
 }

@@ -18,6 +18,7 @@ loop-rest-preserved c =
     record {
       so_far = rw c.split_at.ensures.back (sym step ∙ c.loop-rest.invariant.so_far);
       leads = (suc c.loop-rest.invariant.leads.0, rw c.split_at.ensures.back (leads_more (template_front c.args.domain c.args.options) c.loop-rest.invariant.leads.0 _ _ _ c.args.at c.loop-rest.at n c.args.octets.now rest c.loop-rest.invariant.leads.1 c.in_ok-size.ensures.next));
+      before = c.in_ok-size.ensures.before ∙ c.loop-rest.invariant.before;
       place = rw c.split_at.ensures.back (omega (arith, length-drop n rest, c.in_ok-size.ensures.within.1, c.loop-rest.invariant.place));
     }
 
@@ -34,7 +35,7 @@ returns-clause-exact c =
     ∙ changes_end c.args.domain c.args.options (templates_of c.loop-rest.templates) c.loop-rest.at c.loop-rest.rest.now c.loop-rest-test.false
 
 pub loop-rest-init : goal.loop-rest-init
-loop-rest-init c = record { so_far = refl; leads = (0, (refl, refl, refl)); place = refl }
+loop-rest-init c = record { so_far = refl; leads = (0, (refl, refl, refl)); before = refl; place = refl }
 
 pub returns-in_err-size-clause-wanted : goal.returns-in_err-size-clause-wanted
 returns-in_err-size-clause-wanted c =

@@ -2,7 +2,7 @@ use Rattle.std.proofs.Common.{◌∷◌, List, Option, refl, ap, sym, arith, len
 use Rattle.std.specs.Slice.Iter.{iter_rest}
 use Rattle.tca_templates.specs.declared.template.Template.{Template}
 use Rattle.tca_templates.specs.Templates.{Key, listed}
-use Rattle.tca_templates.specs.Fields.{templates_of}
+use Rattle.tca_templates.specs.Fields.{entries_of}
 use Rattle.tca_templates.specs.Slotted.{filled}
 use Rattle.tca_templates.proofs.SlotLaws.{filled_none}
 use Rattle.tca_templates.proofs.iter.TemplatesIterIterator.next.Goals as goal
@@ -13,13 +13,13 @@ loop-slot-init c = refl
 pub returns-in-Some-slot-clause-steps : goal.returns-in-Some-slot-clause-steps
 returns-in-Some-slot-clause-steps c =
     sym c.self.view_is
-    ∙ ap (λ (es : List (Key × Template)). listed (templates_of es)) (sym c.loop-slot.invariant ∙ ap filled c.in-Some.ensures.steps
+    ∙ ap (λ (es : List (Key × Template)). listed (entries_of es)) (sym c.loop-slot.invariant ∙ ap filled c.in-Some.ensures.steps
     ∙ ap (λ (s : Option (Key × Template)). filled (s ∷ iter_rest c.next.new.self)) c.in-Some-slot.is)
 
 pub returns-in-Some-slot-clause-goes : goal.returns-in-Some-slot-clause-goes
 returns-in-Some-slot-clause-goes c =
     let steps = sym c.self.view_is
-    ∙ ap (λ (es : List (Key × Template)). listed (templates_of es)) (sym c.loop-slot.invariant ∙ ap filled c.in-Some.ensures.steps
+    ∙ ap (λ (es : List (Key × Template)). listed (entries_of es)) (sym c.loop-slot.invariant ∙ ap filled c.in-Some.ensures.steps
     ∙ ap (λ (s : Option (Key × Template)). filled (s ∷ iter_rest c.next.new.self)) c.in-Some-slot.is) in
     let shorter = ap length steps in
     record { on = λ f. (tt, tt, omega (arith, shorter)); keeps = tt; rests = λ f. tt }
@@ -34,6 +34,6 @@ loop-slot-preserved c =
 pub returns-clause-steps : goal.returns-clause-steps
 returns-clause-steps c =
     let none = filled_none (iter_rest c.loop-slot.self-inside.left) c.in_default.ensures.steps.0 in (
-      sym c.self.view_is ∙ ap (λ (es : List (Key × Template)). listed (templates_of es)) (sym c.loop-slot.invariant ∙ none),
-      ap (λ t. listed (templates_of (filled (iter_rest t)))) c.in_default.ensures.steps.1 ∙ ap (λ (es : List (Key × Template)). listed (templates_of es)) none,
+      sym c.self.view_is ∙ ap (λ (es : List (Key × Template)). listed (entries_of es)) (sym c.loop-slot.invariant ∙ none),
+      ap (λ t. listed (entries_of (filled (iter_rest t)))) c.in_default.ensures.steps.1 ∙ ap (λ (es : List (Key × Template)). listed (entries_of es)) none,
     )

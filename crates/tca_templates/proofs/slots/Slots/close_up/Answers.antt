@@ -3,25 +3,34 @@ use Rattle.std.specs.Option.{is_some}
 use Rattle.std.proofs.lemmas.Fn.{filter_same}
 use Rattle.tca_templates.specs.Templates.{Key}
 use Rattle.tca_templates.specs.declared.template.Template.{Template}
-use Rattle.tca_templates.specs.Slotted.{filled, IsApart}
+use Rattle.tca_templates.specs.Slotted.{filled, IsApart, IsSlotted}
 use Rattle.tca_templates.proofs.SlotLaws.{full_apart, full_count, filled_full, filled_few}
+use Rattle.tca_templates.proofs.StepLaws.{no_before, no_steps}
 use Rattle.tca_templates.proofs.slots.Slots.close_up.Goals as goal
 
 pub number-requires-clause-apart : goal.number-requires-clause-apart
 number-requires-clause-apart c =
     let full : c.retain.new.self.items ≡ filter is_some c.self.inside.slots.items = filter_same _ _ _ (λ x b f' k. search rules) _ _ c.retain.ensures.filtered in
-    subst (λ (ss : List (Option (Key × Template))). IsApart ss) (sym (c.deref.ensures.value ∙ full)) (full_apart c.self.inside.slots.items c.self.invariant.apart)
+    subst (λ (ss : List (Option (Key × Template))). IsApart ss) (sym (c.deref.ensures.value ∙ full)) (full_apart c.self.inside.slots.items c.self.invariant.slotted.apart)
 
 pub number-requires-clause-room : goal.number-requires-clause-room
 number-requires-clause-room c =
     let full : c.retain.new.self.items ≡ filter is_some c.self.inside.slots.items = filter_same _ _ _ (λ x b f' k. search rules) _ _ c.retain.ensures.filtered in
     let same = ap length (c.deref.ensures.value ∙ full) in
-    omega (arith, same, full_count c.self.inside.slots.items, c.self.invariant.counted)
+    omega (arith, same, full_count c.self.inside.slots.items, c.self.invariant.slotted.counted)
+
+pub invariant_of-self : goal.invariant_of-self
+invariant_of-self c =
+    let none = sym c.is_some.ensures ∙ c.if-is_some.false in
+    record { slotted = subst (λ (ss : List (Option (Key × Template))). IsSlotted ss c.number.new.places.entries) c.deref.ensures.value c.number.ensures; steps_back = no_steps _ c.self.inside.steps _ none; few = no_steps _ c.self.inside.steps _ none }
 
 pub returns : goal.returns
 returns c =
     let full : c.retain.new.self.items ≡ filter is_some c.self.inside.slots.items = filter_same _ _ _ (λ x b f' k. search rules) _ _ c.retain.ensures.filtered in
-    ap filled full ∙ filled_full c.self.inside.slots.items ∙ c.self.view_is
+    let all = ap filled full ∙ filled_full c.self.inside.slots.items in
+    let none = sym c.is_some.ensures ∙ c.if-is_some.false in
+    let before = no_before _ c.self.inside.steps c.retain.new.self.items c.self.inside.slots.items none in
+    (λ i. record { known = all i; before = before i }) ∙ c.self.view_is
 
 pub overflow_sub-empty : goal.overflow_sub-empty
-overflow_sub-empty c = omega (arith, c.len.ensures, c.len-2.ensures.len, c.self.invariant.counted, filled_few c.self.inside.slots.items)
+overflow_sub-empty c = omega (arith, c.len.ensures, c.len-2.ensures.len, c.self.invariant.slotted.counted, filled_few c.self.inside.slots.items)

@@ -1,32 +1,45 @@
-use Rattle.std.proofs.Common.{◌≡◌, ap, sym, arith, ◌∙◌}
+use Rattle.std.proofs.Common.{◌≡◌, List, ap, sym, ◌∙◌}
 use Rattle.std.specs.Prelude.{Some}
-use Rattle.tca_templates.specs.Templates.{Key}
-use Rattle.tca_templates.specs.Fields.{templates_of}
-use Rattle.tca_templates.specs.Slotted.{place_of}
+use Rattle.std.specs.Map.{lookup}
+use Rattle.tca_templates.specs.declared.template.Template.{Template}
+use Rattle.tca_templates.specs.Templates.{Key, same_key, define}
+use Rattle.tca_templates.specs.Fields.{SlotsView, template_of, entries_of}
+use Rattle.tca_templates.specs.Slotted.{place_of, filled}
 use Rattle.tca_templates.proofs.Stored.{templates-insert}
-use Rattle.tca_templates.proofs.SlotLaws.{stands, slotted_put, filled_put, unknown}
+use Rattle.tca_templates.proofs.SlotLaws.{stands, filled_put, unknown}
+use Rattle.tca_templates.proofs.StepLaws.{kept_as, kept_room, kept_put, before_put}
 use Rattle.tca_templates.proofs.slots.Slots.define.Goals as goal
 
-pub index_mut-requires : goal.index_mut-requires
-index_mut-requires c =
+pub put-requires-clause-place : goal.put-requires-clause-place
+put-requires-clause-place c =
     let key : Key = (c.args.domain, c.args.id) in
-    let place : place_of key c.self.inside.slots.items ≡ Some c.in-Some.place.now = sym (c.in-Some.ensures.value ∙ c.self.invariant.found key) in
-    let s = stands key c.self.inside.slots.items c.in-Some.place.now place in
-    omega (arith, s.within)
+    let place : place_of key c.self.inside.slots.items ≡ Some c.in-Some.place.now = sym (c.in-Some.ensures.value ∙ c.self.invariant.slotted.found key) in
+    (stands key c.self.inside.slots.items c.in-Some.place.now place).within
 
-pub invariant_of-self : goal.invariant_of-self
-invariant_of-self c =
+pub invariant_of-self-in-Some : goal.invariant_of-self-in-Some
+invariant_of-self-in-Some c =
+    let ss = c.self.inside.slots.items in
     let key : Key = (c.args.domain, c.args.id) in
-    let place : place_of key c.self.inside.slots.items ≡ Some c.in-Some.place.now = sym (c.in-Some.ensures.value ∙ c.self.invariant.found key) in
-    slotted_put key c.args.template c.self.inside.slots.items c.self.inside.places.entries c.in-Some.place.now c.self.invariant place
+    let place : place_of key ss ≡ Some c.in-Some.place.now = sym (c.in-Some.ensures.value ∙ c.self.invariant.slotted.found key) in
+    let room = kept_room ss _ c.make_room.new.places.entries _ _ _ _ c.self.invariant c.make_room.ensures.places c.make_room.ensures.steps c.make_room.ensures.spare in
+    kept_as _ _ _ _ _ _ c.put.ensures.slots c.put.ensures.steps (kept_put key c.args.template ss _ _ _ c.in-Some.place.now room place c.in_ok-make_room.ensures.room)
+
+pub returns-in-Some-clause-before : goal.returns-in-Some-clause-before
+returns-in-Some-clause-before c =
+    before_put _ _ _ c.self.inside.slots.items _ c.in-Some.place.now (Some ((c.args.domain, c.args.id), c.args.template)) c.put.ensures.steps c.put.ensures.slots c.make_room.ensures.steps
+    ∙ ap (λ (v : SlotsView). v.before) c.self.view_is
 
 pub returns-in-Some-clause-ok : goal.returns-in-Some-clause-ok
 returns-in-Some-clause-ok c =
+    let ss = c.self.inside.slots.items in
     let key : Key = (c.args.domain, c.args.id) in
-    let place : place_of key c.self.inside.slots.items ≡ Some c.in-Some.place.now = sym (c.in-Some.ensures.value ∙ c.self.invariant.found key) in
-    rw (← c.self.view_is) (ap templates_of (filled_put key c.args.template c.self.inside.slots.items c.in-Some.place.now place) ∙ templates-insert _ key c.args.template)
+    let place : place_of key ss ≡ Some c.in-Some.place.now = sym (c.in-Some.ensures.value ∙ c.self.invariant.slotted.found key) in
+    let known = ap (λ (v : SlotsView). v.known) c.self.view_is in
+    ap (λ ts. entries_of (filled ts)) c.put.ensures.slots ∙ ap entries_of (filled_put key c.args.template ss c.in-Some.place.now place) ∙ templates-insert _ key c.args.template
+    ∙ ap (λ (es : List (Key × Template)). define key (template_of c.args.template) (entries_of es)) known
 
 pub push-requires : goal.push-requires
 push-requires c =
     let key : Key = (c.args.domain, c.args.id) in
-    rw (← c.self.view_is) (unknown key c.self.inside.slots.items (sym (c.self.invariant.found key) ∙ sym c.in_default.ensures.value))
+    let known = ap (λ (v : SlotsView). v.known) c.self.view_is in
+    ap (lookup (same_key key)) (sym known) ∙ unknown key c.self.inside.slots.items (sym (c.self.invariant.slotted.found key) ∙ sym c.in_default.ensures.value)

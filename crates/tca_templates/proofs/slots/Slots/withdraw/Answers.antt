@@ -1,41 +1,51 @@
-use Rattle.std.proofs.Common.{◌≡◌, ap, sym, arith, ◌∙◌}
-use Rattle.std.specs.Prelude.{Some}
-use Rattle.tca_templates.specs.Templates.{Key}
-use Rattle.tca_templates.specs.Fields.{templates_of}
+use Rattle.std.proofs.Common.{◌≡◌, List, ap, sym, ◌∙◌}
+use Rattle.std.specs.Prelude.{Some, None}
+use Rattle.tca_templates.specs.declared.template.Template.{Template}
+use Rattle.tca_templates.specs.Templates.{Key, withdraw}
+use Rattle.tca_templates.specs.Fields.{SlotsView, entries_of}
 use Rattle.tca_templates.specs.Slotted.{place_of, filled}
 use Rattle.tca_templates.proofs.Stored.{templates-remove}
-use Rattle.tca_templates.proofs.SlotLaws.{stands, slotted_out, filled_out, absent_out, unknown}
-use Rattle.tca_templates.proofs.slots.Slots.withdraw.Goals.{in-Some-1, in-None-1}
+use Rattle.tca_templates.proofs.SlotLaws.{stands, filled_out, absent_out, unknown}
+use Rattle.tca_templates.proofs.StepLaws.{kept_as, kept_room, kept_out, before_put}
 use Rattle.tca_templates.proofs.slots.Slots.withdraw.Goals as goal
 
-pub index_mut-requires : goal.index_mut-requires
-index_mut-requires c =
+pub put-requires-clause-place : goal.put-requires-clause-place
+put-requires-clause-place c =
+    let ss = c.self.inside.slots.items in
     let key : Key = (c.args.domain, c.args.id) in
-    let place : place_of key c.self.inside.slots.items ≡ Some c.in-Some.place = sym (c.in-Some.ensures.value ∙ c.self.invariant.found key) in
-    let s = stands key c.self.inside.slots.items c.in-Some.place place in
-    omega (arith, s.within)
+    let room = kept_room ss _ c.make_room.new.places.entries _ _ _ _ c.self.invariant c.make_room.ensures.places c.make_room.ensures.steps c.make_room.ensures.spare in
+    let place : place_of key ss ≡ Some c.in-Some.place = sym (c.in-Some.ensures.value ∙ room.slotted.found key) in
+    (stands key ss c.in-Some.place place).within
 
-pub invariant_of-self : goal.invariant_of-self
-invariant_of-self c =
+pub invariant_of-self-in-Some : goal.invariant_of-self-in-Some
+invariant_of-self-in-Some c =
+    let ss = c.self.inside.slots.items in
     let key : Key = (c.args.domain, c.args.id) in
-    let place : place_of key c.self.inside.slots.items ≡ Some c.in-Some.place = sym (c.in-Some.ensures.value ∙ c.self.invariant.found key) in
-    slotted_out key c.self.inside.slots.items c.self.inside.places.entries c.swap_remove.new.self.entries c.in-Some.place c.self.invariant place c.swap_remove.ensures.updates.0 c.in-Some.ensures.len
+    let room = kept_room ss _ c.make_room.new.places.entries _ _ _ _ c.self.invariant c.make_room.ensures.places c.make_room.ensures.steps c.make_room.ensures.spare in
+    let place : place_of key ss ≡ Some c.in-Some.place = sym (c.in-Some.ensures.value ∙ room.slotted.found key) in
+    kept_as _ _ _ _ _ _ c.put.ensures.slots c.put.ensures.steps
+    (kept_out key ss _ _ _ _ _ c.in-Some.place room place c.swap_remove.ensures.updates.0 c.in-Some.ensures.len c.in_ok-make_room.ensures.room c.swap_remove.ensures.room.0)
 
-pub invariant_of-self-in-Some-2 : goal.invariant_of-self-in-Some-2
-invariant_of-self-in-Some-2 c =
-    let key : Key = (c.args.domain, c.args.id) in
-    let place : place_of key c.self.inside.slots.items ≡ Some c.in-Some.place = sym (c.in-Some.ensures.value ∙ c.self.invariant.found key) in
-    slotted_out key c.self.inside.slots.items c.self.inside.places.entries c.swap_remove.new.self.entries c.in-Some.place c.self.invariant place c.swap_remove.ensures.updates.0 c.in-Some.ensures.len
+pub returns-in-Some-clause-before : goal.returns-in-Some-clause-before
+returns-in-Some-clause-before c =
+    before_put _ _ _ c.self.inside.slots.items _ c.in-Some.place None c.put.ensures.steps c.put.ensures.slots c.make_room.ensures.steps
+    ∙ ap (λ (v : SlotsView). v.before) c.self.view_is
 
-pub returns-in-Some : goal.returns-in-Some
-returns-in-Some c =
+pub returns-in-Some-clause-ok : goal.returns-in-Some-clause-ok
+returns-in-Some-clause-ok c =
+    let ss = c.self.inside.slots.items in
     let key : Key = (c.args.domain, c.args.id) in
-    let place : place_of key c.self.inside.slots.items ≡ Some c.in-Some.place = sym (c.in-Some.ensures.value ∙ c.self.invariant.found key) in
-    let out = ap templates_of (filled_out key c.self.inside.slots.items c.in-Some.place place) ∙ templates-remove _ key in
-    elim c.match-index_mut.branch [ in-Some-1 w ↦ rw (← c.self.view_is) (ap templates_of w.self-is ∙ out) | in-None-1 w ↦ rw (← c.self.view_is) (ap templates_of w.self-is ∙ out) ]
+    let room = kept_room ss _ c.make_room.new.places.entries _ _ _ _ c.self.invariant c.make_room.ensures.places c.make_room.ensures.steps c.make_room.ensures.spare in
+    let place : place_of key ss ≡ Some c.in-Some.place = sym (c.in-Some.ensures.value ∙ room.slotted.found key) in
+    let known = ap (λ (v : SlotsView). v.known) c.self.view_is in
+    ap (λ ts. entries_of (filled ts)) c.put.ensures.slots ∙ ap entries_of (filled_out key ss c.in-Some.place place) ∙ templates-remove _ key
+    ∙ ap (λ (es : List (Key × Template)). withdraw key (entries_of es)) known
 
-pub returns-in_default : goal.returns-in_default
-returns-in_default c =
+pub returns-in_default-clause-ok : goal.returns-in_default-clause-ok
+returns-in_default-clause-ok c =
+    let ss = c.self.inside.slots.items in
     let key : Key = (c.args.domain, c.args.id) in
-    let none = unknown key c.self.inside.slots.items (sym (c.in_default.ensures.value ∙ c.self.invariant.found key)) in
-    rw (← c.self.view_is) (ap templates_of (sym (absent_out key (filled c.self.inside.slots.items) none)) ∙ templates-remove (filled c.self.inside.slots.items) key)
+    let room = kept_room ss _ c.make_room.new.places.entries _ _ _ _ c.self.invariant c.make_room.ensures.places c.make_room.ensures.steps c.make_room.ensures.spare in
+    let none = unknown key ss (sym (c.in_default.ensures.value ∙ room.slotted.found key)) in
+    let known = ap (λ (v : SlotsView). v.known) c.self.view_is in
+    ap entries_of (sym (absent_out key (filled ss) none)) ∙ templates-remove (filled ss) key ∙ ap (λ (es : List (Key × Template)). withdraw key (entries_of es)) known
