@@ -3,18 +3,21 @@ use Rattle.std.proofs.Common.{◌≡◌, ℕ, suc, zero, ◌+◌, ◌-◌, ◌<�
 use Rattle.std.specs.List.{AllByRecursion}
 use Rattle.std.proofs.lemmas.Bool.{ne_eqb, eqb-true, eqb-false, ltb-false, le-ltb}
 use Rattle.tca_report.specs.report.Reports.{PacketReport}
+use Rattle.tca_log.specs.declared.fault.LogFault.{LogFault}
 use Rattle.tca_join.specs.Chains.{differ_at}
-use Rattle.tca_gossip.specs.Replicas.{ReplicaView, chain_of, appended, of, with_origin}
-use Rattle.tca_gossip.specs.Runs.{RunView, AreRuns, Fault, OwnAhead, Gap, Forked, Outcome, Appended, Stopped, Refused, IsOutcome, absorbed, rests, rest_of, fault_of, first_fault, forked, or_else, same_report}
+use Rattle.tca_gossip.specs.Replicas.{ReplicaView, IsReplica, chain_of, appended, of, with_origin}
+use Rattle.tca_gossip.specs.Runs.{RunView, AreRuns, Fault, OwnAhead, Gap, Forked, Outcome, Appended, Stopped, Refused, IsOutcome, absorbed, count_in, rests, rest_of, fault_of, first_fault, forked, or_else, same_report}
 use Rattle.tca_gossip.specs.Machines.{Message, Counts, Parts, Machine, IsWorld, IsPart, IsSound, Shows, held_prefix, at_name, raised, IsGapFault}
 use Rattle.tca_gossip.proofs.Worlds.{prefix_length, length_drop, part_within, no_fork, sent_fault}
 use Rattle.tca_gossip.proofs.Sends.{gained, gained_within, absorb_chain}
 use Rattle.tca_gossip.proofs.Appends.{of_append, of_tagged, of_other, appended_name, appended_plan}
 use Rattle.tca_gossip.proofs.Kept.{world_raised, others_raised}
-use Rattle.tca_gossip.specs.Steps.{Deliver, Absorbed, gap_at, first_gap, new_of, new_in, gain_of, end_at, reached, parts_at, Arrives, Delivers}
+use Rattle.tca_gossip.specs.Steps.{Deliver, Absorbed, gap_at, first_gap, new_of, new_in, gain_of, end_at, reached, parts_at, in_log, Arrives, Delivers, HasCause, IsSetOf}
+use Rattle.tca_gossip.specs.Answers.{IsCause}
 use Rattle.tca_gossip.specs.Coupling.{Delta, WorldView, IsCoupled, with_replica, StepsTo}
 use Rattle.tca_gossip.proofs.Places.{coupled_changes, shows_at, replica_at, is_there, message_at, ShowsOption, all_at, some_is}
-use Rattle.tca_gossip.proofs.Members.{replica_appended}
+use Rattle.tca_gossip.proofs.Members.{log_is, replica_appended}
+use Rattle.tca_gossip.proofs.Stops.{has_cause}
 
 -- a part is refused just as a gap
 gap_is : (m : Machine) (world : IsWorld m) (n : ℕ) (r : RunView) → IsPart m r → fault_of n (held_prefix m n) r ≡ gap_at m n r
@@ -178,11 +181,35 @@ arrives m w i v runs outcome coupled at right parts = ends outcome where
     refused (OwnAhead have said) is = absurd (subst IsGapFault (gap ∙ is) (sent_fault m world v.name runs parts))
     refused (Forked origin at) is = absurd (subst IsGapFault (gap ∙ is) (sent_fault m world v.name runs parts))
 
+set_there : {A : Type 0} (xs : List A) (i : ℕ) (x y : A) → slice_get xs i ≡ Some x → slice_get (slice_set xs i y) i ≡ Some y
+set_there [] i x y e = absurd cc
+set_there (z ∷ zs) zero x y e = refl
+set_there (z ∷ zs) (suc i) x y e = set_there zs i x y e
+
+-- the log of a replica in a world is the set of what is held
+held_set : (m : Machine) (w : WorldView) (i n : ℕ) (u : ReplicaView) → IsCoupled m w → slice_get w.replicas i ≡ Some u → u.name ≡ n → IsSetOf (in_log m n) u.log
+held_set m w i n u coupled at named =
+    let replica : IsReplica u = replica_at m w i u coupled at in
+    record {
+      rises = replica.log_rises;
+      same = λ q. log_is m u.name u coupled.world replica (shows_at m w i u coupled at) q ∙ ap (λ k. in_log m k q) named;
+    }
+
+-- the cause of an absorb, in the world after it
+caused : (m after : Machine) (w : WorldView) (i : ℕ) (v : ReplicaView) (runs : List RunView) (outcome : Outcome) (cause : Option LogFault) → IsCoupled m w → slice_get w.replicas i ≡ Some v → IsCoupled after (with_replica w i (absorbed v runs outcome))
+    → IsCause (absorbed v runs outcome).log (rests (chain_of v) runs) outcome cause → HasCause (in_log after v.name) (rests (held_prefix m v.name) runs) outcome cause
+caused m after w i v runs outcome cause coupled at changed is =
+    let u : ReplicaView = absorbed v runs outcome in
+    let shows = shows_at m w i v coupled at in
+    let held : IsSetOf (in_log after v.name) u.log = held_set after (with_replica w i u) i v.name u changed (set_there w.replicas i v u at) (appended_name v (take (count_in outcome) (rests (chain_of v) runs))) in
+    subst (λ (h : ℕ → List PacketReport). HasCause (in_log after v.name) (rests h runs) outcome cause) (λ j o. shows.chains o j)
+    (has_cause u.log (in_log after v.name) (rests (chain_of v) runs) outcome cause held is)
+
 -- a delivery is a step
-pub deliver_step : (m : Machine) (w : WorldView) (i : ℕ) (v : ReplicaView) (number : ℕ) (runs : List RunView) (outcome : Outcome) → IsCoupled m w → slice_get w.replicas i ≡ Some v → slice_get w.sent number ≡ Some (Delta runs)
-    → IsOutcome v.name (chain_of v) runs outcome → StepsTo m (Deliver number v.name) (Absorbed outcome) (with_replica w i (absorbed v runs outcome))
-deliver_step m w i v number runs outcome coupled at there is = found (slice_get m.sent number) (subst (ShowsOption (slice_get m.sent number)) there (message_at m.sent w.sent number coupled.sent)) refl where
-  found : (message : Option Message) → ShowsOption message (Some (Delta runs)) → slice_get m.sent number ≡ message → StepsTo m (Deliver number v.name) (Absorbed outcome) (with_replica w i (absorbed v runs outcome))
+pub deliver_step : (m : Machine) (w : WorldView) (i : ℕ) (v : ReplicaView) (number : ℕ) (runs : List RunView) (outcome : Outcome) (cause : Option LogFault) → IsCoupled m w → slice_get w.replicas i ≡ Some v → slice_get w.sent number ≡ Some (Delta runs)
+    → IsOutcome v.name (chain_of v) runs outcome → IsCause (absorbed v runs outcome).log (rests (chain_of v) runs) outcome cause → StepsTo m (Deliver number v.name) (Absorbed outcome cause) (with_replica w i (absorbed v runs outcome))
+deliver_step m w i v number runs outcome cause coupled at there is why = found (slice_get m.sent number) (subst (ShowsOption (slice_get m.sent number)) there (message_at m.sent w.sent number coupled.sent)) refl where
+  found : (message : Option Message) → ShowsOption message (Some (Delta runs)) → slice_get m.sent number ≡ message → StepsTo m (Deliver number v.name) (Absorbed outcome cause) (with_replica w i (absorbed v runs outcome))
   found None shown known = absurd shown
   found (Some (Counts counts)) shown known = absurd shown
   found (Some (Parts same)) shown known =
@@ -190,7 +217,7 @@ deliver_step m w i v number runs outcome coupled at there is = found (slice_get 
       let there : slice_get m.sent number ≡ Some (Parts runs) = known ∙ ap (λ rs. Some (Parts rs)) (sym shown) in
       let shows = shows_at m w i v coupled at in
       let ended = arrives m w i v runs outcome coupled at sound.0 sound.1 (subst (λ (h : ℕ → List PacketReport). IsOutcome v.name h runs outcome) (λ j o. shows.chains o j) is) in
-      (ended.0, (is_there m w i v coupled at, subst (λ z. Delivers m v.name (parts_at z) outcome ended.0) (sym there) ended.1), ended.2)
+      (ended.0, (is_there m w i v coupled at, subst (λ z. Delivers m v.name (parts_at z) outcome cause ended.0) (sym there) (ended.1, caused m ended.0 w i v runs outcome cause coupled at ended.2 why)), ended.2)
 
 -- no absorb of what was sent is forked or ahead
 pub only_gaps : (m : Machine) (n : ℕ) (v : ReplicaView) (runs : List RunView) → IsWorld m → Shows m n v → AllByRecursion (IsPart m) runs → IsGapFault (first_fault n (chain_of v) runs)

@@ -1,6 +1,6 @@
 -- How the steps of a world end.
 use Rattle.std.proofs.Common.{◌≡◌, ℕ, suc, zero, ◌<◌, ◌≤◌, Bool, true, false, ◌&&◌, ◌||◌, Option, None, Some, is_some, Result, Ok, Err, OnOk, OnErr, IfErr, List, [], ◌∷◌, ◌++◌, map, length, take, get_or, slice_get, slice_set, refl, sym, ap, ◌∙◌, subst, arith}
-use Rattle.std.proofs.lemmas.Bool.{ne_eqb, lt-ltb, le-ltb, ltb-true}
+use Rattle.std.proofs.lemmas.Bool.{ne_eqb, lt-ltb, le-ltb, ltb-true, ltb-false}
 use Rattle.std.proofs.lemmas.Option.{slice_get_read, get_or_from_slice_get}
 use Rattle.tca_report.specs.report.Reports.{PacketReport, report_cmp}
 use Rattle.tca_report.proofs.lemmas.report.Order.{report_total}
@@ -8,15 +8,16 @@ use Rattle.tca_join.specs.Sets.{has, in_order}
 use Rattle.tca_join.proofs.Sets.{has-append, has-in_order, rises_in_order}
 use Rattle.tca_join.specs.Faults.{IsJoinFault}
 use Rattle.tca_join.specs.declared.fault.JoinFault.{JoinFault}
+use Rattle.tca_log.specs.declared.fault.LogFault.{LogFault}
 use Rattle.tca_join.specs.declared.fault.JoinFault.TheVariants.{Clash, Full, Memory}
 use Rattle.tca_accounts.specs.Plans.{AccountPlan}
 use Rattle.tca_gossip.specs.Replicas.{ReplicaView, chain_of, fresh_of, merged_with, merge_clash, merge_full}
 use Rattle.tca_gossip.specs.Replicas.{taken as with_taken}
-use Rattle.tca_gossip.specs.Runs.{RunView, AreRuns, Outcome, IsOutcome, absorbed, summary_count, delta_of}
-use Rattle.tca_gossip.specs.Answers.{IsStopAt}
+use Rattle.tca_gossip.specs.Runs.{RunView, AreRuns, Outcome, IsOutcome, absorbed, rests, summary_count, delta_of}
+use Rattle.tca_gossip.specs.Answers.{IsCause, IsStopAt}
 use Rattle.tca_gossip.specs.Machines.{Machine, Counts, Parts, is_name}
 use Rattle.tca_gossip.specs.Machines.{Message as MachineMessage}
-use Rattle.tca_gossip.specs.Steps.{Take, Ask, Answer, Deliver, Merge, Took, Sent, Absorbed, Merged, Nothing, NoMemory, Joined, Unjoined, AreTooMany, can_send, counts_at, in_log, parts_at}
+use Rattle.tca_gossip.specs.Steps.{Take, Ask, Answer, Deliver, Merge, Took, Sent, Absorbed, Merged, Nothing, NoMemory, Joined, Unjoined, AreTooMany, AreWithin, IsSetOf, can_send, counts_at, in_log, parts_at}
 use Rattle.tca_gossip.specs.Coupling.{MessageView, Summary, Delta, WorldView, name_of, counts_of, ShowMessages, IsCoupled, StepsTo, with_replica, with_message}
 use Rattle.tca_gossip.specs.declared.fault.Taken.{Taken}
 use Rattle.tca_gossip.specs.declared.message.Message.{Message}
@@ -172,11 +173,12 @@ module _ (w : WorldView) (m : Machine) (coupled : IsCoupled m w) where
     pub answer_no_memory : (k : ℕ) (said : List (ℕ × ℕ)) (x : WorldView) → length w.sent < 4294967295 → slice_get w.sent k ≡ Some (Summary said) → x ≡ w → StepsTo m (Answer n k) NoMemory x
     answer_no_memory k said x h e is = (m, (rw (room h, has_counts k said e) refl, refl), subst (IsCoupled m) (sym is) coupled)
 
-    pub deliver_ends : (k : ℕ) (runs : List RunView) (u : ReplicaView) (outcome : Outcome) → slice_get w.sent k ≡ Some (Delta runs) → u ≡ absorbed v runs outcome → IsOutcome v.name (chain_of v) runs outcome → StepsTo m (Deliver k n) (Absorbed outcome) (with_replica w i u)
-    deliver_ends k runs u outcome e u-is is =
-        subst (λ z. StepsTo m (Deliver k z) (Absorbed outcome) (with_replica w i u)) named
-        (subst (λ z. StepsTo m (Deliver k v.name) (Absorbed outcome) (with_replica w i z)) (sym u-is)
-        (deliver_step m w i v k runs outcome coupled there e is))
+    pub deliver_ends : (k : ℕ) (runs : List RunView) (u : ReplicaView) (outcome : Outcome) (cause : Option LogFault) → slice_get w.sent k ≡ Some (Delta runs) → u ≡ absorbed v runs outcome → IsOutcome v.name (chain_of v) runs outcome → IsCause u.log (rests (chain_of v) runs) outcome cause
+        → StepsTo m (Deliver k n) (Absorbed outcome cause) (with_replica w i u)
+    deliver_ends k runs u outcome cause e u-is is why =
+        subst (λ z. StepsTo m (Deliver k z) (Absorbed outcome cause) (with_replica w i u)) named
+        (subst (λ z. StepsTo m (Deliver k v.name) (Absorbed outcome cause) (with_replica w i z)) (sym u-is)
+        (deliver_step m w i v k runs outcome cause coupled there e is (subst (λ (z : ReplicaView). IsCause z.log (rests (chain_of v) runs) outcome cause) u-is why)))
 
     pub merge_same : (k : ℕ) → n ≡ k → StepsTo m (Merge n k) (Merged Joined) w
     merge_same k same = subst (λ z. StepsTo m (Merge n z) (Merged Joined) w) same (merge_itself m w n coupled is_here)
@@ -191,24 +193,27 @@ module _ (w : WorldView) (m : Machine) (coupled : IsCoupled m w) where
         (merge_step eq itself exact m w i j v u coupled at other (ne_eqb v.name u.name (λ e. apart (sym v-named ∙ e ∙ u-named)))))
 
     -- both together are the union of the logs
-    too_many : merge_full v u ≡ true → AreTooMany (λ q. in_log m n q || in_log m k q)
-    too_many h =
+    held_by_both : IsSetOf (λ q. in_log m n q || in_log m k q) (in_order report_cmp (v.log ++ u.log))
+    held_by_both =
         let v-held : (q : PacketReport) → has report_cmp v.log q ≡ in_log m n q = λ q. log_is m v.name v coupled.world (replica_at m w i v coupled at) (shows_at m w i v coupled at) q ∙ ap (λ z. in_log m z q) v-named in
-        let u-held : (q : PacketReport) → has report_cmp u.log q ≡ in_log m k q = λ q. log_is m u.name u coupled.world (replica_at m w j u coupled other) (shows_at m w j u coupled other) q ∙ ap (λ z. in_log m z q) u-named in (
-          in_order report_cmp (v.log ++ u.log),
-          record {
-            rises = rises_in_order report_cmp report_total (v.log ++ u.log);
-            same = λ q. has-in_order report_cmp report_total (v.log ++ u.log) q ∙ has-append report_cmp report_total v.log u.log q ∙ (λ c. v-held q c || u-held q c);
-          },
-          ltb-true 4194304 (length (in_order report_cmp (v.log ++ u.log))) h,
-        )
+        let u-held : (q : PacketReport) → has report_cmp u.log q ≡ in_log m k q = λ q. log_is m u.name u coupled.world (replica_at m w j u coupled other) (shows_at m w j u coupled other) q ∙ ap (λ z. in_log m z q) u-named in
+        record {
+          rises = rises_in_order report_cmp report_total (v.log ++ u.log);
+          same = λ q. has-in_order report_cmp report_total (v.log ++ u.log) q ∙ has-append report_cmp report_total v.log u.log q ∙ (λ c. v-held q c || u-held q c);
+        }
+
+    too_many : merge_full v u ≡ true → AreTooMany (λ q. in_log m n q || in_log m k q)
+    too_many h = (in_order report_cmp (v.log ++ u.log), held_by_both, ltb-true 4194304 (length (in_order report_cmp (v.log ++ u.log))) h)
+
+    within : merge_full v u ≡ false → AreWithin (λ q. in_log m n q || in_log m k q)
+    within h = (in_order report_cmp (v.log ++ u.log), held_by_both, ltb-false 4194304 (length (in_order report_cmp (v.log ++ u.log))) h)
 
     merge_refused : (fault : JoinFault) → IsJoinFault (merge_clash eq v u) (merge_full v u) fault → StepsTo m (Merge n k) (Merged (Unjoined fault)) w
     merge_refused (Clash key) h = let none : merge_clash eq v u ≡ None = no_clash eq itself m u.name v u coupled.world (shows_at m w i v coupled at) (shows_at m w j u coupled other) (replica_at m w j u coupled other).rises in absurd cc
     merge_refused Full h = (m, (both, (ne_eqb n k apart, refl, too_many h.1)), coupled) where
       both : (is_name m n && is_name m k) ≡ true
       both = rw (subst (λ z. is_name m z ≡ true) v-named (is_there m w i v coupled at), subst (λ z. is_name m z ≡ true) u-named (is_there m w j u coupled other)) refl
-    merge_refused Memory h = (m, (both, (ne_eqb n k apart, refl)), coupled) where
+    merge_refused Memory h = (m, (both, (ne_eqb n k apart, refl, within h.1)), coupled) where
       both : (is_name m n && is_name m k) ≡ true
       both = rw (subst (λ z. is_name m z ≡ true) v-named (is_there m w i v coupled at), subst (λ z. is_name m z ≡ true) u-named (is_there m w j u coupled other)) refl
 

@@ -11,6 +11,7 @@ use Rattle.tca_gossip.specs.declared.fault.AbsorbFault.{AbsorbFault}
 use Rattle.tca_gossip.specs.declared.fault.AbsorbFault.TheVariants.{Gap, Forked, OwnAhead, Stopped as stopped_at}
 use Rattle.tca_gossip.specs.declared.fault.WorldFault.{WorldFault}
 use Rattle.tca_gossip.specs.declared.fault.WorldFault.TheVariants.{NameTwice, Memory as world_memory}
+use Rattle.tca_report.specs.export.Spelling.{most_reports}
 
 -- the number of a fault
 abbrev pub absorb_number : AbsorbFault → ℕ
@@ -25,8 +26,8 @@ world_number world_memory = 2
 
 -- why a log did not take a report that is not in it: the log is at its limit, or it has room and memory ran out
 abbrev pub IsRefusedFor : LogFault → List PacketReport → PacketReport → Type 0
-IsRefusedFor Full log r = (length log ≡ 4194304) × (has report_cmp log r ≡ false)
-IsRefusedFor Memory log r = (length log < 4194304) ⊎ (has report_cmp log r ≡ true)
+IsRefusedFor Full log r = (length log ≡ most_reports) × (has report_cmp log r ≡ false)
+IsRefusedFor Memory log r = (length log < most_reports) ⊎ (has report_cmp log r ≡ true)
 
 -- a take stops exactly where not all reports were gone through, before a report that is not held. The log is full then, or it
 -- has room and memory ran out
@@ -41,6 +42,21 @@ outcome_of (Err (Gap origin have from)) = Refused (gap origin have from)
 outcome_of (Err (Forked origin at)) = Refused (forked_at origin at)
 outcome_of (Err (OwnAhead have said)) = Refused (own_ahead have said)
 outcome_of (Err (stopped_at taken cause)) = Stopped taken
+
+-- why an absorb stopped, where it did
+abbrev pub cause_of : Result ℕ AbsorbFault → Option LogFault
+cause_of (Ok n) = None
+cause_of (Err (Gap origin have from)) = None
+cause_of (Err (Forked origin at)) = None
+cause_of (Err (OwnAhead have said)) = None
+cause_of (Err (stopped_at taken cause)) = Some cause
+
+-- an absorb that stopped has the cause for which the log did not take the next new report, and others have none
+abbrev pub IsCause : List PacketReport → List (ℕ × PacketReport) → Outcome → Option LogFault → Type 0
+IsCause log new (Appended n) cause = cause ≡ None
+IsCause log new (Refused fault) cause = cause ≡ None
+IsCause log new (Stopped n) None = ⊥
+IsCause log new (Stopped n) (Some fault) = (p : ℕ × PacketReport) → slice_get new n ≡ Some p → IsRefusedFor fault log p.1
 
 -- a fault as why a run is refused
 abbrev pub fault_view : Option AbsorbFault → Option Fault

@@ -4,7 +4,7 @@ use Rattle.std.specs.Ordering.{eq_by_cmp}
 use Rattle.std.specs.List.{AllByRecursion}
 use Rattle.tca_report.specs.report.Reports.{PacketReport, report_cmp}
 use Rattle.tca_join.specs.Maps.{get}
-use Rattle.tca_join.specs.Chains.{differ_at}
+use Rattle.tca_join.specs.Chains.{differ_at, most_items}
 use Rattle.tca_gossip.specs.Replicas.{ReplicaView, chain_of, appended, with_origin}
 
 -- reports of an origin's chain, from a place on
@@ -16,7 +16,7 @@ pub record RunView : Type 0 where
 -- runs of ascending origins, each within a chain's limit
 abbrev pub AreRuns : List RunView → Type 0
 AreRuns [] = Unit {0}
-AreRuns (r ∷ rs) = (r.start + length r.reports ≤ 4194304) × AllByRecursion (λ next. r.origin < next.origin) rs × AreRuns rs
+AreRuns (r ∷ rs) = (r.start + length r.reports ≤ most_items) × AllByRecursion (λ next. r.origin < next.origin) rs × AreRuns rs
 
 -- what a run has past the chain that is held
 abbrev pub rest_of : (ℕ → List PacketReport) → RunView → List PacketReport

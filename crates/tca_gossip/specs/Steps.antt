@@ -1,5 +1,5 @@
 -- The steps of a world, what each may answer, and what it leaves.
-use Rattle.std.specs.Prelude.{◌≡◌, ℕ, ◌+◌, ◌-◌, ◌<◌, ◌≤◌, min, max, Bool, true, false, ◌&&◌, ◌||◌, cond, nat_lt, ◌==◌, Option, None, Some, is_some, IfSome, List, [], ◌∷◌, length, take, slice_get}
+use Rattle.std.specs.Prelude.{◌≡◌, ℕ, ◌+◌, ◌-◌, ◌<◌, ◌≤◌, min, max, Bool, true, false, ◌&&◌, ◌||◌, ◌⊎◌, cond, nat_lt, ◌==◌, Option, None, Some, is_some, IfSome, List, [], ◌∷◌, length, take, slice_get}
 use Rattle.std.specs.List.{list_any}
 use Rattle.std.specs.List.Sorted.{IsStrictlySortedBy}
 use Rattle.tca_report.specs.report.Reports.{PacketReport, report_cmp}
@@ -8,8 +8,9 @@ use Rattle.tca_log.specs.declared.fault.LogFault.{LogFault}
 use Rattle.tca_log.specs.declared.fault.LogFault.TheVariants.{Full as at_limit, Memory as no_memory}
 use Rattle.tca_join.specs.declared.fault.JoinFault.{JoinFault}
 use Rattle.tca_join.specs.declared.fault.JoinFault.TheVariants.{Clash, Full, Memory}
-use Rattle.tca_gossip.specs.Runs.{RunView, Fault, OwnAhead, Gap, Forked, Outcome, Appended, Stopped, Refused, AreRuns, same_report, or_else}
+use Rattle.tca_gossip.specs.Runs.{RunView, Fault, OwnAhead, Gap, Forked, Outcome, Appended, Stopped, Refused, AreRuns, same_report, or_else, rests}
 use Rattle.tca_gossip.specs.Machines.{Message, Counts, Parts, Machine, is_name, held_prefix, at_name, took, sends, raised, joined, run_between}
+use Rattle.tca_report.specs.export.Spelling.{most_reports}
 
 pub data Step : Type 0 where
   -- the replica of this name takes reports
@@ -29,7 +30,8 @@ pub data MergeEnd : Type 0 where
 pub data Reply : Type 0 where
   Took : (taken fresh : ℕ) (stop : Option LogFault) → Reply
   Sent : (number : ℕ) → Reply
-  Absorbed : (outcome : Outcome) → Reply
+  -- and why, where it stopped
+  Absorbed : (outcome : Outcome) (cause : Option LogFault) → Reply
   Merged : (end : MergeEnd) → Reply
   Nothing : Reply
   NoMemory : Reply
@@ -50,12 +52,16 @@ pub record IsSetOf (held : PacketReport → Bool) (set : List PacketReport) : Ty
 
 -- why a report that isn't held is not taken: as many are held as may be, or there is room and memory ran out
 abbrev pub IsStopWith : (PacketReport → Bool) → LogFault → Type 0
-IsStopWith held at_limit = (set : List PacketReport) × IsSetOf held set × (length set ≡ 4194304)
-IsStopWith held no_memory = (set : List PacketReport) × IsSetOf held set × (length set < 4194304)
+IsStopWith held at_limit = (set : List PacketReport) × IsSetOf held set × (length set ≡ most_reports)
+IsStopWith held no_memory = (set : List PacketReport) × IsSetOf held set × (length set < most_reports)
 
 -- more reports pass a test than a log may have
 abbrev pub AreTooMany : (PacketReport → Bool) → Type 0
-AreTooMany held = (set : List PacketReport) × IsSetOf held set × (4194304 < length set)
+AreTooMany held = (set : List PacketReport) × IsSetOf held set × (most_reports < length set)
+
+-- no more reports pass a test than a log may have
+abbrev pub AreWithin : (PacketReport → Bool) → Type 0
+AreWithin held = (set : List PacketReport) × IsSetOf held set × (length set ≤ most_reports)
 
 -- a take goes through the first reports, and appends those that are new. It stops exactly where these aren't all
 pub record TakeEnds (m : Machine) (n : ℕ) (reports : List PacketReport) (taken fresh : ℕ) (stop : Option LogFault) (w : Machine) : Type 0 where
@@ -73,7 +79,7 @@ abbrev pub IsTake : Machine → ℕ → List PacketReport → Reply → Machine 
 IsTake m n reports (Took taken fresh stop) w = TakeEnds m n reports taken fresh stop w
 IsTake m n reports Nothing w = (is_name m n ≡ false) × (w ≡ m)
 IsTake m n reports (Sent number) w = ⊥
-IsTake m n reports (Absorbed outcome) w = ⊥
+IsTake m n reports (Absorbed outcome cause) w = ⊥
 IsTake m n reports (Merged end) w = ⊥
 IsTake m n reports NoMemory w = ⊥
 
@@ -86,7 +92,7 @@ IsAsk m n (Sent number) w = (can_send m n ≡ true) × (number ≡ length m.sent
 IsAsk m n Nothing w = (can_send m n ≡ false) × (w ≡ m)
 IsAsk m n NoMemory w = (can_send m n ≡ true) × (w ≡ m)
 IsAsk m n (Took taken fresh stop) w = ⊥
-IsAsk m n (Absorbed outcome) w = ⊥
+IsAsk m n (Absorbed outcome cause) w = ⊥
 IsAsk m n (Merged end) w = ⊥
 
 -- the run of an origin
@@ -124,7 +130,7 @@ IsAnswer m n message (Sent number) w = (can_send m n ≡ true) × (number ≡ le
 IsAnswer m n message Nothing w = ((can_send m n && is_some (counts_at (slice_get m.sent message))) ≡ false) × (w ≡ m)
 IsAnswer m n message NoMemory w = ((can_send m n && is_some (counts_at (slice_get m.sent message))) ≡ true) × (w ≡ m)
 IsAnswer m n message (Took taken fresh stop) w = ⊥
-IsAnswer m n message (Absorbed outcome) w = ⊥
+IsAnswer m n message (Absorbed outcome cause) w = ⊥
 IsAnswer m n message (Merged end) w = ⊥
 
 -- a run that starts past what n holds is a gap
@@ -165,31 +171,45 @@ Arrives m n runs (Refused (Gap origin have from)) w = (first_gap m n runs ≡ So
 Arrives m n runs (Refused (Forked origin at)) w = ⊥
 Arrives m n runs (Refused (OwnAhead have said)) w = ⊥
 
-abbrev pub Delivers : Machine → ℕ → Option (List RunView) → Outcome → Machine → Type 0
-Delivers m n None outcome w = ⊥
-Delivers m n (Some runs) outcome w = Arrives m n runs outcome w
+-- why a report of another replica is not taken: it isn't held, and as many are held as may be, or memory ran out, where it is held
+-- or there is room
+abbrev pub IsUntaken : (PacketReport → Bool) → PacketReport → LogFault → Type 0
+IsUntaken held r at_limit = (held r ≡ false) × IsStopWith held at_limit
+IsUntaken held r no_memory = (held r ≡ true) ⊎ IsStopWith held no_memory
+
+-- parts that stop say why the next new report was not taken, and others say no cause
+abbrev pub HasCause : (PacketReport → Bool) → List (ℕ × PacketReport) → Outcome → Option LogFault → Type 0
+HasCause held new (Appended count) cause = cause ≡ None
+HasCause held new (Refused fault) cause = cause ≡ None
+HasCause held new (Stopped count) None = ⊥
+HasCause held new (Stopped count) (Some fault) = (p : ℕ × PacketReport) → slice_get new count ≡ Some p → IsUntaken held p.1 fault
+
+abbrev pub Delivers : Machine → ℕ → Option (List RunView) → Outcome → Option LogFault → Machine → Type 0
+Delivers m n None outcome cause w = ⊥
+Delivers m n (Some runs) outcome cause w = Arrives m n runs outcome w × HasCause (in_log w n) (rests (held_prefix m n) runs) outcome cause
 
 abbrev pub IsDeliver : Machine → ℕ → ℕ → Reply → Machine → Type 0
-IsDeliver m message n (Absorbed outcome) w = (is_name m n ≡ true) × Delivers m n (parts_at (slice_get m.sent message)) outcome w
+IsDeliver m message n (Absorbed outcome cause) w = (is_name m n ≡ true) × Delivers m n (parts_at (slice_get m.sent message)) outcome cause w
 IsDeliver m message n Nothing w = ((is_name m n && is_some (parts_at (slice_get m.sent message))) ≡ false) × (w ≡ m)
 IsDeliver m message n (Took taken fresh stop) w = ⊥
 IsDeliver m message n (Sent number) w = ⊥
 IsDeliver m message n (Merged end) w = ⊥
 IsDeliver m message n NoMemory w = ⊥
 
--- a merge with itself changes nothing; no merge clashes, and one is too large only where both together hold more than a log may have
+-- a merge with itself changes nothing; no merge clashes. One that is not made is too large, where both together hold more than a log
+-- may have, or else memory ran out
 abbrev pub MergeEnds : Machine → ℕ → ℕ → MergeEnd → Machine → Type 0
 MergeEnds m n k Joined w = w ≡ cond (n == k) m (joined m n k)
 MergeEnds m n k (Unjoined (Clash key)) w = ⊥
 MergeEnds m n k (Unjoined Full) w = (n == k ≡ false) × (w ≡ m) × AreTooMany (λ q. in_log m n q || in_log m k q)
-MergeEnds m n k (Unjoined Memory) w = (n == k ≡ false) × (w ≡ m)
+MergeEnds m n k (Unjoined Memory) w = (n == k ≡ false) × (w ≡ m) × AreWithin (λ q. in_log m n q || in_log m k q)
 
 abbrev pub IsMerge : Machine → ℕ → ℕ → Reply → Machine → Type 0
 IsMerge m n k (Merged end) w = ((is_name m n && is_name m k) ≡ true) × MergeEnds m n k end w
 IsMerge m n k Nothing w = ((is_name m n && is_name m k) ≡ false) × (w ≡ m)
 IsMerge m n k (Took taken fresh stop) w = ⊥
 IsMerge m n k (Sent number) w = ⊥
-IsMerge m n k (Absorbed outcome) w = ⊥
+IsMerge m n k (Absorbed outcome cause) w = ⊥
 IsMerge m n k NoMemory w = ⊥
 
 -- from m, the machine may give this reply to the step and go on to w

@@ -11,7 +11,7 @@ use Rattle.tca_gossip.specs.declared.message.Message.TheVariants.{Counts, Parts}
 use Rattle.tca_gossip.specs.declared.fault.WorldFault.{WorldFault}
 use Rattle.tca_gossip.specs.declared.fault.WorldFault.TheVariants.{NameTwice, Memory}
 use Rattle.tca_gossip.specs.Replicas.{ReplicaView, new_replica}
-use Rattle.tca_gossip.specs.Answers.{outcome_of}
+use Rattle.tca_gossip.specs.Answers.{outcome_of, cause_of}
 use Rattle.tca_gossip.specs.Steps.{Step as StepView, Take as take, Ask as ask, Answer as answer, Deliver as deliver, Merge as merge, MergeEnd, Joined, Unjoined}
 use Rattle.tca_gossip.specs.Steps.{Reply as ReplyView, Took as took, Sent as sent, Absorbed as absorbed, Merged as merged, Nothing as nothing, NoMemory as no_memory}
 use Rattle.tca_gossip.specs.Coupling.{MessageView, Summary, Delta, WorldView, AreDistinct, name_of, with_message}
@@ -31,7 +31,7 @@ end_of (Err fault) = Unjoined fault
 abbrev pub reply_view : Reply → ReplyView
 reply_view (Took t) = took t.taken t.fresh t.stop
 reply_view (Sent number) = sent number
-reply_view (Absorbed result) = absorbed (outcome_of result)
+reply_view (Absorbed result) = absorbed (outcome_of result) (cause_of result)
 reply_view (Merged result) = merged (end_of result)
 reply_view Nothing = nothing
 reply_view NoMemory = no_memory

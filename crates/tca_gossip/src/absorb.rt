@@ -1,6 +1,6 @@
 //! Runs that come to a replica: why they are refused, and what is new in them.
 ghost use Rattle.std.specs.Prelude.{◌≡◌, ◌+◌, ◌<◌, ◌≤◌, [], length, OnOk, IfOk, IfErr, IfSome, None, MatchOption};
-ghost use Rattle.tca_join.specs.Chains.{differ_at};
+ghost use Rattle.tca_join.specs.Chains.{differ_at, most_items};
 ghost use Rattle.tca_gossip.specs.Replicas.{appended, chain_of, with_origin};
 ghost use Rattle.tca_gossip.specs.Runs.{AreRuns, fault_of, first_fault, rest_of, rests, same_report};
 ghost use Rattle.tca_gossip.specs.Answers.{IsRefusal, IsStop, fault_view};
@@ -40,8 +40,8 @@ fn difference(first: &[Report], second: &[Report]) -> Option<usize>
 
 // Why a run is refused, where this is the chain of its origin.
 fn fault_in(name: u32, chain: &[Report], run: &Run) -> Option<AbsorbFault>
-    requires chain { length chain.now ≤ 4194304 }
-    requires run { run.now.start + length run.now.reports ≤ 4194304 }
+    requires chain { length chain.now ≤ most_items }
+    requires run { run.now.start + length run.now.reports ≤ most_items }
     ensures fault { fault_view result ≡ fault_of name (λ _. chain.now) run.now }
     ensures refused { IfSome result IsRefusal }
 {
@@ -83,7 +83,7 @@ pub(crate) fn refusal(name: u32, chains: &ByKey<Chain<Report>>, runs: &[Run]) ->
 // Appends reports to the chain of an origin, one by one.
 fn append_all(contents: &mut Contents, origin: u32, reports: &[Report]) -> Result<u64, Stop>
     requires own { origin ≡ contents.old.replica.name → reports.now ≡ [] }
-    requires few { length (chain_of contents.old.replica origin) + length reports.now ≤ 4194304 }
+    requires few { length (chain_of contents.old.replica origin) + length reports.now ≤ most_items }
     ensures state { OnOk result (contents.new.replica ≡ appended contents.old.replica (with_origin origin reports.now)) }
     ensures count { IfOk result (λ n. n ≡ length reports.now) }
     ensures stop { IfErr result (λ s. IsStop contents.old.replica contents.new.replica (with_origin origin reports.now) s.taken s.cause) }
@@ -102,7 +102,7 @@ fn append_all(contents: &mut Contents, origin: u32, reports: &[Report]) -> Resul
 // Appends what a run has past the chain of its origin.
 fn append_rest(contents: &mut Contents, run: &Run) -> Result<u64, Stop>
     requires own { run.now.origin ≡ contents.old.replica.name → rest_of (chain_of contents.old.replica) run.now ≡ [] }
-    requires few { length (chain_of contents.old.replica run.now.origin) + length (rest_of (chain_of contents.old.replica) run.now) ≤ 4194304 }
+    requires few { length (chain_of contents.old.replica run.now.origin) + length (rest_of (chain_of contents.old.replica) run.now) ≤ most_items }
     ensures state { OnOk result (contents.new.replica ≡ appended contents.old.replica (with_origin run.now.origin (rest_of (chain_of contents.old.replica) run.now))) }
     ensures count { IfOk result (λ n. n ≡ length (rest_of (chain_of contents.old.replica) run.now)) }
     ensures stop { IfErr result (λ s. IsStop contents.old.replica contents.new.replica (with_origin run.now.origin (rest_of (chain_of contents.old.replica) run.now)) s.taken s.cause) }

@@ -8,6 +8,7 @@ ghost use Rattle.std.specs.Prelude.{◌≡◌, ℕ, ◌+◌, ◌≤◌, ◌++◌
 ghost use Rattle.tca_gossip.specs.Replicas.{appended, chain_of, fresh_of, of, reports_in, with_origin};
 ghost use Rattle.tca_gossip.specs.Runs.{AreRuns, first_fault, rest_of, rests};
 ghost use Rattle.tca_gossip.specs.Kept.{kept_of};
+ghost use Rattle.tca_join.specs.Chains.{most_items};
 
 use crate::chains::{extend, kept};
 use crate::contents::Contents;
@@ -107,7 +108,7 @@ fn extend_one(
     list: &mut Vec<Report>,
     run: &Run,
 ) -> Result<(), AllocError>
-    requires { run.now.start + length run.now.reports ≤ 4194304 }
+    requires { run.now.start + length run.now.reports ≤ most_items }
     ensures kept { OnOk result ((q : ℕ) → kept_of chains.new q ≡ kept_of chains.old q ++ of q (with_origin run.now.origin (rest_of (kept_of chains.old) run.now))) }
     ensures list { OnOk result (list.new.items ≡ list.old.items ++ rest_of (kept_of chains.old) run.now) }
 {

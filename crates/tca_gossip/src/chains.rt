@@ -1,6 +1,6 @@
 //! The chains of a replica, by origin.
 ghost use Rattle.std.specs.Prelude.{◌≡◌, ℕ, ◌+◌, ◌<◌, ◌≤◌, [], ◌∷◌, ◌++◌, length, OnOk, OnErr, Some, true};
-ghost use Rattle.tca_join.specs.Chains.{chain};
+ghost use Rattle.tca_join.specs.Chains.{chain, most_items};
 ghost use Rattle.tca_join.specs.Maps.{Rises, get, put};
 ghost use Rattle.tca_gossip.specs.Replicas.{of, with_origin};
 ghost use Rattle.tca_gossip.specs.Kept.{held_in, kept_of};
@@ -12,7 +12,7 @@ use tca_report::Report;
 /// The reports that are kept of an origin, none where it has no chain.
 pub(crate) fn kept(chains: &ByKey<Chain<Report>>, origin: u32) -> &[Report]
     ensures items { result.now ≡ kept_of chains.now origin }
-    ensures limit { length result.now ≤ 4194304 }
+    ensures limit { length result.now ≤ most_items }
 {
     match chains.get(origin) {
         Some(chain) => {
@@ -46,7 +46,7 @@ pub(crate) fn reserve(
 /// Appends a report to the chain of an origin, into the room that was made. It takes no memory.
 pub(crate) fn push(chains: &mut ByKey<Chain<Report>>, origin: u32, report: Report)
     requires room { get chains.old origin ≡ Some (chain (kept_of chains.old origin) true) }
-    requires few { length (kept_of chains.old origin) < 4194304 }
+    requires few { length (kept_of chains.old origin) < most_items }
     ensures rises { Rises chains.new }
     ensures held { held_in chains.new ≡ put (λ w u. w ++ u) origin (report ∷ []) (held_in chains.old) }
 {
@@ -58,7 +58,7 @@ pub(crate) fn push(chains: &mut ByKey<Chain<Report>>, origin: u32, report: Repor
 
 // Appends reports to a chain. Where a growth is refused, the first of them are appended.
 fn extend_chain(chain: &mut Chain<Report>, reports: &[Report]) -> Result<(), AllocError>
-    requires { length chain.old.items + length reports.now ≤ 4194304 }
+    requires { length chain.old.items + length reports.now ≤ most_items }
     ensures { OnOk result (chain.new.items ≡ chain.old.items ++ reports.now) }
 {
     for report in reports {
@@ -75,7 +75,7 @@ pub(crate) fn extend(
     origin: u32,
     reports: &[Report],
 ) -> Result<(), AllocError>
-    requires { length (kept_of chains.old origin) + length reports.now ≤ 4194304 }
+    requires { length (kept_of chains.old origin) + length reports.now ≤ most_items }
     ensures { OnOk result ((q : ℕ) → kept_of chains.new q ≡ kept_of chains.old q ++ of q (with_origin origin reports.now)) }
 {
     let _rises = chains.keys();

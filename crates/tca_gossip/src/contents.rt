@@ -3,7 +3,7 @@ ghost use Rattle.std.specs.Prelude.{◌≡◌, ◌≢◌, ◌⊎◌, ◌<◌, �
 ghost use Rattle.tca_report.specs.report.Reports.{report_cmp};
 ghost use Rattle.tca_join.specs.Sets.{has};
 ghost use Rattle.tca_accounts.specs.Bills.{bill_of};
-ghost use Rattle.tca_join.specs.Chains.{differ_at};
+ghost use Rattle.tca_join.specs.Chains.{differ_at, most_items};
 ghost use Rattle.tca_join.specs.Faults.{IsJoinFault};
 ghost use Rattle.tca_join.specs.Maps.{clash_key};
 ghost use Rattle.tca_gossip.specs.Replicas.{IsReplica, append_one, chain_of, least_of, merge_clash, merge_full, merged_with, new_replica, take_one};
@@ -65,7 +65,7 @@ impl Contents {
     /// The chain of an origin.
     pub(crate) fn chain(&self, origin: u32) -> &[Report]
         ensures items { result.now ≡ chain_of self.now.replica origin }
-        ensures limit { length result.now ≤ 4194304 }
+        ensures limit { length result.now ≤ most_items }
     {
         let _rises = self.chains.keys();
         kept(&self.chains, origin)
@@ -74,7 +74,7 @@ impl Contents {
     /// Appends a report to the chain of an origin, and adds it to log and book: all of that, or nothing.
     pub(crate) fn append(&mut self, origin: u32, report: Report) -> Result<(), LogFault>
         requires own { origin ≡ self.old.replica.name → has report_cmp self.old.replica.log report ≡ false }
-        requires other { origin ≢ self.old.replica.name → length (chain_of self.old.replica origin) < 4194304 }
+        requires other { origin ≢ self.old.replica.name → length (chain_of self.old.replica origin) < most_items }
         ensures ok { OnOk result (self.new.replica ≡ append_one self.old.replica (origin, report)) }
         ensures err { OnErr result (self.new.replica ≡ self.old.replica) }
         ensures fault { IfErr result (λ e. IsRefusedFor e self.old.replica.log report) }

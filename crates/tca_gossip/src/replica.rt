@@ -1,7 +1,7 @@
 //! A replica.
 ghost use Rattle.std.specs.Prelude.{◌≡◌, ◌≤◌, None, false, length, take, OnOk, OnErr, IfOk, IfErr};
 ghost use Rattle.tca_accounts.specs.Bills.{bill_of};
-ghost use Rattle.tca_join.specs.Chains.{differ_at};
+ghost use Rattle.tca_join.specs.Chains.{differ_at, most_items};
 ghost use Rattle.tca_join.specs.Faults.{IsJoinFault};
 ghost use Rattle.tca_join.specs.Maps.{clash_key};
 ghost use Rattle.tca_gossip.specs.Replicas.{IsReplica, chain_of, fresh_of, merge_clash, merge_full, merged_with, new_replica, taken};
@@ -70,7 +70,7 @@ impl Replica {
     /// The chain of an origin, empty where nothing is held.
     pub fn chain(&self, origin: u32) -> &[Report]
         ensures items { result.now ≡ chain_of self.now origin }
-        ensures limit { length result.now ≤ 4194304 }
+        ensures limit { length result.now ≤ most_items }
     {
         self.contents.chain(origin)
     }

@@ -1,8 +1,11 @@
 use Rattle.std.proofs.Common.{◌≡◌, Some, map, slice_get, sym, ap, ◌∙◌, subst}
-use Rattle.tca_gossip.specs.Answers.{outcome_of}
+use Rattle.tca_gossip.specs.Answers.{cause_of, outcome_of}
+use Rattle.tca_gossip.specs.Replicas.{chain_of}
+use Rattle.tca_gossip.specs.Runs.{rests}
 use Rattle.tca_gossip.specs.Coupling.{Summary, Delta, WorldView, IsCoupled}
 use Rattle.tca_gossip.specs.Worlds.{message_view, IsPlace}
 use Rattle.tca_gossip.proofs.StepEnds.{deliver_ends, deliver_wrong, deliver_no_message, message_there, no_message}
+use Rattle.tca_gossip.proofs.Stops.{cause_is}
 use Rattle.tca_gossip.proofs.world.World.deliver.Goals as goal
 
 pub returns-in-Some-Parts : goal.returns-in-Some-Parts
@@ -10,7 +13,8 @@ returns-in-Some-Parts c m coupled =
     let w : WorldView = record { plan = c.self.inside.plan; replicas = c.self.inside.replicas.items; sent = map message_view c.self.inside.sent.items } in
     let known : slice_get w.sent c.args.message ≡ Some (Delta c.in-Some-Parts.delta) =
     ap (λ l. slice_get (map message_view l) c.args.message) (sym c.deref.ensures.value) ∙ message_there c.deref.result.now c.args.message c.in-Some-Parts.field-0.now c.in-Some-Parts.ensures.lookup.3.0 c.in-Some-Parts.ensures.lookup.1 ∙ ap (λ z. Some (message_view z)) c.in-Some-Parts.field-0-is in
-    deliver_ends w m (subst (IsCoupled m) (sym c.self.view_is) coupled) c.in-Some.i c.args.to c.index_mut.result.now (subst (λ z. IsPlace z c.args.to (Some c.in-Some.i)) (sym c.self.view_is) c.in-Some.ensures) c.index_mut.ensures.value c.args.message c.in-Some-Parts.delta c.absorb.new.self (outcome_of c.absorb.result) known c.absorb.ensures.state c.absorb.ensures.outcome
+    deliver_ends w m (subst (IsCoupled m) (sym c.self.view_is) coupled) c.in-Some.i c.args.to c.index_mut.result.now (subst (λ z. IsPlace z c.args.to (Some c.in-Some.i)) (sym c.self.view_is) c.in-Some.ensures) c.index_mut.ensures.value c.args.message c.in-Some-Parts.delta c.absorb.new.self (outcome_of c.absorb.result) (cause_of c.absorb.result) known c.absorb.ensures.state c.absorb.ensures.outcome
+    (cause_is c.absorb.new.self (rests (chain_of c.index_mut.result.now) c.in-Some-Parts.delta) c.absorb.result c.absorb.ensures.stop)
 
 pub returns-in-Some-Counts : goal.returns-in-Some-Counts
 returns-in-Some-Counts c m coupled =
