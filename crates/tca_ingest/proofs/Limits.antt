@@ -5,10 +5,10 @@ use Rattle.tca_log.specs.declared.fault.LogFault.{LogFault}
 use Rattle.tca_log.specs.declared.fault.LogFault.TheVariants.{Full, Memory}
 use Rattle.tca_gossip.specs.Runs.{RunView, IsOutcome, rests}
 use Rattle.tca_gossip.specs.Replicas.{ReplicaView}
-use Rattle.tca_gossip.specs.Answers.{IsStopAt, IsStopOf, outcome_of}
+use Rattle.tca_gossip.specs.Answers.{IsStopAt, IsStopOf, outcome_of, cause_of}
 use Rattle.tca_gossip.specs.declared.fault.AbsorbFault.{AbsorbFault}
 use Rattle.tca_gossip.specs.declared.fault.AbsorbFault.TheVariants.{Gap, Forked, OwnAhead, Stopped}
-use Rattle.tca_ingest.specs.Journals.{IsFullAtLimit, cause_of}
+use Rattle.tca_ingest.specs.Journals.{IsFullAtLimit}
 
 there : {A : Type 0} (xs : List A) (i : ℕ) → i < length xs → (x : A) × (slice_get xs i ≡ Some x)
 there [] i h = absurd (omega arith)

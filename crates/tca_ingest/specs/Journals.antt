@@ -9,10 +9,11 @@ use Rattle.tca_accounts.specs.Plans.{AccountPlan}
 use Rattle.tca_accounts.specs.Bills.{bill_of}
 use Rattle.tca_gossip.specs.Replicas.{ReplicaView, new_replica, taken, fresh_of, of, reports_in}
 use Rattle.tca_gossip.specs.Runs.{RunView, IsOutcome, absorbed, rests, summary_count}
-use Rattle.tca_gossip.specs.Answers.{outcome_of}
+use Rattle.tca_gossip.specs.Answers.{outcome_of, cause_of}
 use Rattle.tca_gossip.specs.declared.fault.AbsorbFault.{AbsorbFault}
 use Rattle.tca_gossip.specs.declared.fault.AbsorbFault.TheVariants.{Gap, Forked, OwnAhead, Stopped}
 use Rattle.tca_ingest.specs.Entries.{EntryView, Took, Absorbed, Answered, Asked, Sent}
+use Rattle.tca_report.specs.export.Spelling.{most_reports}
 
 -- What entries list: the reports of takes; those of them that were new at their turn; and what absorbs append, each report with its
 -- origin.
@@ -98,17 +99,9 @@ pub record IsAnswer (held : ℕ → List PacketReport) (since : List (ℕ × ℕ
   pub rises : Rises (by_origin delta)
   pub each : (origin : ℕ) → get (by_origin delta) origin ≡ run_past origin (summary_count since origin) (held origin)
 
--- why an absorb stopped, where it did
-abbrev pub cause_of : Result ℕ AbsorbFault → Option LogFault
-cause_of (Ok count) = None
-cause_of (Err (Gap origin have from)) = None
-cause_of (Err (Forked origin at)) = None
-cause_of (Err (OwnAhead have said)) = None
-cause_of (Err (Stopped count cause)) = Some cause
-
 -- where a call stopped as full, the set is at the limit of a log
 abbrev pub IsFullAtLimit : Option LogFault → List PacketReport → Type 0
-IsFullAtLimit stop log = stop ≡ Some Full → length log ≡ 4194304
+IsFullAtLimit stop log = stop ≡ Some Full → length log ≡ most_reports
 
 -- an entry says what the lists of the entries before it give
 abbrev pub IsRight : AccountPlan → ℕ → Lists → EntryView → Type 0

@@ -6,6 +6,7 @@ use denote.Bor.{Bor}
 use Rattle.tca_report.specs.report.Reports.{PacketReport}
 use Rattle.tca_report.specs.input.Inputs.{input_of}
 use Rattle.tca_report.specs.input.Gathered.{gathered_of}
+use Rattle.tca_report.specs.input.Wants.{WantsMemory}
 use Rattle.tca_report.specs.declared.input.InputFault.{InputFault}
 use Rattle.tca_report.specs.declared.input.InputFault.TheVariants.{Memory}
 use Rattle.tca_report.specs.declared.input.Notes.{Notes}
@@ -25,11 +26,11 @@ abbrev pub contents_of : List ℕ → Result (List PacketReport × Notes) InputF
 contents_of octets = gathered_of (input_of octets)
 
 -- An input that is read was given to one take, whose entry lists the first of its reports, all where it did not stop; its notes come
--- with it. An input that is refused is refused for what is wrong with it, or for want of memory, and nothing is taken. A replica
--- refuses a take only of an input that is read, and never for want of passes.
+-- with it. An input that is refused is refused for what is wrong with it, or for want of memory where all before that is right, and
+-- nothing is taken. A replica refuses a take only of an input that is read, and never for want of passes.
 abbrev pub IsResult : List ℕ → Result (Notes × Receipt) JobFault → Type 0
 IsResult octets (Ok r) = (reports : List PacketReport) × (contents_of octets ≡ Ok (reports, r.0)) × ((pass : ℕ) × IsTake reports pass (entry_view r.1.entry))
-IsResult octets (Err (Input fault)) = fault ≢ Memory → contents_of octets ≡ Err fault
+IsResult octets (Err (Input fault)) = (fault ≢ Memory → contents_of octets ≡ Err fault) × (fault ≡ Memory → WantsMemory octets)
 IsResult octets (Err (Share fault)) = (fault ≢ PassesOut) × ((reports : List PacketReport) × (notes : Notes) × (contents_of octets ≡ Ok (reports, notes)))
 
 -- the result of a job: the input and what came of it

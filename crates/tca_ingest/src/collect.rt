@@ -1,5 +1,5 @@
 //! What a run of workers brought: the result of each job, and whether the workers' passes have just these.
-ghost use Rattle.std.specs.Prelude.{◌≡◌, ◌<◌, ◌^◌, ◌++◌, IfOk, IfSome, OnOk, IsNone, true, [], ◌∷◌, length, slice_index_or};
+ghost use Rattle.std.specs.Prelude.{◌≡◌, ◌≢◌, ◌<◌, ◌^◌, ◌++◌, IfOk, IfErr, IfSome, OnOk, IsNone, true, [], ◌∷◌, length, slice_index_or};
 ghost use Rattle.std.specs.List.Sorted.{IsPermutation};
 ghost use denote.Bor.{Bor};
 ghost use Rattle.tca_ingest.specs.declared.entry.Entry.{Entry};
@@ -30,6 +30,7 @@ pub(crate) fn collect<R: Wait>(
     requires { length inputs.now < 2 ^ 32 }
     ensures done { IfOk result (λ done. AreSliceResults inputs.now done.items) }
     ensures jobs { IfOk result (λ done. AreNumbered done.items) }
+    ensures fault { IfErr result (λ f. f ≢ WorkFault.PassesOut) }
 {
     let mut places = empty_places(alloc, inputs)?;
     for _ in rt.forever() {
@@ -60,7 +61,8 @@ fn fill_place(
     of_job: JobResult<'_>,
 ) -> Result<(), WorkFault>
     requires { AreResultsAt inputs.now places.old.items }
-    ensures { AreResultsAt inputs.now places.new.items }
+    ensures results { AreResultsAt inputs.now places.new.items }
+    ensures fault { IfErr result (λ f. f ≡ WorkFault.Stranger of_job.entry.job) }
 {
     let JobResult { job, input, result } = of_job;
     let at = job as usize;
@@ -81,6 +83,7 @@ fn filled(alloc: Global, inputs: &[&[u8]], places: Vec<Place>) -> Result<Vec<Don
     requires count { length inputs.now < 2 ^ 32 }
     ensures done { IfOk result (λ done. AreSliceResults inputs.now done.items) }
     ensures jobs { IfOk result (λ done. AreNumbered done.items) }
+    ensures fault { IfErr result (λ f. f ≢ WorkFault.PassesOut) }
 {
     let mut done = Vec::with_capacity(alloc, places.len())?;
     for place in places {
@@ -95,7 +98,8 @@ fn filled(alloc: Global, inputs: &[&[u8]], places: Vec<Place>) -> Result<Vec<Don
 
 // Adds a result.
 fn put(done: &mut Vec<Done>, one: Done) -> Result<(), WorkFault>
-    ensures { OnOk result (done.new.items ≡ done.old.items ++ one ∷ []) }
+    ensures added { OnOk result (done.new.items ≡ done.old.items ++ one ∷ []) }
+    ensures fault { IfErr result (λ f. f ≡ WorkFault.Memory) }
 {
     match done.push(one) {
         Ok(()) => Ok(()),
@@ -113,6 +117,7 @@ pub(crate) fn stranger_of<L: Side>(
 ) -> Option<WorkFault>
     ensures entries { IsNone result → IsPermutation (entries_in done.now) (all_calls passes.now) }
     ensures own { IsNone result → AreOwn passes.now }
+    ensures fault { IfSome result (λ f. f ≢ WorkFault.PassesOut) }
 {
     let Ok(mut left) = calls_in(alloc, passes) else {
         return Some(WorkFault::Memory);

@@ -36,9 +36,10 @@ pub struct WorkRefused<L: Side> {
 /// are taken by one `take`. An input that is refused is the fault of its job, and the others go on.
 ///
 /// All passes are made before the first thread is started, and all threads are joined before a result is looked at. `PassesOut` comes
-/// where the replica has no more passes, `NoThread` where a thread couldn't be started, and `Memory` where a growth was refused, other
-/// than one that a job needed. `JobMissing` and `Stranger` come where the results aren't one for each input, or the passes have other
-/// entries than the results; no use of this crate leads there. All hand back each pass that was made.
+/// where the replica has no more passes, so that fewer were made than there are workers, `NoThread` where a thread couldn't be started,
+/// and `Memory` where a growth was refused, other than one that a job needed. `JobMissing` and `Stranger` come where the results aren't
+/// one for each input, or the passes have other entries than the results; no use of this crate leads there. All hand back each pass that
+/// was made.
 pub fn work<L: Side + Send + Sync, R: Threads + Wait + Sync, G: Gate>(
     rt: &R,
     alloc: Global,
@@ -55,6 +56,7 @@ pub fn work<L: Side + Send + Sync, R: Threads + Wait + Sync, G: Gate>(
     ensures own { IfOk result (λ w. AreOwn w.passes.items) }
     ensures passes { IfOk result (λ w. length w.passes.items ≡ workers) }
     ensures back { IfErr result (λ r. r.fault ≢ WorkFault.PassesOut → r.fault ≢ WorkFault.Memory → length r.passes.items ≡ workers) }
+    ensures few { IfErr result (λ r. r.fault ≡ WorkFault.PassesOut → length r.passes.items < workers) }
 {
     match slices_of(alloc, inputs) {
         Ok(slices) => work_on(rt, alloc, shared, &slices, gate, workers),
@@ -93,6 +95,7 @@ pub fn work_on<L: Side + Send + Sync, R: Threads + Wait + Sync, G: Gate>(
     ensures own { IfOk result (λ w. AreOwn w.passes.items) }
     ensures passes { IfOk result (λ w. length w.passes.items ≡ workers) }
     ensures back { IfErr result (λ r. r.fault ≢ WorkFault.PassesOut → r.fault ≢ WorkFault.Memory → length r.passes.items ≡ workers) }
+    ensures few { IfErr result (λ r. r.fault ≡ WorkFault.PassesOut → length r.passes.items < workers) }
 {
     let mut passes = Vec::new(alloc);
     let halted = AtomicBool::new(false);
@@ -124,6 +127,7 @@ fn done_by<'a, L: Side + Send + Sync, R: Threads + Wait + Sync, G: Gate>(
     ensures own { OnOk result (AreOwn passes.new.items) }
     ensures passes { OnOk result (vec_len passes.new ≡ workers) }
     ensures back { IfErr result (λ f. f ≢ WorkFault.PassesOut → f ≢ WorkFault.Memory → vec_len passes.new ≡ workers) }
+    ensures few { IfErr result (λ f. f ≡ WorkFault.PassesOut → vec_len passes.new < workers) }
 {
     let alloc = setting.alloc;
     make_passes(setting.rt, setting.shared, workers, passes)?;
@@ -151,6 +155,7 @@ fn make_passes<L: Side, R: Wait>(
 ) -> Result<(), WorkFault>
     ensures count { OnOk result (vec_len passes.new ≡ vec_len passes.old + count) }
     ensures fault { IfErr result (λ f. (f ≡ WorkFault.PassesOut) ⊎ (f ≡ WorkFault.Memory)) }
+    ensures few { IfErr result (λ f. f ≡ WorkFault.PassesOut → vec_len passes.new < vec_len passes.old + count) }
 {
     for _ in 0..count {
         passes.reserve(1)?;
@@ -165,6 +170,7 @@ fn make_passes<L: Side, R: Wait>(
 // Sends the numbers of this many jobs, and closes the channel.
 fn send_jobs<R: Wait>(rt: &R, jobs: Sender<u32>, count: usize) -> Result<(), WorkFault>
     requires { count < 2 ^ 32 }
+    ensures { IfErr result (λ f. f ≡ WorkFault.Memory) }
 {
     for job in 0..count {
         if jobs.send(rt, job as u32).is_err() {
@@ -198,14 +204,16 @@ fn run_all<'a, L: Side + Send + Sync, R: Threads + Wait + Sync, G: Gate>(
     passes: &mut Vec<Pass<L>>,
     ends: Vec<Ends<'a>>,
 ) -> Result<(), WorkFault>
-    ensures { vec_len passes.new ≡ vec_len passes.old }
+    ensures kept { vec_len passes.new ≡ vec_len passes.old }
+    ensures fault { IfErr result (λ f. f ≢ WorkFault.PassesOut) }
 {
     let given = std::mem::replace(passes, Vec::new(setting.alloc));
     let (outcome, back) = thread::scope(
         thread::scope_env(),
         setting.rt,
         |scope| -> (Result<(), WorkFault>, Vec<Pass<L>>)
-            ensures { vec_len result.1 ≡ vec_len given }
+            ensures kept { vec_len result.1 ≡ vec_len given }
+            ensures fault { IfErr result.0 (λ f. f ≢ WorkFault.PassesOut) }
         { run_in(scope, setting, given, ends) },
     );
     *passes = back;
@@ -219,7 +227,8 @@ fn run_in<'s, 'a: 's, E, L: Side + Send + Sync, R: Threads + Wait + Sync, G: Gat
     passes: Vec<Pass<L>>,
     ends: Vec<Ends<'a>>,
 ) -> (Result<(), WorkFault>, Vec<Pass<L>>)
-    ensures { vec_len result.1 ≡ vec_len passes }
+    ensures kept { vec_len result.1 ≡ vec_len passes }
+    ensures fault { IfErr result.0 (λ f. f ≢ WorkFault.PassesOut) }
 {
     let mut passes = passes;
     let Ok(mut running) = Vec::with_capacity(setting.alloc, passes.len()) else {
@@ -242,6 +251,7 @@ fn start_all<'s, 'a: 's, E, L: Side + Send + Sync, R: Wait + Sync, G: Gate>(
     requires { vec_len passes.old + vec_len running.old ≤ vec_capacity running.old }
     ensures count { vec_len passes.new + vec_len running.new ≡ vec_len passes.old + vec_len running.old }
     ensures capacity { vec_capacity passes.new ≡ vec_capacity passes.old }
+    ensures fault { IfErr result (λ f. f ≡ WorkFault.NoThread) }
 {
     for mine in ends {
         let Some(pass) = passes.pop() else {

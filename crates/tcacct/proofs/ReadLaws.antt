@@ -8,6 +8,7 @@ use Rattle.std.proofs.lemmas.Option.{slice_get-map, slice_get_read}
 use Rattle.tca_join.specs.Sets.{in_order}
 use Rattle.tca_report.specs.report.Reports.{PacketReport, report_cmp}
 use Rattle.tca_report.specs.input.Inputs.{input_of}
+use Rattle.tca_report.specs.input.Wants.{WantsMemory}
 use Rattle.tca_report.specs.declared.input.InputFault.{InputFault}
 use Rattle.tca_report.specs.declared.input.InputFault.TheVariants.{Memory}
 use Rattle.tca_report.specs.declared.input.Notes.{Notes}
@@ -53,8 +54,8 @@ pub noted_if_taken : (input : List ℕ) (notes : Notes) (receipt : Receipt) → 
 noted_if_taken input notes receipt is = noted_of input is.0 notes is.1
 
 -- the fault of an input that wasn't gathered
-pub own_fault : (n : ℕ) (input : List ℕ) (fault : InputFault) (e : RunFault) → e ≡ input_refusal n fault → (fault ≢ Memory → contents_of input ≡ Err fault) → IsOwnFault n input e
-own_fault n input fault e is given = (fault, is, λ other. gathered_err (input_of input) fault (given other))
+pub own_fault : (n : ℕ) (input : List ℕ) (fault : InputFault) (e : RunFault) → e ≡ input_refusal n fault → (fault ≢ Memory → contents_of input ≡ Err fault) × (fault ≡ Memory → WantsMemory input) → IsOwnFault n input e
+own_fault n input fault e is given = (fault, is, (λ other. gathered_err (input_of input) fault (given.0 other)), given.1)
 
 -- reports of what is left complete those so far
 abbrev pub HoldCompleted : List (List ℕ) → List (List ℕ) → List (List PacketReport) → Type 0

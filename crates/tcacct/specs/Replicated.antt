@@ -4,6 +4,7 @@ use Rattle.std.specs.List.{AllByRecursion}
 use Rattle.tca_report.specs.report.Reports.{PacketReport}
 use Rattle.tca_report.specs.export.Spelling.{export}
 use Rattle.tca_report.specs.input.Inputs.{input_of}
+use Rattle.tca_report.specs.input.Wants.{WantsMemory}
 use Rattle.tca_report.specs.declared.input.InputFault.{InputFault}
 use Rattle.tca_report.specs.declared.input.InputFault.TheVariants.{Memory}
 use Rattle.tca_report.specs.declared.input.Notes.{Notes}
@@ -60,9 +61,9 @@ is_of_take family.Log = true
 is_of_take family.Share = true
 is_of_take other = false
 
--- input n is refused by its own fault, or because it found no memory
+-- input n is refused by its own fault, or because it found no memory, where all that stands before is right
 abbrev pub IsOwnFault : ℕ → List ℕ → RunFault → Type 0
-IsOwnFault n input e = (fault : InputFault) × (e ≡ input_refusal n fault) × (fault ≢ Memory → input_of input ≡ Err fault)
+IsOwnFault n input e = (fault : InputFault) × (e ≡ input_refusal n fault) × (fault ≢ Memory → input_of input ≡ Err fault) × (fault ≡ Memory → WantsMemory input)
 
 -- input n is read, and its replica didn't take its reports, or not all
 abbrev pub IsNotTaken : ℕ → List ℕ → RunFault → Type 0

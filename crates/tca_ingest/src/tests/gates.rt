@@ -79,11 +79,11 @@ fn meets<L: Side + Send + Sync, R: Threads + Wait + Clock + Abort + Sync>(
     let Ok(worked) = work(rt, alloc, &shared, &inputs, &gate, 2) else {
         return Err("workers".into());
     };
-    assert_eq!(rt; gate.met.load(Ordering::SeqCst), 2);
+    assert!(rt; gate.met.load(Ordering::SeqCst) == 2);
     let Ok(closed) = shared.close(worked.passes) else {
         return Err("a close".into());
     };
-    assert_eq!(rt; (closed.journal.len(), closed.replica.log().len()), (3, 3));
+    assert!(rt; (closed.journal.len(), closed.replica.log().len()) == (3, 3));
     Ok(())
 }
 
@@ -101,6 +101,9 @@ struct Rounds<'a, R: Clock> {
     came: AtomicU64,
     // how many waits met the limit
     late: AtomicU64,
+    // how many jobs came to their take, and to their end
+    took: AtomicU64,
+    ended: AtomicU64,
 }
 
 impl<'a, R: Clock + Sync> Gate for Rounds<'a, R> {
@@ -112,9 +115,13 @@ impl<'a, R: Clock + Sync> Gate for Rounds<'a, R> {
         }
     }
 
-    fn inside(&self, _job: u32) {}
+    fn inside(&self, _job: u32) {
+        self.took.fetch_add(1, Ordering::SeqCst);
+    }
 
-    fn after(&self, _job: u32) {}
+    fn after(&self, _job: u32) {
+        self.ended.fetch_add(1, Ordering::SeqCst);
+    }
 }
 
 // 192 inputs without octets.
@@ -152,6 +159,8 @@ fn goes_by_rounds<L: Side + Send + Sync, R: Threads + Wait + Clock + Abort + Syn
         workers: workers as u64,
         came: AtomicU64::new(0),
         late: AtomicU64::new(0),
+        took: AtomicU64::new(0),
+        ended: AtomicU64::new(0),
     };
     let Ok(worked) = work(rt, alloc, &shared, &inputs, &gate, workers) else {
         return Err("workers".into());
@@ -160,11 +169,16 @@ fn goes_by_rounds<L: Side + Send + Sync, R: Threads + Wait + Clock + Abort + Syn
         gate.came.load(Ordering::SeqCst),
         gate.late.load(Ordering::SeqCst),
     );
-    assert_eq!(rt; (met, worked.done.len()), ((192, 0), 192));
+    assert!(rt; (met, worked.done.len()) == ((192, 0), 192));
+    let through = (
+        gate.took.load(Ordering::SeqCst),
+        gate.ended.load(Ordering::SeqCst),
+    );
+    assert!(rt; through == (192, 192));
     let Ok(closed) = shared.close(worked.passes) else {
         return Err("a close".into());
     };
-    assert_eq!(rt; closed.journal.len(), 192);
+    assert!(rt; closed.journal.len() == 192);
     Ok(())
 }
 
@@ -259,10 +273,7 @@ fn holds_one<
         move || works(rt, alloc, first, list, gates),
         move || answers(rt, second, gates),
     );
-    assert_eq!(rt;
-        (done, gate.in_time.load(Ordering::SeqCst)),
-        ((true, true), 1)
-    );
+    assert!(rt; (done, gate.in_time.load(Ordering::SeqCst)) == ((true, true), 1));
     Ok(())
 }
 

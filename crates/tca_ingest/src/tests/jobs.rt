@@ -94,9 +94,9 @@ fn by_two<L: Side + Send + Sync, R: Threads + Wait + Abort + Sync>(
     let Ok(worked) = work(rt, alloc, shared, &inputs, &NoGate, 2) else {
         return Err("workers".into());
     };
-    assert_eq!(rt; (worked.done.len(), worked.passes.len()), (2, 2));
+    assert!(rt; (worked.done.len(), worked.passes.len()) == (2, 2));
     let agreed = (of_job(&worked.done[0]), of_job(&worked.done[1]));
-    assert_eq!(rt; agreed, (Some((0, 1)), Some((1, 1))));
+    assert!(rt; agreed == (Some((0, 1)), Some((1, 1))));
     Ok(worked.passes)
 }
 
@@ -146,11 +146,11 @@ fn tell_each_other<I: Side, F: Side, R: Wait + Abort>(
         from: 2,
     };
     let refused = absorbed(into.absorb(rt, mine, &past(alloc)?))?;
-    assert_eq!(rt; refused, Err(gap));
+    assert!(rt; refused == Err(gap));
     for new in [2, 0] {
         let there = absorbed(exchange(rt, into, mine, from, theirs))?;
         let back = absorbed(exchange(rt, from, theirs, into, mine))?;
-        assert_eq!(rt; (there, back), (Ok(new), Ok(new)));
+        assert!(rt; (there, back) == (Ok(new), Ok(new)));
     }
     assert!(rt; states_three(rt, into, mine)? && states_three(rt, from, theirs)?);
     Ok(())
@@ -192,11 +192,8 @@ fn agreed<I: Side + Send + Sync, F: Side + Send + Sync, R: Threads + Wait + Abor
     let mut both = Vec::new(alloc);
     both.push(closed(into, ours, mine)?)?;
     both.push(closed(from, others, theirs)?)?;
-    assert_eq!(rt;
-        (both[0].replica.log().len(), both[1].replica.log().len()),
-        (3, 3)
-    );
-    assert_eq!(rt; close_all(&both), Ok(()));
+    assert!(rt; (both[0].replica.log().len(), both[1].replica.log().len()) == (3, 3));
+    assert!(rt; close_all(&both) == Ok(()));
     Ok(())
 }
 
@@ -225,18 +222,18 @@ fn takes_the_others<L: Side + Send + Sync, R: Threads + Wait + Abort + Sync>(
     let Ok(worked) = work(rt, alloc, &shared, &inputs, &NoGate, 2) else {
         return Err("workers".into());
     };
-    assert_eq!(rt; worked.done.len(), 3);
+    assert!(rt; worked.done.len() == 3);
     let agreed = (of_job(&worked.done[0]), of_job(&worked.done[2]));
-    assert_eq!(rt; agreed, (Some((0, 1)), Some((2, 1))));
+    assert!(rt; agreed == (Some((0, 1)), Some((2, 1))));
     let Err(fault) = worked.done[1].result else {
         return Err("a cut input".into());
     };
-    assert_eq!(rt; (worked.done[1].job, fault.number()), (1, 1));
+    assert!(rt; (worked.done[1].job, fault.number()) == (1, 1));
     assert!(rt; matches!(fault, JobFault::Input(InputFault::Export(_))));
     let Ok(closed) = shared.close(worked.passes) else {
         return Err("a close".into());
     };
-    assert_eq!(rt; (closed.journal.len(), closed.replica.log().len()), (2, 2));
+    assert!(rt; (closed.journal.len(), closed.replica.log().len()) == (2, 2));
     Ok(())
 }
 
@@ -267,11 +264,8 @@ fn lacks_a_pass<L: Side + Send + Sync, R: Threads + Wait + Abort + Sync>(
     let Err(refused) = work(rt, alloc, &shared, &inputs, &NoGate, 2) else {
         return Err("too few passes".into());
     };
-    assert_eq!(rt;
-        (refused.fault, refused.fault.number()),
-        (WorkFault::PassesOut, 4)
-    );
-    assert_eq!(rt; refused.passes.len(), 1);
+    assert!(rt; (refused.fault, refused.fault.number()) == (WorkFault::PassesOut, 4));
+    assert!(rt; refused.passes.len() == 1);
     let Ok(closed) = shared.close(refused.passes) else {
         return Err("a close".into());
     };

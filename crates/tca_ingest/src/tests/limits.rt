@@ -2,7 +2,7 @@
 ghost use Rattle.std.specs.Prelude.{◌≡◌};
 
 use super::{PARTS, alone, plan};
-use crate::{Held, Pass, ShareFault, Shared, Side};
+use crate::{Pass, ShareFault, Shared, Side};
 use std::alloc::Global;
 use std::marker::Brand;
 use std::sync::Wait;
@@ -51,9 +51,9 @@ fn passes_run_out_at_their_limit(rt: HostRuntime) -> Result<(), Fail> {
 }
 
 // Asks for the summary of a replica that holds nothing, as often as this; answers whether each was noted.
-fn asks<L: Side>(held: &mut Held<L>, pass: &mut Pass<L>, times: u32) -> bool {
+fn asks<L: Side, R: Wait>(rt: &R, shared: &Shared<L>, pass: &mut Pass<L>, times: u32) -> bool {
     for _ in 0..times {
-        if held.summary(pass).is_err() {
+        if shared.summary(rt, pass).is_err() {
             return false;
         }
     }
@@ -61,25 +61,26 @@ fn asks<L: Side>(held: &mut Held<L>, pass: &mut Pass<L>, times: u32) -> bool {
 }
 
 // Whether the journal has no room for a summary and for a take.
-fn is_full<L: Side>(held: &mut Held<L>, pass: &mut Pass<L>) -> bool {
-    let asked = held.summary(pass).err();
-    let taken = held.take(pass, &[]).err();
-    asked == Some(ShareFault::JournalFull) && taken == asked && held.journal().len() == 1_048_576
+fn is_full<L: Side, R: Wait>(rt: &R, shared: &Shared<L>, pass: &mut Pass<L>) -> bool {
+    let asked = shared.summary(rt, pass).err();
+    let taken = shared.take(rt, pass, &[]).err();
+    asked == Some(ShareFault::JournalFull) && taken == asked
 }
 
 // Two passes fill the journal, and close.
-fn fills<L: Side>(alloc: Global, held: Held<L>) -> Result<bool, Fail> {
-    let mut all = held;
-    let (mut first, mut second) = (all.pass()?, all.pass()?);
-    let half = asks(&mut all, &mut first, 524_288);
-    let other = asks(&mut all, &mut second, 524_288);
-    let full = is_full(&mut all, &mut first);
+fn fills<L: Side, R: Wait>(rt: &R, alloc: Global, shared: Shared<L>) -> Result<bool, Fail> {
+    let (mut first, mut second) = (shared.pass(rt)?, shared.pass(rt)?);
+    let half = asks(rt, &shared, &mut first, 524_288);
+    let other = asks(rt, &shared, &mut second, 524_288);
+    let full = is_full(rt, &shared, &mut first);
     let mut passes = alone(alloc, first)?;
     passes.push(second)?;
-    Ok(half && other && full && all.passes() == 2 && all.close(passes).is_ok())
+    let closed = shared.close(passes).ok().ok_or("a close")?;
+    Ok(half && other && full && closed.journal.len() == 1_048_576)
 }
 
-fn fills_the_journal<L: Side>(
+fn fills_the_journal<L: Side, R: Wait>(
+    rt: &R,
     alloc: Global,
     blank: Blank,
     name: u32,
@@ -90,13 +91,13 @@ fn fills_the_journal<L: Side>(
     requires called { name ≡ L.called }
     requires plan { plan ≡ L.plan }
 {
-    let held = Held::<L>::new(alloc, blank, name, plan)?;
-    fills(alloc, held)
+    let shared = Shared::<L>::new(alloc, blank, name, plan)?;
+    fills(rt, alloc, shared)
 }
 
 #[test]
 fn a_journal_is_full_at_its_limit(rt: HostRuntime) -> Result<(), Fail> {
     let plan = plan(rt.alloc())?;
-    assert!(rt; fills_the_journal::<Brand>(rt.alloc(), Blank::new(PARTS), 1, plan)?);
+    assert!(rt; fills_the_journal::<Brand, _>(&rt, rt.alloc(), Blank::new(PARTS), 1, plan)?);
     Ok(())
 }

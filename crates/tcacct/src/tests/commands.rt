@@ -228,10 +228,7 @@ fn cut_short(alloc: Global) -> Result<Option<RunFault>, AllocError> {
 
 #[test]
 fn refuses_an_input_that_is_cut(rt: HostRuntime) -> Result<(), Fail> {
-    assert_eq!(rt;
-        cut_short(rt.alloc())?,
-        Some(refusal(Some(1), Family::Export, 4))
-    );
+    assert!(rt; cut_short(rt.alloc())? == Some(refusal(Some(1), Family::Export, 4)));
     Ok(())
 }
 
@@ -278,20 +275,11 @@ fn meters_captures(rt: HostRuntime) -> Result<(), Fail> {
     );
     assert!(rt; meters_to(alloc, b"", "green 0 0\nyellow 0 0\nred 0 0\n")?);
     let (cut, _) = TEMPLATE_AND_RECORD.split_at(64);
-    assert_eq!(rt;
-        meters(alloc, cut)?.err(),
-        Some(refusal(Some(0), Family::Wire, 1))
-    );
-    assert_eq!(rt;
-        meters_with(alloc, 1, 9)?,
-        Some(refusal(Some(0), Family::Wire, 2))
-    );
+    assert!(rt; meters(alloc, cut)?.err() == Some(refusal(Some(0), Family::Wire, 1)));
+    assert!(rt; meters_with(alloc, 1, 9)? == Some(refusal(Some(0), Family::Wire, 2)));
     let mut octets = TEMPLATE_AND_RECORD;
     (octets[20], octets[21]) = (0x00, 0xff);
-    assert_eq!(rt;
-        meters(alloc, &octets)?.err(),
-        Some(refusal(Some(0), Family::Decode, 1))
-    );
+    assert!(rt; meters(alloc, &octets)?.err() == Some(refusal(Some(0), Family::Decode, 1)));
     Ok(())
 }
 
@@ -576,20 +564,20 @@ fn answers_the_notes_of_each_input(rt: HostRuntime) -> Result<(), Fail> {
         unplaced: 0,
         skipped: 0,
     };
-    assert_eq!(rt; noted(alloc, 1, 10)?, Some(none));
+    assert!(rt; noted(alloc, 1, 10)? == Some(none));
     // The template set has an identifier that is skipped, so the record's template isn't known.
     let skipped = Notes {
         unplaced: 1,
         skipped: 1,
         ..none
     };
-    assert_eq!(rt; noted(alloc, 17, 4)?, Some(skipped));
+    assert!(rt; noted(alloc, 17, 4)? == Some(skipped));
     // The time is read in seconds from 1900, and lies before 1970.
     let early = Notes {
         not_reports: [0, 0, 0, 1, 0, 0, 0],
         ..none
     };
-    assert_eq!(rt; noted(alloc, 25, 0x44)?, Some(early));
+    assert!(rt; noted(alloc, 25, 0x44)? == Some(early));
     Ok(())
 }
 
@@ -736,15 +724,15 @@ fn places_of_the_message_twice(alloc: Global) -> Result<(Option<Notes>, Vec<u8>)
 #[test]
 fn counts_a_report_once_that_comes_again_behind_its_template(rt: HostRuntime) -> Result<(), Fail> {
     let (notes, places) = places_of_the_message_twice(rt.alloc())?;
-    assert_eq!(rt;
-        notes,
-        Some(Notes {
-            messages: 4,
-            not_reports: [0; 7],
-            unplaced: 1,
-            skipped: 0,
-        })
+    assert!(rt;
+        notes
+            == Some(Notes {
+                messages: 4,
+                not_reports: [0; 7],
+                unplaced: 1,
+                skipped: 0,
+            })
     );
-    assert_eq!(rt; places.as_slice(), [20, 21, 22].as_slice());
+    assert!(rt; places.as_slice() == [20, 21, 22].as_slice());
     Ok(())
 }

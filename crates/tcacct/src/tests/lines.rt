@@ -7,16 +7,16 @@ fn reads_lines(rt: HostRuntime) -> Result<(), Fail> {
     let words = ["tcacct", "meter", "s", "a"];
     match read_line(rt.alloc(), words.as_slice()) {
         Ok(Line::Meter { spec, inputs }) => {
-            assert_eq!(rt; spec, "s");
-            assert_eq!(rt; inputs.as_slice(), ["a"].as_slice());
+            assert!(rt; spec == "s");
+            assert!(rt; inputs.as_slice() == ["a"].as_slice());
         }
         _ => return Err("no meter line".into()),
     }
     let words = ["tcacct", "combine", "o", "a", "b"];
     match read_line(rt.alloc(), words.as_slice()) {
         Ok(Line::Combine { out, inputs }) => {
-            assert_eq!(rt; out, "o");
-            assert_eq!(rt; inputs.as_slice(), ["a", "b"].as_slice());
+            assert!(rt; out == "o");
+            assert!(rt; inputs.as_slice() == ["a", "b"].as_slice());
         }
         _ => return Err("no combine line".into()),
     }
@@ -41,10 +41,10 @@ fn reads_lines(rt: HostRuntime) -> Result<(), Fail> {
                 inputs,
             },
         ) => {
-            assert_eq!(rt; (replicas, workers), (3, 2));
-            assert_eq!(rt; export, Some("o"));
-            assert_eq!(rt; plan, "p");
-            assert_eq!(rt; inputs.as_slice(), ["a", "b"].as_slice());
+            assert!(rt; (replicas, workers) == (3, 2));
+            assert!(rt; export == Some("o"));
+            assert!(rt; plan == "p");
+            assert!(rt; inputs.as_slice() == ["a", "b"].as_slice());
         }
         _ => return Err("no bill line".into()),
     }
@@ -57,9 +57,9 @@ fn reads_lines(rt: HostRuntime) -> Result<(), Fail> {
                 statement,
             },
         ) => {
-            assert_eq!(rt; plan, "p");
-            assert_eq!(rt; export, "e");
-            assert_eq!(rt; statement, "s");
+            assert!(rt; plan == "p");
+            assert!(rt; export == "e");
+            assert!(rt; statement == "s");
         }
         _ => return Err("no audit line".into()),
     }

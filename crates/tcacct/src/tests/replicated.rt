@@ -6,6 +6,7 @@ use crate::tests::commands::{
     FIRST, Full, OPENING, PLAN, Row, SECOND, TEMPLATE_AND_RECORD, THIRD, THREE_REPORTS, export,
 };
 use std::alloc::{AllocError, Global};
+use std::io;
 use std::sync::Wait;
 use std::test::*;
 use std::thread::Threads;
@@ -108,15 +109,9 @@ fn bills_alike_by_each_number_of_replicas_and_workers(rt: HostRuntime) -> Result
     let inputs = export_of_each(alloc, &[FIRST, SECOND, THIRD])?;
     let plainly = billed_plainly(alloc, &inputs)?;
     let text = format!(in alloc; "{OPENING}{THREE_REPORTS}")?;
-    assert_eq!(rt;
-        (plainly.statement.as_slice(), text.len()),
-        (text.as_bytes(), 144)
-    );
+    assert!(rt; (plainly.statement.as_slice(), text.len()) == (text.as_bytes(), 144));
     let whole = export(alloc, &[FIRST, SECOND, THIRD])?;
-    assert_eq!(rt;
-        (plainly.export.as_slice(), plainly.notes),
-        (whole.as_slice(), 3)
-    );
+    assert!(rt; (plainly.export.as_slice(), plainly.notes) == (whole.as_slice(), 3));
     for (replicas, workers) in NUMBERS {
         let billed = billed(&rt, alloc, &inputs, replicas, workers)?;
         assert!(rt; are_same(&billed, &plainly), "{replicas} {workers}");
@@ -139,7 +134,7 @@ fn refuses_the_first_input_with_a_fault(rt: HostRuntime) -> Result<(), Fail> {
     };
     for (replicas, workers) in NUMBERS {
         let refused = billed(&rt, alloc, &inputs, replicas, workers);
-        assert_eq!(rt; refused.err(), Some(fault), "{replicas} {workers}");
+        assert!(rt; refused.err() == Some(fault));
     }
     Ok(())
 }
@@ -167,14 +162,59 @@ fn over_full_writers<R: Threads + Wait + Sync>(rt: &R, alloc: Global) -> Result<
     Ok(exported == failed && stated == failed && out.into_inner().is_empty())
 }
 
+// A writer with room for some octets, which takes one at a time.
+#[derive(Drop)]
+struct Narrow {
+    taken: Vec<u8>,
+    room: usize,
+}
+
+impl io::Write for Narrow {
+    fn write(&mut self, octets: &[u8]) -> io::Result<usize> {
+        let n = octets.len().min(1).min(self.room);
+        self.taken.extend_from_slice(&octets[..n])?;
+        self.room -= n;
+        Ok(n)
+    }
+
+    fn flush(&mut self) -> io::Result<()> {
+        Ok(())
+    }
+}
+
+// Whether a bill whose statement goes to a writer with room for so many octets is refused for the write, and just these went out.
+fn is_cut_off<R: Threads + Wait + Sync>(
+    rt: &R,
+    alloc: Global,
+    inputs: &[Vec<u8>],
+    room: usize,
+) -> Result<bool, AllocError> {
+    let text = format!(in alloc; "{OPENING}{THREE_REPORTS}")?;
+    if inputs.len() != 3 {
+        return Ok(false);
+    }
+    let taken = Vec::new(alloc);
+    let mut out = Host::new(Narrow { taken, room });
+    let export: Option<&mut Host<Vec<u8>>> = None;
+    let plan = PLAN.as_bytes();
+    let refused = run_bill(rt, alloc, plan, inputs, 2, 2, &NoGate, export, &mut out).err();
+    let taken = out.into_inner().taken;
+    let went_out = Some(taken.as_slice()) == text.as_bytes().get(..room);
+    Ok(refused == Some(RunFault::write()) && went_out)
+}
+
 #[test]
 fn refuses_a_write_that_fails(rt: HostRuntime) -> Result<(), Fail> {
     assert!(rt; over_full_writers(&rt, rt.alloc())?);
+    let inputs = export_of_each(rt.alloc(), &[FIRST, SECOND, THIRD])?;
+    for room in [14, 143, 0] {
+        assert!(rt; is_cut_off(&rt, rt.alloc(), &inputs, room)?, "{room}");
+    }
     Ok(())
 }
 
 // Whether a bill of two replicas, both of which were given the second report, writes the statement of three reports and their export,
-// or is refused and writes nothing.
+// or is refused and writes nothing. The writers have room, so that no write takes memory.
 fn writes_all_or_nothing<R: Threads + Wait + Sync>(
     rt: &R,
     alloc: Global,
@@ -185,8 +225,8 @@ fn writes_all_or_nothing<R: Threads + Wait + Sync>(
     if inputs.len() != 4 {
         return Ok(false);
     }
-    let mut out = Host::new(Vec::new(alloc));
-    let mut export = Host::new(Vec::new(alloc));
+    let mut out = Host::new(Vec::with_capacity(alloc, 4096)?);
+    let mut export = Host::new(Vec::with_capacity(alloc, 4096)?);
     let plan = PLAN.as_bytes();
     let asked = Some(&mut export);
     let billed = run_bill(rt, alloc, plan, &inputs, 2, 2, &NoGate, asked, &mut out).is_ok();

@@ -102,7 +102,7 @@ fn reads_all_files_before_it_judges(rt: HostRuntime) -> Result<(), Fail> {
         ),
     ];
     for (words, ending) in lines {
-        assert_eq!(rt; ran(&rt, words)?.as_str(), ending, "{words:?}");
+        assert!(rt; ran(&rt, words)?.as_str() == ending);
     }
     fs::remove_dir_all(&rt, folder.as_path())?;
     Ok(())
@@ -112,19 +112,10 @@ fn reads_all_files_before_it_judges(rt: HostRuntime) -> Result<(), Fail> {
 fn runs_commands(rt: HostRuntime) -> Result<(), Fail> {
     let folder = enter(&rt, "commands")?;
     let metered = format!(in rt.alloc(); "0|{THREE_LINES}|")?;
-    assert_eq!(rt;
-        ran(&rt, &["meter", SPEC, "two", "one"])?.as_str(),
-        metered.as_str()
-    );
-    assert_eq!(rt;
-        ran(&rt, &["combine", "out", "two", "one"])?.as_str(),
-        "0|reports 3\n|"
-    );
+    assert!(rt; ran(&rt, &["meter", SPEC, "two", "one"])?.as_str() == metered.as_str());
+    assert!(rt; ran(&rt, &["combine", "out", "two", "one"])?.as_str() == "0|reports 3\n|");
     let statement = format!(in rt.alloc(); "0|{OPENING}{THREE_REPORTS}|")?;
-    assert_eq!(rt;
-        ran(&rt, &["bill", "plan", "two", "one"])?.as_str(),
-        statement.as_str()
-    );
+    assert!(rt; ran(&rt, &["bill", "plan", "two", "one"])?.as_str() == statement.as_str());
     fs::remove_dir_all(&rt, folder.as_path())?;
     Ok(())
 }
@@ -174,7 +165,7 @@ fn audits_statements(rt: HostRuntime) -> Result<(), Fail> {
         ),
     ];
     for (words, ending) in lines {
-        assert_eq!(rt; ran(&rt, words)?.as_str(), ending, "{words:?}");
+        assert!(rt; ran(&rt, words)?.as_str() == ending);
     }
     fs::remove_dir_all(&rt, folder.as_path())?;
     Ok(())
@@ -217,8 +208,8 @@ fn makes_out_once_all_is_read(rt: HostRuntime) -> Result<(), Fail> {
     ];
     for (words, ending, octets) in lines {
         fs::write(&rt, "out", "before")?;
-        assert_eq!(rt; ran(&rt, words)?.as_str(), ending, "{words:?}");
-        assert_eq!(rt; fs::read(&rt, "out")?.as_slice(), octets, "{words:?}");
+        assert!(rt; ran(&rt, words)?.as_str() == ending);
+        assert!(rt; fs::read(&rt, "out")?.as_slice() == octets);
     }
     fs::remove_dir_all(&rt, folder.as_path())?;
     Ok(())
@@ -228,15 +219,12 @@ fn makes_out_once_all_is_read(rt: HostRuntime) -> Result<(), Fail> {
 fn writes_to_an_input(rt: HostRuntime) -> Result<(), Fail> {
     let folder = enter(&rt, "same")?;
     let three = export(rt.alloc(), &[FIRST, SECOND, THIRD])?;
-    assert_eq!(rt;
-        ran(&rt, &["combine", "one", "one", "two"])?.as_str(),
-        "0|reports 3\n|"
-    );
-    assert_eq!(rt; fs::read(&rt, "one")?.as_slice(), three.as_slice());
+    assert!(rt; ran(&rt, &["combine", "one", "one", "two"])?.as_str() == "0|reports 3\n|");
+    assert!(rt; fs::read(&rt, "one")?.as_slice() == three.as_slice());
     let statement = format!(in rt.alloc(); "0|{OPENING}{THREE_REPORTS}|")?;
     let words = ["bill", "plan", "two", "one", "--export", "two"];
-    assert_eq!(rt; ran(&rt, &words)?.as_str(), statement.as_str());
-    assert_eq!(rt; fs::read(&rt, "two")?.as_slice(), three.as_slice());
+    assert!(rt; ran(&rt, &words)?.as_str() == statement.as_str());
+    assert!(rt; fs::read(&rt, "two")?.as_slice() == three.as_slice());
     fs::remove_dir_all(&rt, folder.as_path())?;
     Ok(())
 }
@@ -256,12 +244,9 @@ fn large_export(alloc: Global) -> Result<Vec<u8>, AllocError> {
 fn reads_large_files(rt: HostRuntime) -> Result<(), Fail> {
     let folder = enter(&rt, "large")?;
     let octets = large_export(rt.alloc())?;
-    assert_eq!(rt; octets.len(), 1_000_035);
+    assert!(rt; octets.len() == 1_000_035);
     fs::write(&rt, "large", octets.as_slice())?;
-    assert_eq!(rt;
-        ran(&rt, &["combine", "out", "large"])?.as_str(),
-        "0|reports 40001\n|"
-    );
+    assert!(rt; ran(&rt, &["combine", "out", "large"])?.as_str() == "0|reports 40001\n|");
     assert!(rt; fs::read(&rt, "out")?.as_slice() == octets.as_slice());
     fs::remove_dir_all(&rt, folder.as_path())?;
     Ok(())
@@ -271,12 +256,9 @@ fn reads_large_files(rt: HostRuntime) -> Result<(), Fail> {
 fn prints_notes_in_the_inputs_order(rt: HostRuntime) -> Result<(), Fail> {
     let folder = enter(&rt, "notes")?;
     let words = ["meter", SPEC, "skipped"];
-    assert_eq!(rt;
-        ran(&rt, &words)?.as_str(),
-        "0|green 0 0\nyellow 0 0\nred 0 0\n|"
-    );
+    assert!(rt; ran(&rt, &words)?.as_str() == "0|green 0 0\nyellow 0 0\nred 0 0\n|");
     let words = ["bill", "other plan", "skipped", "one", "unknown", "skipped"];
-    assert_eq!(rt; ran(&rt, &words)?.as_str(), NOTED);
+    assert!(rt; ran(&rt, &words)?.as_str() == NOTED);
     fs::remove_dir_all(&rt, folder.as_path())?;
     Ok(())
 }
@@ -299,12 +281,12 @@ fn keeps_the_status_where_writes_fail(rt: HostRuntime) -> Result<(), Fail> {
     ];
     for (words, status) in lines {
         let mut out = Host::new(Vec::new(rt.alloc()));
-        assert_eq!(rt; run(&rt, words, &mut out, &mut Full), status, "{words:?}");
+        assert!(rt; run(&rt, words, &mut out, &mut Full) == status);
     }
     let mut errors = Vec::new(rt.alloc());
     let words = ["tcacct", "meter", SPEC, "one"];
-    assert_eq!(rt; run(&rt, &words, &mut Host::new(Full), &mut errors), 1);
-    assert_eq!(rt; errors.as_slice(), b"tcacct: meter: write 1\n".as_slice());
+    assert!(rt; run(&rt, &words, &mut Host::new(Full), &mut errors) == 1);
+    assert!(rt; errors.as_slice() == b"tcacct: meter: write 1\n".as_slice());
     fs::remove_dir_all(&rt, folder.as_path())?;
     Ok(())
 }
@@ -314,13 +296,9 @@ fn ends_by_the_command_line(rt: HostRuntime) -> Result<(), Fail> {
     for (word, status) in [("--help", 0u8), ("help", 0), ("audit", 2), ("--quiet", 2)] {
         let mut out = Host::new(Vec::new(rt.alloc()));
         let mut errors = Vec::new(rt.alloc());
-        assert_eq!(rt;
-            run(&rt, &["tcacct", word], &mut out, &mut errors),
-            status,
-            "{word}"
-        );
-        assert_eq!(rt; errors.is_empty(), status == 0, "{word}");
-        assert_eq!(rt; out.into_inner().is_empty(), status == 2, "{word}");
+        assert!(rt; run(&rt, &["tcacct", word], &mut out, &mut errors) == status);
+        assert!(rt; errors.is_empty() == (status == 0));
+        assert!(rt; out.into_inner().is_empty() == (status == 2));
     }
     Ok(())
 }
@@ -354,13 +332,13 @@ impl Env for NotText {
 fn refuses_words_that_are_no_text(rt: HostRuntime) -> Result<(), Fail> {
     let mut errors = Vec::new(rt.alloc());
     match words_of(&(NotText, rt.alloc())) {
-        Err(fault) => assert_eq!(rt; end(&Ending::NoCommand(fault), &mut errors), 2),
+        Err(fault) => assert!(rt; end(&Ending::NoCommand(fault), &mut errors) == 2),
         Ok(_) => return Err("words".into()),
     }
     let text = b"error: a word of the command line is not UTF-8\n";
-    assert_eq!(rt; errors.as_slice(), text.as_slice());
+    assert!(rt; errors.as_slice() == text.as_slice());
     let mut errors = Vec::new(rt.alloc());
-    assert_eq!(rt; end(&Ending::NoCommand(LineFault::Memory), &mut errors), 1);
-    assert_eq!(rt; errors.as_slice(), b"tcacct: tcacct: memory 1\n".as_slice());
+    assert!(rt; end(&Ending::NoCommand(LineFault::Memory), &mut errors) == 1);
+    assert!(rt; errors.as_slice() == b"tcacct: tcacct: memory 1\n".as_slice());
     Ok(())
 }

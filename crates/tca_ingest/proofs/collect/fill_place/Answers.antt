@@ -4,8 +4,8 @@ use Rattle.tca_ingest.specs.Works.{IsResult, IsResultAt}
 use Rattle.tca_ingest.proofs.Collecting.{zip_set}
 use Rattle.tca_ingest.proofs.collect.fill_place.Goals as goal
 
-pub returns : goal.returns
-returns c =
+pub returns-clause-results : goal.returns-clause-results
+returns-clause-results c =
     let given = c.of_job.inside in
     let none : Bor (List ℕ) = record { ref_ptr = (0, 0); now = [] } in
     let same : (slice_index_or c.args.inputs.now given.job none).now ≡ given.input.now = search rules in

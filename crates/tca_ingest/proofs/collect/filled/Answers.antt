@@ -20,9 +20,9 @@ loop-place-preserved c =
     let number : c.number_of-job.result ≡ length l.done.items = c.number_of-job.ensures (omega (arith, counted, low, places, so_far, c.requires.count)) ∙ counted in (
       tt,
       tt,
-      subst (AllZip (λ place d. place ≡ Some d.result) (l.yielded ++ c.in-Some.place ∷ [])) (sym c.in_ok-put.ensures)
+      subst (AllZip (λ place d. place ≡ Some d.result) (l.yielded ++ c.in-Some.place ∷ [])) (sym c.in_ok-put.ensures.added)
           (zip_push (λ place d. place ≡ Some d.result) l.yielded l.done.items c.in-Some.place one l.invariant.2 c.in-Some-place.is),
-      subst AreNumbered (sym c.in_ok-put.ensures) (numbered_push 0 l.done.items one l.invariant.3 (number ∙ omega (arith))),
+      subst AreNumbered (sym c.in_ok-put.ensures.added) (numbered_push 0 l.done.items one l.invariant.3 (number ∙ omega (arith))),
     )
 
 pub returns-clause-done : goal.returns-clause-done
