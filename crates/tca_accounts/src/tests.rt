@@ -68,12 +68,12 @@ fn reads_an_account_of_each_kind(rt: HostRuntime) -> Result<(), Fail> {
     let table = toml::table_from_slice(alloc, text.as_bytes())?;
     let plan = Plan::from_table(alloc, &table)?;
     let copy = plan.copy(alloc)?;
-    assert_eq!(rt; copy.period(), 3_600_000);
-    assert_eq!(rt; copy.accounts(), 3);
-    assert_eq!(rt; copy.name(1), "beta");
-    assert_eq!(rt; copy.other(0), Colour::Yellow);
-    assert_eq!(rt; copy.other(1), Colour::Red);
-    assert_eq!(rt; copy.other(2), Colour::Green);
+    assert!(rt; copy.period() == 3_600_000);
+    assert!(rt; copy.accounts() == 3);
+    assert!(rt; copy.name(1) == "beta");
+    assert!(rt; copy.other(0) == Colour::Yellow);
+    assert!(rt; copy.other(1) == Colour::Red);
+    assert!(rt; copy.other(2) == Colour::Green);
     assert!(rt; meter_spec("rfc2697:1000:2000:1000:aware") == Ok(copy.meter(0)));
     assert!(rt; meter_spec("rfc2698:2000:2000:1000:1000:blind") == Ok(copy.meter(1)));
     assert!(rt; meter_spec("rfc4115:1000:1000:1000:1000:exact:blind") == Ok(copy.meter(2)));
@@ -83,11 +83,8 @@ fn reads_an_account_of_each_kind(rt: HostRuntime) -> Result<(), Fail> {
 #[test]
 fn refuses_what_stands_at_the_top_in_order(rt: HostRuntime) -> Result<(), Fail> {
     let alloc = rt.alloc();
-    assert_eq!(rt;
-        Plan::from_text(alloc, b"\xff").err(),
-        Some(PlanFault::Syntax)
-    );
-    assert_eq!(rt; refusal(alloc, &["period = "])?, Some(PlanFault::Syntax));
+    assert!(rt; Plan::from_text(alloc, b"\xff").err() == Some(PlanFault::Syntax));
+    assert!(rt; refusal(alloc, &["period = "])? == Some(PlanFault::Syntax));
     assert!(rt; is_unknown(alloc, &["colour = 1\nperiod = 0\n"])?);
     assert!(rt; is_missing(alloc, &["account = 1\n"], Key::Period)?);
     assert!(rt; is_wrong(alloc, &["period = 0\naccount = 1\n"], Key::Period)?);
@@ -95,10 +92,7 @@ fn refuses_what_stands_at_the_top_in_order(rt: HostRuntime) -> Result<(), Fail> 
     assert!(rt; is_wrong(alloc, &["period = \"1\"\n"], Key::Period)?);
     assert!(rt; is_missing(alloc, &["period = 281474976710655\n"], Key::Account)?);
     assert!(rt; is_wrong(alloc, &[HOUR, "account = 1\n"], Key::Account)?);
-    assert_eq!(rt;
-        refusal(alloc, &[HOUR, "account = []\n"])?,
-        Some(PlanFault::Limits)
-    );
+    assert!(rt; refusal(alloc, &[HOUR, "account = []\n"])? == Some(PlanFault::Limits));
     assert!(rt; is_wrong(alloc, &[HOUR, "account = [1, {}]\n"], Key::Account)?);
     Ok(())
 }
@@ -233,35 +227,26 @@ fn refuses_pairs_and_meters_in_order(rt: HostRuntime) -> Result<(), Fail> {
     }
     let keys = "keys = [[7, 1]]\n";
     let fault = MeterFault::NoBurst;
-    assert_eq!(rt;
-        refusal(alloc, &[HOUR, none, keys])?,
-        Some(PlanFault::Meter { account: 0, fault })
+    assert!(rt;
+        refusal(alloc, &[HOUR, none, keys])? == Some(PlanFault::Meter { account: 0, fault })
     );
-    assert_eq!(rt;
-        refusal(alloc, &[HOUR, PEAK, keys, none, keys, SINGLE])?,
-        Some(PlanFault::Meter { account: 1, fault })
+    assert!(rt;
+        refusal(alloc, &[HOUR, PEAK, keys, none, keys, SINGLE])?
+            == Some(PlanFault::Meter { account: 1, fault })
     );
     let fault = MeterFault::RateRange;
-    assert_eq!(rt;
-        refusal(alloc, &[HOUR, fast, keys])?,
-        Some(PlanFault::Meter { account: 0, fault })
+    assert!(rt;
+        refusal(alloc, &[HOUR, fast, keys])? == Some(PlanFault::Meter { account: 0, fault })
     );
-    assert_eq!(rt;
-        refusal(alloc, &[HOUR, SINGLE, "keys = [[7, 1], [7, 1]]\n"])?,
-        Some(PlanFault::KeyTwice)
+    assert!(rt;
+        refusal(alloc, &[HOUR, SINGLE, "keys = [[7, 1], [7, 1]]\n"])? == Some(PlanFault::KeyTwice)
     );
-    assert_eq!(rt;
-        refusal(alloc, &[HOUR, SINGLE, keys, PEAK, keys])?,
-        Some(PlanFault::KeyTwice)
+    assert!(rt; refusal(alloc, &[HOUR, SINGLE, keys, PEAK, keys])? == Some(PlanFault::KeyTwice));
+    assert!(rt;
+        refusal(alloc, &[HOUR, SINGLE, keys, SINGLE, "keys = [[7, 2]]\n"])?
+            == Some(PlanFault::KeyTwice)
     );
-    assert_eq!(rt;
-        refusal(alloc, &[HOUR, SINGLE, keys, SINGLE, "keys = [[7, 2]]\n"])?,
-        Some(PlanFault::KeyTwice)
-    );
-    assert_eq!(rt;
-        refusal(alloc, &[HOUR, SINGLE, "keys = [[7, 1], [7, 2]]\n"])?,
-        None
-    );
+    assert!(rt; refusal(alloc, &[HOUR, SINGLE, "keys = [[7, 1], [7, 2]]\n"])? == None);
     Ok(())
 }
 
@@ -298,19 +283,13 @@ fn takes_accounts_and_pairs_up_to_their_limits(rt: HostRuntime) -> Result<(), Fa
     let alloc = rt.alloc();
     let text = wide(alloc, 256, 16)?;
     let plan = Plan::from_text(alloc, text.as_bytes())?;
-    assert_eq!(rt; plan.accounts(), 256);
-    assert_eq!(rt; plan.account_of(&report(0, START, 1, 15)?), Some(7));
-    assert_eq!(rt; plan.account_of(&report(0, START, 1, 16)?), None);
+    assert!(rt; plan.accounts() == 256);
+    assert!(rt; plan.account_of(&report(0, START, 1, 15)?) == Some(7));
+    assert!(rt; plan.account_of(&report(0, START, 1, 16)?) == None);
     let text = wide(alloc, 257, 1)?;
-    assert_eq!(rt;
-        Plan::from_text(alloc, text.as_bytes()).err(),
-        Some(PlanFault::Limits)
-    );
+    assert!(rt; Plan::from_text(alloc, text.as_bytes()).err() == Some(PlanFault::Limits));
     let text = wide(alloc, 241, 17)?;
-    assert_eq!(rt;
-        Plan::from_text(alloc, text.as_bytes()).err(),
-        Some(PlanFault::Limits)
-    );
+    assert!(rt; Plan::from_text(alloc, text.as_bytes()).err() == Some(PlanFault::Limits));
     Ok(())
 }
 
@@ -353,23 +332,23 @@ fn bills_what_no_other_report_disputes(rt: HostRuntime) -> Result<(), Fail> {
     let (octets, packets) = ([1500, 1000, 800], [1, 1, 1]);
     let rows = [(472_222, octets, packets)];
     let bill = billed(alloc, &[first, second, third])?;
-    assert_eq!(rt; (bill.reports, bill.disputed, bill.unassigned), (3, 0, 0));
+    assert!(rt; (bill.reports, bill.disputed, bill.unassigned) == (3, 0, 0));
     assert!(rt; has_one_tally(&bill, octets, packets, &rows));
     let bill = billed(alloc, &[late, third, second, first])?;
-    assert_eq!(rt; (bill.reports, bill.disputed, bill.unassigned), (4, 0, 0));
+    assert!(rt; (bill.reports, bill.disputed, bill.unassigned) == (4, 0, 0));
     let (late_octets, late_packets) = ([1500, 600, 1800], [1, 1, 2]);
     let late_rows = [(472_222, late_octets, late_packets)];
     assert!(rt; has_one_tally(&bill, late_octets, late_packets, &late_rows));
     let other = (3, START + 60, 601, 1);
     let bill = billed(alloc, &[first, second, late, third, other])?;
-    assert_eq!(rt; (bill.reports, bill.disputed, bill.unassigned), (5, 1, 0));
+    assert!(rt; (bill.reports, bill.disputed, bill.unassigned) == (5, 1, 0));
     assert!(rt; has_one_tally(&bill, octets, packets, &rows));
     let more = (3, START + 70, 602, 1);
     let bill = billed(alloc, &[first, other, late, third, more, second])?;
-    assert_eq!(rt; (bill.reports, bill.disputed, bill.unassigned), (6, 1, 0));
+    assert!(rt; (bill.reports, bill.disputed, bill.unassigned) == (6, 1, 0));
     assert!(rt; has_one_tally(&bill, octets, packets, &rows));
     let bill = billed(alloc, &[])?;
-    assert_eq!(rt; (bill.reports, bill.disputed, bill.unassigned), (0, 0, 0));
+    assert!(rt; (bill.reports, bill.disputed, bill.unassigned) == (0, 0, 0));
     assert!(rt; has_one_tally(&bill, [0; 3], [0; 3], &[]));
     Ok(())
 }
@@ -385,7 +364,7 @@ fn bills_by_period_and_leaves_out_what_no_account_owns(rt: HostRuntime) -> Resul
             (2, START, 50, 2),
         ],
     )?;
-    assert_eq!(rt; (bill.reports, bill.disputed, bill.unassigned), (3, 0, 1));
+    assert!(rt; (bill.reports, bill.disputed, bill.unassigned) == (3, 0, 1));
     let (octets, packets) = ([100, 0, 0], [1, 0, 0]);
     let rows = [(472_222, octets, packets), (472_223, octets, packets)];
     assert!(rt; has_one_tally(&bill, [200, 0, 0], [2, 0, 0], &rows));
@@ -434,8 +413,8 @@ fn faults_have_their_numbers_and_texts(rt: HostRuntime) -> Result<(), Fail> {
         ),
         (PlanFault::Memory, 8, "out of memory"),
     ] {
-        assert_eq!(rt; fault.number(), number);
-        assert_eq!(rt; format!(in rt.alloc(); "{fault}")?.as_str(), text);
+        assert!(rt; fault.number() == number);
+        assert!(rt; format!(in rt.alloc(); "{fault}")?.as_str() == text);
     }
     Ok(())
 }
@@ -458,8 +437,8 @@ fn keys_are_printed_as_a_document_has_them(rt: HostRuntime) -> Result<(), Fail> 
         (Key::Eir, "eir"),
         (Key::Keys, "keys"),
     ] {
-        assert_eq!(rt; key.name(), name);
-        assert_eq!(rt; format!(in rt.alloc(); "{key}")?.as_str(), name);
+        assert!(rt; key.name() == name);
+        assert!(rt; format!(in rt.alloc(); "{key}")?.as_str() == name);
     }
     Ok(())
 }

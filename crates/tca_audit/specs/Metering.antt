@@ -1,4 +1,5 @@
--- Where an account stands while its reports are metered one after another.
+-- Where an account stands while its reports are metered one after another. No public contract cites this: it serves private
+-- functions and their proofs alone.
 use Rattle.std.specs.Prelude.{◌≡◌, ℕ, ◌<◌, ◌≤◌, List, length, get_or}
 use Rattle.std.specs.List.{AllByRecursion}
 use Rattle.tca_report.specs.report.Reports.{PacketReport}

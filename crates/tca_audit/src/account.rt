@@ -1,6 +1,6 @@
 //! Metering one account.
 ghost use Rattle.std.specs.Prelude.{◌≡◌, ℕ, ◌<◌, ◌≤◌, List, ◌∷◌, IfOk, OnOk, IfSome, Some};
-ghost use Rattle.tca_report.specs.report.Reports.{PacketReport};
+ghost use Rattle.tca_report.specs.report.Reports.{PacketReport, most_octets};
 ghost use Rattle.tca_meters.specs.declared.colour.Colour.{Colour};
 ghost use Rattle.tca_meters.specs.AnyMeters.{any_rule};
 ghost use Rattle.tca_accounts.specs.Bills.{coloured_by};
@@ -107,7 +107,7 @@ fn count_in(
     octets: u32,
 ) -> Result<(), AllocError>
     requires few { IfSome current.old (λ s. HasRoom s.sums) }
-    requires size { octets ≤ 65575 }
+    requires size { octets ≤ most_octets }
     ensures current { OnOk result (current.new ≡ Some (record { index = index; sums = with_packet colour octets (sums_in current.old index) })) }
     ensures ended { OnOk result (ended.new.items ≡ closed_by current.old index ended.old.items) }
 {

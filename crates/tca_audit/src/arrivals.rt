@@ -3,13 +3,14 @@
 ghost use Rattle.std.specs.Prelude.{◌≡◌, ◌<◌, ◌≤◌, ◌+◌, ◌*◌, ◌/◌, ◌^◌};
 ghost use Rattle.tca_buckets.specs.Buckets.{gain, repeated};
 ghost use Rattle.tca_buckets.specs.Tokens.{due, has_come, most_rate};
+ghost use Rattle.tca_report.specs.report.Reports.{time_end};
 
 use crate::buckets::Bucket;
 
 /// The first token that comes after a time. The tokens before it have come by then.
 pub(crate) fn first_after(rate: u64, time: u64) -> u128
     requires rate { rate ≤ most_rate }
-    requires time { time < 2 ^ 48 }
+    requires time { time < time_end }
     ensures { result ≡ rate * time / 1000 + 1 }
 {
     rate as u128 * time as u128 / 1000 + 1
@@ -18,7 +19,7 @@ pub(crate) fn first_after(rate: u64, time: u64) -> u128
 /// Whether a token has come by a time.
 pub(crate) fn has_come(rate: u64, token: u128, time: u64) -> bool
     requires rate { rate ≤ most_rate }
-    requires time { time < 2 ^ 48 }
+    requires time { time < time_end }
     requires token { token < 2 ^ 100 }
     ensures { result ≡ has_come rate token time }
 {
@@ -30,7 +31,7 @@ pub(crate) fn has_come(rate: u64, token: u128, time: u64) -> bool
 pub(crate) fn filled(bucket: Bucket, rate: u64, from: u64, to: u64) -> Bucket
     requires rate { rate ≤ most_rate }
     requires order { from ≤ to }
-    requires time { to < 2 ^ 48 }
+    requires time { to < time_end }
     ensures { result ≡ repeated (due rate from to) gain bucket }
 {
     let mut next = bucket;

@@ -7,6 +7,7 @@ ghost use Rattle.tca_log.specs.Disputes.{disputed, undisputed};
 ghost use Rattle.tca_accounts.specs.Bills.{bill_of, unassigned};
 ghost use Rattle.tca_accounts.specs.Spans.{Ascend};
 ghost use Rattle.tca_audit.specs.Metering.{AreMetering, tally_so_far};
+ghost use Rattle.tca_report.specs.export.Spelling.{most_reports};
 
 use crate::account::Account;
 use crate::disputes::{disputed_identities, is_among};
@@ -18,7 +19,7 @@ use tca_report::{Identity, Report};
 /// disputes, in order, from time 0 on. `AllocError` comes where a growth was refused.
 pub(crate) fn bill(alloc: Global, plan: &Plan, reports: &[Report]) -> Result<Bill, AllocError>
     requires rises { IsStrictlySortedBy report_cmp reports.now }
-    requires few { length reports.now ≤ 4194304 }
+    requires few { length reports.now ≤ most_reports }
     ensures { IfOk result (λ bill. bill ≡ bill_of plan.now reports.now) }
 {
     let disputes = disputed_identities(alloc, reports)?;
@@ -51,7 +52,7 @@ fn meter_all(
     accounts: &mut Vec<Account>,
 ) -> Result<u32, AllocError>
     requires rises { IsStrictlySortedBy report_cmp reports.now }
-    requires few { length reports.now ≤ 4194304 }
+    requires few { length reports.now ≤ most_reports }
     requires disputes { disputes.now ≡ disputed reports.now }
     requires metering { AreMetering plan.now (undisputed reports.now) (undisputed reports.now) accounts.old.items }
     ensures unassigned { IfOk result (λ n. n ≡ length (unassigned plan.now reports.now)) }

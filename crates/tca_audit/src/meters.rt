@@ -1,8 +1,9 @@
 //! A packet at a meter of any of the three kinds.
-ghost use Rattle.std.specs.Prelude.{◌≡◌, ◌<◌, ◌≤◌, ◌^◌};
+ghost use Rattle.std.specs.Prelude.{◌≡◌, ◌<◌, ◌≤◌};
 ghost use Rattle.tca_meters.specs.AnyMeters.{any_rule};
 ghost use Rattle.tca_meters.specs.Packets.{answer};
 ghost use Rattle.tca_audit.specs.Metering.{levels_of};
+ghost use Rattle.tca_report.specs.report.Reports.{time_end};
 
 use crate::buckets::Buckets;
 use crate::{rfc4115, srtcm, trtcm};
@@ -22,7 +23,7 @@ pub(crate) fn opening(meter: &AnyMeter) -> Buckets
 // The buckets once the tokens that come after `from` and at or before `to` were let in.
 fn filled(meter: &AnyMeter, buckets: Buckets, from: u64, to: u64) -> Buckets
     requires order { from ≤ to }
-    requires time { to < 2 ^ 48 }
+    requires time { to < time_end }
     ensures { levels_of result ≡ (any_rule meter.now).filled from to (levels_of buckets) }
 {
     match meter {
@@ -54,7 +55,7 @@ pub(crate) fn metered(
     pre: Colour,
 ) -> (Colour, Buckets)
     requires order { last ≤ time }
-    requires limit { time < 2 ^ 48 }
+    requires limit { time < time_end }
     ensures { (result.0, levels_of result.1) ≡ answer (any_rule meter.now) (levels_of buckets) last (record { time = time; octets = octets; pre = pre }) }
 {
     let filled = filled(meter, buckets, last, time);

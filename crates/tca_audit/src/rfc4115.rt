@@ -1,9 +1,10 @@
 //! The marker of RFC 4115: tokens of the committed rate go to the committed bucket, and tokens of the excess rate to the
 //! excess bucket.
-ghost use Rattle.std.specs.Prelude.{◌≡◌, ◌<◌, ◌≤◌, ◌^◌};
+ghost use Rattle.std.specs.Prelude.{◌≡◌, ◌<◌, ◌≤◌};
 ghost use Rattle.tca_meters.specs.Colours.{counted};
 ghost use Rattle.tca_meters.specs.Rfc4115.{filled_levels, judged_packet, opening_levels};
 ghost use Rattle.tca_audit.specs.Metering.{levels_of};
+ghost use Rattle.tca_report.specs.report.Reports.{time_end};
 
 use crate::arrivals;
 use crate::buckets::{Bucket, Buckets};
@@ -23,7 +24,7 @@ pub(crate) fn opening(meter: &Rfc4115) -> Buckets
 /// those of CIR up to CBS, and Te those of EIR up to EBS (RFC 4115).
 pub(crate) fn filled(meter: &Rfc4115, buckets: Buckets, from: u64, to: u64) -> Buckets
     requires order { from ≤ to }
-    requires time { to < 2 ^ 48 }
+    requires time { to < time_end }
     ensures { levels_of result ≡ filled_levels meter.now from to (levels_of buckets) }
 {
     Buckets {

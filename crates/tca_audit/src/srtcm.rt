@@ -1,10 +1,11 @@
 //! The single rate three color marker of RFC 2697: tokens of one rate go to the committed bucket, and those that it has
 //! no room for to the excess bucket.
-ghost use Rattle.std.specs.Prelude.{◌≡◌, ◌⊎◌, ◌<◌, ◌≤◌, ◌^◌, MatchBool};
+ghost use Rattle.std.specs.Prelude.{◌≡◌, ◌⊎◌, ◌<◌, ◌≤◌, MatchBool};
 ghost use Rattle.tca_buckets.specs.Buckets.{spill};
 ghost use Rattle.tca_meters.specs.Colours.{counted};
 ghost use Rattle.tca_meters.specs.SrTcm.{filled_levels, judged_packet, opening_levels};
 ghost use Rattle.tca_audit.specs.Metering.{levels_of};
+ghost use Rattle.tca_report.specs.report.Reports.{time_end};
 
 use crate::arrivals::{first_after, has_come};
 use crate::buckets::{Bucket, Buckets};
@@ -44,7 +45,7 @@ fn have_room(committed: &Bucket, excess: &Bucket) -> bool
 /// The buckets once the tokens that come after `from` and at or before `to` were let in, one at a time.
 pub(crate) fn filled(meter: &SrTcm, buckets: Buckets, from: u64, to: u64) -> Buckets
     requires order { from ≤ to }
-    requires time { to < 2 ^ 48 }
+    requires time { to < time_end }
     ensures { levels_of result ≡ filled_levels meter.now from to (levels_of buckets) }
 {
     let cir = meter.cir();

@@ -85,19 +85,19 @@ fn tells_where_a_statement_differs(rt: HostRuntime) -> Result<(), Fail> {
     let plan = plan.as_bytes();
     let export = exported(alloc, &FIRST)?;
     let right = THREE.as_bytes();
-    assert_eq!(rt; audit(alloc, plan, &export, right), Ok(Verdict::Agrees));
+    assert!(rt; audit(alloc, plan, &export, right) == Ok(Verdict::Agrees));
     let other =
         "tcacct statement 1\nperiod 3600000\nreports 3\ndisputed 0\nunassigned 0\naccount alpha\ntotal 1501 1 1000 1 800 1\nspan 472222 1500 1 1000 1 800 1\nend\n";
     let verdict = audit(alloc, plan, &export, other.as_bytes());
-    assert_eq!(rt; verdict, Ok(Verdict::Differs { at: 91 }));
+    assert!(rt; verdict == Ok(Verdict::Differs { at: 91 }));
     let cut = right.get(..143).ok_or("144 octets")?;
     let verdict = audit(alloc, plan, &export, cut);
-    assert_eq!(rt; verdict, Ok(Verdict::Differs { at: 143 }));
+    assert!(rt; verdict == Ok(Verdict::Differs { at: 143 }));
     let longer = joined(alloc, &[THREE, "\n"])?;
     let verdict = audit(alloc, plan, &export, longer.as_bytes());
-    assert_eq!(rt; verdict, Ok(Verdict::Differs { at: 144 }));
+    assert!(rt; verdict == Ok(Verdict::Differs { at: 144 }));
     let verdict = audit(alloc, plan, &export, b"");
-    assert_eq!(rt; verdict, Ok(Verdict::Differs { at: 0 }));
+    assert!(rt; verdict == Ok(Verdict::Differs { at: 0 }));
     Ok(())
 }
 
@@ -108,10 +108,10 @@ fn refuses_the_plan_before_the_export(rt: HostRuntime) -> Result<(), Fail> {
     let export = exported(alloc, &FIRST)?;
     let cut = export.get(..84).ok_or("85 octets")?;
     let refused = audit(alloc, plan.as_bytes(), cut, THREE.as_bytes());
-    assert_eq!(rt; refused, Err(AuditFault::Export(ExportFault::Cut)));
+    assert!(rt; refused == Err(AuditFault::Export(ExportFault::Cut)));
     let wrong = PlanFault::Wrong { key: Key::Period };
     let refused = audit(alloc, b"period = 0\n", cut, THREE.as_bytes());
-    assert_eq!(rt; refused, Err(AuditFault::Plan(wrong)));
+    assert!(rt; refused == Err(AuditFault::Plan(wrong)));
     Ok(())
 }
 
@@ -121,7 +121,7 @@ fn agrees_with_late_and_disputed_reports(rt: HostRuntime) -> Result<(), Fail> {
     let late = [FIRST[0], (3, 50, 600, 0, 1), FIRST[1], FIRST[2]];
     let lines =
         "reports 4\ndisputed 0\nunassigned 0\naccount alpha\ntotal 1500 1 600 1 1800 2\nspan 472222 1500 1 600 1 1800 2\n";
-    assert_eq!(rt; found(alloc, BLIND, &late, lines)?, Verdict::Agrees);
+    assert!(rt; found(alloc, BLIND, &late, lines)? == Verdict::Agrees);
     let two = [
         FIRST[0],
         (3, 50, 600, 0, 1),
@@ -131,7 +131,7 @@ fn agrees_with_late_and_disputed_reports(rt: HostRuntime) -> Result<(), Fail> {
     ];
     let lines =
         "reports 5\ndisputed 1\nunassigned 0\naccount alpha\ntotal 1500 1 1000 1 800 1\nspan 472222 1500 1 1000 1 800 1\n";
-    assert_eq!(rt; found(alloc, BLIND, &two, lines)?, Verdict::Agrees);
+    assert!(rt; found(alloc, BLIND, &two, lines)? == Verdict::Agrees);
     let three = [
         FIRST[0],
         (3, 50, 600, 0, 1),
@@ -142,7 +142,7 @@ fn agrees_with_late_and_disputed_reports(rt: HostRuntime) -> Result<(), Fail> {
     ];
     let lines =
         "reports 6\ndisputed 1\nunassigned 0\naccount alpha\ntotal 1500 1 1000 1 800 1\nspan 472222 1500 1 1000 1 800 1\n";
-    assert_eq!(rt; found(alloc, BLIND, &three, lines)?, Verdict::Agrees);
+    assert!(rt; found(alloc, BLIND, &three, lines)? == Verdict::Agrees);
     let hours = [
         (2, 0, 50, 0, 2),
         (0, 2_799_999, 100, 0, 1),
@@ -150,7 +150,7 @@ fn agrees_with_late_and_disputed_reports(rt: HostRuntime) -> Result<(), Fail> {
     ];
     let lines =
         "reports 3\ndisputed 0\nunassigned 1\naccount alpha\ntotal 200 2 0 0 0 0\nspan 472222 100 1 0 0 0 0\nspan 472223 100 1 0 0 0 0\n";
-    assert_eq!(rt; found(alloc, BLIND, &hours, lines)?, Verdict::Agrees);
+    assert!(rt; found(alloc, BLIND, &hours, lines)? == Verdict::Agrees);
     Ok(())
 }
 
@@ -160,32 +160,23 @@ fn agrees_with_each_meter(rt: HostRuntime) -> Result<(), Fail> {
     let same = [(0, 0, 1000, 0, 1), (1, 0, 1000, 0, 1), (2, 0, 1000, 0, 1)];
     let lines =
         "reports 3\ndisputed 0\nunassigned 0\naccount alpha\ntotal 1000 1 1000 1 1000 1\nspan 472222 1000 1 1000 1 1000 1\n";
-    assert_eq!(rt; found(alloc, EXACT, &same, lines)?, Verdict::Agrees);
+    assert!(rt; found(alloc, EXACT, &same, lines)? == Verdict::Agrees);
     let lines =
         "reports 3\ndisputed 0\nunassigned 0\naccount alpha\ntotal 0 0 0 0 3000 3\nspan 472222 0 0 0 0 3000 3\n";
-    assert_eq!(rt; found(alloc, BELOW, &same, lines)?, Verdict::Agrees);
+    assert!(rt; found(alloc, BELOW, &same, lines)? == Verdict::Agrees);
     let peak = [(0, 0, 1500, 0, 1), (1, 0, 500, 0, 1), (2, 1, 3, 0, 1)];
     let lines =
         "reports 3\ndisputed 0\nunassigned 0\naccount alpha\ntotal 500 1 1500 1 3 1\nspan 472222 500 1 1500 1 3 1\n";
-    assert_eq!(rt; found(alloc, PEAK, &peak, lines)?, Verdict::Agrees);
+    assert!(rt; found(alloc, PEAK, &peak, lines)? == Verdict::Agrees);
     let lines =
         "reports 1\ndisputed 0\nunassigned 0\naccount alpha\ntotal 0 0 0 0 100 1\nspan 472222 0 0 0 0 100 1\n";
-    assert_eq!(rt;
-        found(alloc, AWARE, &[(0, 0, 100, 14, 1)], lines)?,
-        Verdict::Agrees
-    );
+    assert!(rt; found(alloc, AWARE, &[(0, 0, 100, 14, 1)], lines)? == Verdict::Agrees);
     let lines =
         "reports 1\ndisputed 0\nunassigned 0\naccount alpha\ntotal 0 0 1000 1 0 0\nspan 472222 0 0 1000 1 0 0\n";
-    assert_eq!(rt;
-        found(alloc, AWARE, &[(0, 0, 1000, 12, 1)], lines)?,
-        Verdict::Agrees
-    );
+    assert!(rt; found(alloc, AWARE, &[(0, 0, 1000, 12, 1)], lines)? == Verdict::Agrees);
     let lines =
         "reports 1\ndisputed 0\nunassigned 0\naccount alpha\ntotal 2000 1 0 0 0 0\nspan 472222 2000 1 0 0 0 0\n";
-    assert_eq!(rt;
-        found(alloc, AWARE, &[(0, 0, 2000, 46, 1)], lines)?,
-        Verdict::Agrees
-    );
+    assert!(rt; found(alloc, AWARE, &[(0, 0, 2000, 46, 1)], lines)? == Verdict::Agrees);
     Ok(())
 }
 
@@ -276,13 +267,13 @@ fn agrees_with_the_bill(rt: HostRuntime) -> Result<(), Fail> {
         let export = exported(alloc, &list)?;
         let mut statement = stated(alloc, &plan, &log)?;
         let verdict = audit_under(alloc, &plan, &export, &statement)?;
-        assert_eq!(rt; verdict, Verdict::Agrees);
+        assert!(rt; verdict == Verdict::Agrees);
         let at = numbers.below(statement.len().min(4_194_304) as u32) as usize;
         if let Some(octet) = statement.get_mut(at) {
             *octet ^= 1;
         }
         let verdict = audit_under(alloc, &plan, &export, &statement)?;
-        assert_eq!(rt; verdict, Verdict::Differs { at: at as u64 });
+        assert!(rt; verdict == Verdict::Differs { at: at as u64 });
     }
     Ok(())
 }
@@ -302,8 +293,8 @@ fn faults_have_their_numbers_and_texts(rt: HostRuntime) -> Result<(), Fail> {
         ),
         (AuditFault::Memory, 3, "out of memory"),
     ] {
-        assert_eq!(rt; fault.number(), number);
-        assert_eq!(rt; format!(in rt.alloc(); "{fault}")?.as_str(), text);
+        assert!(rt; fault.number() == number);
+        assert!(rt; format!(in rt.alloc(); "{fault}")?.as_str() == text);
     }
     Ok(())
 }

@@ -1,9 +1,10 @@
 //! The two rate three color marker of RFC 2698: tokens of the committed rate go to the committed bucket, and tokens of
 //! the peak rate to the peak bucket.
-ghost use Rattle.std.specs.Prelude.{◌≡◌, ◌<◌, ◌≤◌, ◌^◌};
+ghost use Rattle.std.specs.Prelude.{◌≡◌, ◌<◌, ◌≤◌};
 ghost use Rattle.tca_meters.specs.Colours.{counted};
 ghost use Rattle.tca_meters.specs.TrTcm.{filled_levels, judged_packet, opening_levels};
 ghost use Rattle.tca_audit.specs.Metering.{levels_of};
+ghost use Rattle.tca_report.specs.report.Reports.{time_end};
 
 use crate::arrivals;
 use crate::buckets::{Bucket, Buckets};
@@ -23,7 +24,7 @@ pub(crate) fn opening(meter: &TrTcm) -> Buckets
 /// those of CIR up to CBS, and Tp those of PIR up to PBS (RFC 2698 section 3).
 pub(crate) fn filled(meter: &TrTcm, buckets: Buckets, from: u64, to: u64) -> Buckets
     requires order { from ≤ to }
-    requires time { to < 2 ^ 48 }
+    requires time { to < time_end }
     ensures { levels_of result ≡ filled_levels meter.now from to (levels_of buckets) }
 {
     Buckets {

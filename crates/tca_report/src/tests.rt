@@ -348,28 +348,33 @@ fn reads_to_the_end(alloc: Global) -> Result<bool, Fail> {
     Ok(read.as_slice() == b"aaaaaaa".as_slice() && input.failures() == 0)
 }
 
-fn fails_at_the_end(alloc: Global) -> bool {
-    let mut input = make_narrow(alloc, 3, 7, true);
+// Whether a reader that fails once it was read so many times is refused for that, and not read again.
+fn fails_after(alloc: Global, reads: usize) -> bool {
+    let mut input = make_narrow(alloc, 3, reads.saturating_mul(3), true);
     let failed = read_octets(alloc, &mut input).err() == Some(ReadFault::Read);
     let failed_once = input.failures() == 1;
     let device = input.into_inner();
-    failed && failed_once && device.room == 0
+    failed && failed_once && device.calls == (reads as u64).saturating_add(1)
 }
 
 #[test]
 fn readers_are_read_to_their_end(rt: HostRuntime) -> Result<(), Fail> {
     assert!(rt; reads_all(rt.alloc(), three_reports())?);
     assert!(rt; reads_to_the_end(rt.alloc())?);
-    assert!(rt; fails_at_the_end(rt.alloc()));
+    for reads in 0..8 {
+        assert!(rt; fails_after(rt.alloc(), reads), "{reads}");
+    }
     Ok(())
 }
 
+// Whether a reader that gives one octet for ever is stopped.
 fn takes_too_many_reads(alloc: Global) -> bool {
-    let mut input = make_narrow(alloc, 1, 5_000_000, false);
+    let mut input = make_narrow(alloc, 1, usize::MAX, false);
     let stopped = read_octets(alloc, &mut input).err() == Some(ReadFault::Turns);
     let never_failed = input.failures() == 0;
     let device = input.into_inner();
-    stopped && never_failed && (device.calls, device.room) == (4_194_304, 805_696)
+    let left = usize::MAX - 4_194_304;
+    stopped && never_failed && (device.calls, device.room) == (4_194_304, left)
 }
 
 fn takes_five_reads(alloc: Global) -> Result<bool, Fail> {

@@ -1,3 +1,5 @@
+ghost use Rattle.std.specs.Prelude.{◌≡◌, length};
+
 use crate::{Amount, IssueFault, Issuer, Statement, render};
 use std::alloc::Global;
 use std::io;
@@ -74,10 +76,10 @@ fn writes_the_text_of_a_bill(rt: HostRuntime) -> Result<(), Fail> {
     let plan = Plan::from_text(alloc, PLAN)?;
     let bill = billed(alloc, &plan, &FIRST)?;
     let octets = text(alloc, &plan, &bill)?;
-    assert_eq!(rt; octets.len(), 144);
-    assert_eq!(rt; octets.as_slice(), THREE.as_bytes());
+    assert!(rt; octets.len() == 144);
+    assert!(rt; octets.as_slice() == THREE.as_bytes());
     let bill = billed(alloc, &plan, &[])?;
-    assert_eq!(rt; text(alloc, &plan, &bill)?.as_slice(), NONE.as_bytes());
+    assert!(rt; text(alloc, &plan, &bill)?.as_slice() == NONE.as_bytes());
     Ok(())
 }
 
@@ -156,7 +158,7 @@ fn states_one_set_alike_in_each_order(rt: HostRuntime) -> Result<(), Fail> {
         [third, second, first],
     ] {
         let bill = bill_all(alloc, &plan, &collected(alloc, &order)?)?;
-        assert_eq!(rt; text(alloc, &plan, &bill)?.as_slice(), THREE.as_bytes());
+        assert!(rt; text(alloc, &plan, &bill)?.as_slice() == THREE.as_bytes());
     }
     Ok(())
 }
@@ -176,8 +178,8 @@ fn faults_have_their_numbers_and_texts(rt: HostRuntime) -> Result<(), Fail> {
         ),
         (IssueFault::Memory, 3, "out of memory"),
     ] {
-        assert_eq!(rt; fault.number(), number);
-        assert_eq!(rt; format!(in rt.alloc(); "{fault}")?.as_str(), text);
+        assert!(rt; fault.number() == number);
+        assert!(rt; format!(in rt.alloc(); "{fault}")?.as_str() == text);
     }
     Ok(())
 }
@@ -217,9 +219,9 @@ fn says_how_much_of_a_statement_went_out(rt: HostRuntime) -> Result<(), Fail> {
         let written = render(&statement, &mut out)
             .err()
             .map(|fault| fault.written);
-        assert_eq!(rt; written, Some(room as u64));
+        assert!(rt; written == Some(room as u64));
         let taken = out.into_inner().taken;
-        assert_eq!(rt; Some(taken.as_slice()), THREE.as_bytes().get(..room));
+        assert!(rt; Some(taken.as_slice()) == THREE.as_bytes().get(..room));
     }
     Ok(())
 }
@@ -235,27 +237,54 @@ fn issues_what_has_changed(rt: HostRuntime) -> Result<(), Fail> {
     let before = billed(alloc, &plan, &FIRST)?;
     let after = billed(alloc, &plan, &LATE)?;
     let mut issuer = Issuer::new(alloc, &plan)?;
-    assert_eq!(rt; issuer.issued(0, SPAN).len(), 0);
+    assert!(rt; issuer.issued(0, SPAN).len() == 0);
     assert!(rt; before.accounts.as_slice().len() == plan.accounts() as usize);
     assert!(rt; after.accounts.as_slice().len() == plan.accounts() as usize);
-    assert_eq!(rt; issuer.issue(&before, 0, SPAN), Ok(amount(1500, 1000, 800)));
-    assert_eq!(rt; issuer.issue(&after, 0, SPAN), Ok(amount(0, -400, 1000)));
-    assert_eq!(rt; issuer.issue(&after, 0, SPAN), Ok(amount(0, 0, 0)));
-    assert_eq!(rt;
-        issuer.issue(&after, 1, u64::MAX),
-        Err(IssueFault::NoAccount)
-    );
-    assert_eq!(rt;
-        issuer.issue(&after, 0, 78_187_494),
-        Err(IssueFault::Period)
-    );
-    assert_eq!(rt; issuer.issue(&after, 0, 78_187_493), Ok(amount(0, 0, 0)));
+    assert!(rt; issuer.issue(&before, 0, SPAN) == Ok(amount(1500, 1000, 800)));
+    assert!(rt; issuer.issue(&after, 0, SPAN) == Ok(amount(0, -400, 1000)));
+    assert!(rt; issuer.issue(&after, 0, SPAN) == Ok(amount(0, 0, 0)));
+    assert!(rt; issuer.issue(&after, 1, u64::MAX) == Err(IssueFault::NoAccount));
+    assert!(rt; issuer.issue(&after, 0, 78_187_494) == Err(IssueFault::Period));
+    assert!(rt; issuer.issue(&after, 0, 78_187_493) == Ok(amount(0, 0, 0)));
     let amounts = [
         amount(1500, 1000, 800),
         amount(0, -400, 1000),
         amount(0, 0, 0),
     ];
-    assert_eq!(rt; issuer.issued(0, SPAN), amounts.as_slice());
-    assert_eq!(rt; issuer.issued(1, SPAN).len(), 0);
+    assert!(rt; issuer.issued(0, SPAN) == amounts.as_slice());
+    assert!(rt; issuer.issued(1, SPAN).len() == 0);
+    Ok(())
+}
+
+// Whether an amount is issued behind those before, also where a growth is refused once: then they are as they were, and the same
+// call again issues it.
+fn issues(issuer: &mut Issuer, bill: &Bill, before: &[Amount], wanted: Amount) -> bool
+    requires { length bill.now.accounts ≡ issuer.old.accounts }
+    ensures { issuer.new.accounts ≡ issuer.old.accounts }
+{
+    match issuer.issue(bill, 0, SPAN) {
+        Ok(amount) => amount == wanted,
+        Err(fault) => {
+            fault == IssueFault::Memory
+                && issuer.issued(0, SPAN) == before
+                && issuer.issue(bill, 0, SPAN) == Ok(wanted)
+        }
+    }
+}
+
+// The test is run with each growth refused in turn.
+#[test]
+fn an_issue_that_was_refused_is_made_again(rt: HostRuntime) -> Result<(), Fail> {
+    let alloc = rt.alloc();
+    let plan = Plan::from_text(alloc, PLAN)?;
+    let before = billed(alloc, &plan, &FIRST)?;
+    let after = billed(alloc, &plan, &LATE)?;
+    let mut issuer = Issuer::new(alloc, &plan)?;
+    assert!(rt; before.accounts.as_slice().len() == plan.accounts() as usize);
+    assert!(rt; after.accounts.as_slice().len() == plan.accounts() as usize);
+    let (first, second) = (amount(1500, 1000, 800), amount(0, -400, 1000));
+    assert!(rt; issues(&mut issuer, &before, &[], first));
+    assert!(rt; issues(&mut issuer, &after, &[first], second));
+    assert!(rt; issuer.issued(0, SPAN) == [first, second].as_slice());
     Ok(())
 }
