@@ -39,7 +39,7 @@ mod together;
 pub use bill::{Bill, bill_all};
 pub use fault::PlanFault;
 pub use key::Key;
-pub use metered::{Metered, meter_next, meter_report, no_reports};
+pub use metered::{Metered, meter_next, no_reports};
 pub use period::Period;
 pub use plan::Plan;
 pub use span::{Span, Spans};

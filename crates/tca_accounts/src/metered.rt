@@ -56,20 +56,3 @@ pub fn meter_next<M: Meter>(
     metered.total.count(colour, content.octets);
     colour
 }
-
-/// The colour of one more report, as `meter_next` answers it, and where metering stands after it.
-pub fn meter_report<M: Meter>(
-    meter: &M,
-    other: Colour,
-    before: Metered<M::State>,
-    report: &Report,
-) -> (Colour, Metered<M::State>)
-    requires order { before.time ≤ report.now.time }
-    requires few { HasRoom before.total }
-    ensures colour { result.0 ≡ (answer_for (M.rule meter.now) other before report.now).0 }
-    ensures after { result.1 ≡ metered_with (M.rule meter.now) other before report.now }
-{
-    let mut after = before;
-    let colour = meter_next(meter, other, &mut after, report);
-    (colour, after)
-}

@@ -1,4 +1,4 @@
-//! Reports whose places ascend.
+//! Reports whose identities or places ascend.
 ghost use Rattle.std.specs.Prelude.{◌≡◌, true, [], IfOk};
 ghost use Rattle.tca_log.specs.Disputes.{disputed};
 
@@ -6,6 +6,26 @@ use crate::rows::Rows;
 use std::alloc::{AllocError, Allocator};
 use std::collections::BTreeMap;
 use tca_report::Report;
+
+/// Whether each report's identity comes after that of the report before it, as where there is one domain, whose exporter
+/// counts. Then no two have one identity. It takes no memory.
+pub(crate) fn identities_ascend<A: Allocator + Copy>(reports: &Rows<Report, A>) -> bool
+    ensures { result ≡ true → disputed reports.now.rows ≡ [] }
+{
+    let mut left = reports.iter();
+    let Some(first) = left.next() else {
+        return true;
+    };
+    let mut before = first.identity();
+    for report in left {
+        let identity = report.identity();
+        if !before.cmp(&identity).is_lt() {
+            return false;
+        }
+        before = identity;
+    }
+    true
+}
 
 /// Whether each report's place is above those of all reports of its domain before it, as an exporter counts. Then
 /// no two have one identity. It takes memory for one number of each domain.

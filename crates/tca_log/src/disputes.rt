@@ -8,7 +8,7 @@ ghost use Rattle.tca_log.specs.Additions.{times};
 ghost use Rattle.tca_log.specs.Disputes.{disputed};
 ghost use Rattle.tca_log.specs.Rows.Ordered.{most_rows};
 
-use crate::ascending::places_ascend;
+use crate::ascending::{identities_ascend, places_ascend};
 use crate::rows::Rows;
 use std::alloc::{AllocError, Allocator};
 use tca_report::{Identity, Report};
@@ -21,7 +21,7 @@ pub(crate) fn disputes_of<A: Allocator + Copy>(
     ensures { IfOk result (λ all. all.rows ≡ disputed reports.now.rows) }
 {
     let alloc = reports.allocator();
-    if places_ascend(alloc, reports)? {
+    if identities_ascend(reports) || places_ascend(alloc, reports)? {
         return Ok(Rows::new(alloc));
     }
     let identities = identities_in_order(alloc, reports)?;

@@ -1,5 +1,5 @@
 -- What workers answered of each input, and what all inputs hold together.
-use Rattle.std.proofs.Common.{◌≡◌, ◌≢◌, ◌∙◌, ◌<◌, ◌+◌, ℕ, List, [], ◌∷◌, ◌++◌, length, get_or, map, take, Some, None, Ok, Err, is_ok, refl, sym, ap, subst, append_assoc, arith, take_all, inl}
+use Rattle.std.proofs.Common.{◌≡◌, ◌≢◌, ◌∙◌, ◌<◌, ◌+◌, ℕ, List, [], ◌∷◌, ◌++◌, length, get_or, map, take, Some, None, Ok, Err, is_ok, refl, sym, ap, subst, append_assoc, arith, take_all, inl, inr}
 use Rattle.std.specs.Prelude.{IsOk, option_map, slice_get}
 use Rattle.std.specs.List.{AllByRecursion, flat_map}
 use Rattle.std.proofs.lemmas.Grind.{flat_map-append}
@@ -18,7 +18,7 @@ use Rattle.tca_ingest.specs.EntryViews.{entry_view}
 use Rattle.tca_ingest.specs.declared.entry.Receipt.{Receipt}
 use Rattle.tca_ingest.specs.Works.{IsResult, contents_of}
 use Rattle.tcacct.specs.declared.fault.RunFault.{RunFault}
-use Rattle.tcacct.specs.Noted.{IsNoted}
+use Rattle.tcacct.specs.Noted.{AreNotes, IsNoted}
 use Rattle.tcacct.specs.Replicated.{AreReplicasRefused, AreSound, IsInputFault, IsOwnFault}
 use Rattle.tcacct.specs.Runs.{HoldsReports, HoldReports, input_refusal, union_of}
 use Rattle.tcacct.proofs.InputLaws.{gathered_err, gathered_ok}
@@ -81,6 +81,14 @@ all_more P xs i d low all here = subst (AllByRecursion P) (sym (take_more xs i d
 pub found_at : {X : Type 0} (f : X → List ℕ) (inputs : List X) (n : ℕ) (input : X) → n < length inputs → input ≡ get_or inputs n input → slice_get (map f inputs) n ≡ Some (f input)
 found_at f inputs n input low is = slice_get-map f inputs n ∙ ap (option_map f) (slice_get_read inputs (length inputs) n input refl low is)
 
+-- inputs that have notes have no fault
+pub all_sound : (inputs : List (List ℕ)) (notes : List Notes) → AreNotes inputs notes → AreSound inputs
+unfolding AreNotes
+all_sound [] [] are = tt
+all_sound [] (n ∷ ns) are = absurd are
+all_sound (i ∷ is) [] are = absurd are
+all_sound (i ∷ is) (n ∷ ns) are = (sound_of i n are.0, all_sound is ns are.1)
+
 -- one input more without a fault
 pub one_sound : {X : Type 0} (f : X → List ℕ) (inputs : List X) (n : ℕ) (input : X) → n < length inputs → input ≡ get_or inputs n input → AreSound (take n (map f inputs)) → IsOk (input_of (f input)) → AreSound (take (n + 1) (map f inputs))
 one_sound f inputs n input low is before here =
@@ -102,7 +110,7 @@ one_sound f inputs n input low is before here =
 
 -- the refusal of an input
 pub refused_at : {X : Type 0} (f : X → List ℕ) (inputs : List X) (n : ℕ) (input : X) (e : RunFault) → n < length inputs → input ≡ get_or inputs n input → AreSound (take n (map f inputs)) → IsInputFault n (f input) e → AreReplicasRefused (map f inputs) e
-refused_at f inputs n input e low is before why = inl (record { place = n; input = f input; here = found_at f inputs n input low is; before = before; why = why })
+refused_at f inputs n input e low is before why = inr (inl (record { place = n; input = f input; here = found_at f inputs n input low is; before = before; why = why }))
 
 -- the union with one list more
 pub union_more : (lists : List (List PacketReport)) (rs log : List PacketReport) → log ≡ union_of lists → in_order report_cmp (log ++ rs) ≡ union_of (lists ++ rs ∷ [])

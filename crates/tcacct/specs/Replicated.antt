@@ -1,5 +1,5 @@
 -- What the command `bill` is refused for where replicas and workers read the inputs.
-use Rattle.std.specs.Prelude.{◌≡◌, ◌≢◌, ◌≤◌, ◌⊎◌, ℕ, Bool, true, false, List, take, Option, Some, None, Result, Err, IsOk, slice_get}
+use Rattle.std.specs.Prelude.{◌≡◌, ◌≢◌, ◌≤◌, ◌⊎◌, ℕ, Bool, true, false, List, take, Option, Some, None, Result, Ok, Err, IsOk, slice_get}
 use Rattle.std.specs.List.{AllByRecursion}
 use Rattle.tca_report.specs.report.Reports.{PacketReport}
 use Rattle.tca_report.specs.export.Spelling.{export}
@@ -11,8 +11,16 @@ use Rattle.tca_report.specs.declared.input.Notes.{Notes}
 use Rattle.tca_accounts.specs.Plans.{AccountPlan}
 use Rattle.tca_accounts.specs.Faults.{plan_number}
 use Rattle.tca_accounts.specs.declared.fault.PlanFault.{PlanFault}
+use Rattle.tca_ingest.specs.Entries.{EntryView, Took}
+use Rattle.tca_ingest.specs.EntryViews.{entry_view}
+use Rattle.tca_ingest.specs.Faults.{share_number}
 use Rattle.tca_ingest.specs.declared.entry.Receipt.{Receipt}
+use Rattle.tca_ingest.specs.declared.fault.ShareFault.{ShareFault}
+use Rattle.tca_ingest.specs.declared.fault.ShareFault.TheVariants.{PassesOut}
 use Rattle.tca_ingest.specs.declared.job.JobFault.{JobFault}
+use Rattle.tca_ingest.specs.declared.job.JobFault.TheVariants.{Input, Share}
+use Rattle.tca_log.specs.Faults.{fault_number}
+use Rattle.tca_log.specs.declared.fault.LogFault.{LogFault}
 use Rattle.tcacct.specs.declared.fault.RunFault.{RunFault}
 use Rattle.tcacct.specs.declared.fault.Family.{Family}
 use Rattle.tcacct.specs.declared.fault.Family.TheVariants as family
@@ -20,7 +28,7 @@ use Rattle.tcacct.specs.Billed.{IsPlanOf, RefusesPlan, statement_under}
 use Rattle.tcacct.specs.Commands.{most_billed, most_replicas, most_workers}
 use Rattle.tcacct.specs.Devices.{Device, IsCutOff, IsCutOffIfGiven, ReceivesIfGiven}
 use Rattle.tcacct.specs.Noted.{AreNotes}
-use Rattle.tcacct.specs.Runs.{HoldReports, IsUnion, input_refusal, is_write, refusal, write_refusal}
+use Rattle.tcacct.specs.Runs.{HoldReports, IsUnion, input_refusal, is_family, is_write, refusal, write_refusal}
 
 -- how many replicas, workers of each and inputs there may be
 pub record IsWithinLimits (replicas workers inputs : ℕ) : Type 0 where
@@ -54,12 +62,17 @@ is_of_run other = false
 abbrev pub IsRunRefused : RunFault → Type 0
 IsRunRefused e = (e.input ≡ None) × (is_of_run e.family ≡ true)
 
--- the families of a refusal of an input that has no fault: the log of its replica has no room or finds no memory for its reports, or the
--- replica refused the call
-abbrev pub is_of_take : Family → Bool
-is_of_take family.Log = true
-is_of_take family.Share = true
-is_of_take other = false
+-- a refusal of the run while its replicas still read the inputs, when none absorbs anything
+abbrev pub IsReadingRefused : RunFault → Type 0
+IsReadingRefused e = IsRunRefused e × (is_family e.family family.Absorb ≡ false)
+
+-- a log that has no room, or finds no memory, for the reports of input n
+abbrev pub IsLogRefusal : ℕ → RunFault → Type 0
+IsLogRefusal n e = (fault : LogFault) × (e ≡ refusal (Some n) family.Log (fault_number fault))
+
+-- a replica that refuses to take input n, which it never does for want of passes
+abbrev pub IsShareRefusal : ℕ → RunFault → Type 0
+IsShareRefusal n e = (fault : ShareFault) × (fault ≢ PassesOut) × (e ≡ refusal (Some n) family.Share (share_number fault))
 
 -- input n is refused by its own fault, or because it found no memory, where all that stands before is right
 abbrev pub IsOwnFault : ℕ → List ℕ → RunFault → Type 0
@@ -67,10 +80,21 @@ IsOwnFault n input e = (fault : InputFault) × (e ≡ input_refusal n fault) × 
 
 -- input n is read, and its replica didn't take its reports, or not all
 abbrev pub IsNotTaken : ℕ → List ℕ → RunFault → Type 0
-IsNotTaken n input e = IsOk (input_of input) × (e.input ≡ Some n) × (is_of_take e.family ≡ true)
+IsNotTaken n input e = IsOk (input_of input) × (IsLogRefusal n e ⊎ IsShareRefusal n e)
 
 abbrev pub IsInputFault : ℕ → List ℕ → RunFault → Type 0
 IsInputFault n input e = IsOwnFault n input e ⊎ IsNotTaken n input e
+
+-- the refusal of an entry of input n: that of the log, where it took not all reports
+abbrev pub stop_refusal : ℕ → EntryView → Option RunFault
+stop_refusal n (Took pass reports fresh (Some fault)) = Some (refusal (Some n) family.Log (fault_number fault))
+stop_refusal n other = None
+
+-- the refusal that an answer of input n is, if it is one: by its own fault, by the replica's, or by the log's
+abbrev pub refusal_of : ℕ → Result (Notes × Receipt) JobFault → Option RunFault
+refusal_of n (Ok r) = stop_refusal n (entry_view r.1.entry)
+refusal_of n (Err (Input fault)) = Some (input_refusal n fault)
+refusal_of n (Err (Share fault)) = Some (refusal (Some n) family.Share (share_number fault))
 
 -- inputs without a fault
 abbrev pub AreSound : List (List ℕ) → Type 0
@@ -84,9 +108,10 @@ pub record IsInputRefused (inputs : List (List ℕ)) (e : RunFault) : Type 0 whe
   pub before : AreSound (take place inputs)
   pub why : IsInputFault place input e
 
--- what replicas and workers refuse
+-- what replicas and workers refuse: the reading of the inputs; an input; or, where no input has a fault, that the replicas tell each
+-- other what they hold
 abbrev pub AreReplicasRefused : List (List ℕ) → RunFault → Type 0
-AreReplicasRefused inputs e = IsInputRefused inputs e ⊎ IsRunRefused e
+AreReplicasRefused inputs e = IsReadingRefused e ⊎ (IsInputRefused inputs e ⊎ (AreSound inputs × IsRunRefused e))
 
 -- the plan's refusal
 abbrev pub IsPlanRefused : List ℕ → RunFault → Type 0

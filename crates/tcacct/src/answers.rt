@@ -1,9 +1,9 @@
 //! What the workers of all replicas answered, put back into the order of the inputs.
 ghost use Rattle.std.specs.List.{flat_map};
-ghost use Rattle.std.specs.Prelude.{◌≡◌, ◌<◌, ◌^◌, IfOk, IfErr, length, map};
+ghost use Rattle.std.specs.Prelude.{◌≡◌, ◌<◌, ◌^◌, IfOk, IfErr, Some, length, map};
 ghost use Rattle.tca_ingest.specs.Works.{AreSliceResults};
 ghost use Rattle.tcacct.specs.Noted.{IsNoted};
-ghost use Rattle.tcacct.specs.Replicated.{AreRead, AreReplicasRefused, IsInputFault, IsRunRefused};
+ghost use Rattle.tcacct.specs.Replicated.{AreRead, AreReplicasRefused, IsInputFault, IsReadingRefused, refusal_of};
 ghost use Rattle.tcacct.specs.Runs.{HoldsReports, octets_of, union_of};
 
 use crate::fault::RunFault;
@@ -53,7 +53,7 @@ pub(crate) fn put_answers<'a>(
     places: &mut Vec<Option<Answer<'a>>>,
 ) -> Result<(), RunFault>
     requires { AreSliceResults share.now done.items }
-    ensures { IfErr result IsRunRefused }
+    ensures { IfErr result IsReadingRefused }
 {
     let mut left = done;
     let mut at = first;
@@ -78,7 +78,7 @@ fn put_answer<'a>(
     at: usize,
     answer: Answer<'a>,
 ) -> Result<(), RunFault>
-    ensures { IfErr result IsRunRefused }
+    ensures { IfErr result IsReadingRefused }
 {
     if at >= places.len() {
         return Err(RunFault::stranger());
@@ -94,7 +94,7 @@ fn take_answer<'a>(
     input: &[u8],
 ) -> Result<Answer<'a>, RunFault>
     ensures same { IfOk result (λ a. a.input ≡ input.now) }
-    ensures refused { IfErr result IsRunRefused }
+    ensures refused { IfErr result IsReadingRefused }
 {
     if n >= places.len() {
         return Err(RunFault::stranger());
@@ -112,6 +112,7 @@ fn take_answer<'a>(
 fn read_answer(n: u32, answer: Answer<'_>) -> Result<(Notes, Vec<Report>), RunFault>
     ensures noted { IfOk result (λ x. IsNoted answer.entry.input x.0) }
     ensures holds { IfOk result (λ x. HoldsReports answer.entry.input x.1.items) }
+    ensures told { IfErr result (λ e. refusal_of n answer.entry.result ≡ Some e) }
     ensures refused { IfErr result (IsInputFault n answer.entry.input) }
 {
     let Answer { result, .. } = answer;

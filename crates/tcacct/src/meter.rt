@@ -3,6 +3,7 @@ ghost use Rattle.std.specs.Prelude.{◌≡◌, ◌<◌, ◌≤◌, ◌^◌, Ok, 
 ghost use Rattle.std.specs.List.Sorted.{IsStrictlySortedBy};
 ghost use Rattle.tca_report.specs.report.Reports.{report_cmp};
 ghost use Rattle.tca_meters.specs.declared.colour.Colour.TheVariants.{Green};
+ghost use Rattle.tca_meters.specs.AnyMeters.{any_rule};
 ghost use Rattle.tca_meters.specs.Packets.{colours};
 ghost use Rattle.tca_accounts.specs.Sums.{packet_of, sums_of};
 ghost use Rattle.tcacct.specs.Devices.{device};
@@ -14,9 +15,9 @@ use crate::fault::RunFault;
 use crate::inputs::unite;
 use crate::texts::meter_lines;
 use std::alloc::Global;
-use tca_accounts::{Sums, meter_report, no_reports};
+use tca_accounts::{Sums, meter_next, no_reports};
 use tca_log::Settled;
-use tca_meters::{Colour, Meter, meter_spec};
+use tca_meters::{AnyMeter, Colour, Meter, meter_spec};
 use tca_report::{Write, put_all};
 
 // The sums of the reports, metered in their order from time 0 on, each with the precolour of its code
@@ -28,9 +29,22 @@ fn metered<M: Meter>(meter: &M, reports: Settled<'_>) -> Sums
 {
     let mut metered = no_reports(meter);
     for report in reports {
-        (_, metered) = meter_report(meter, Colour::Green, metered, report);
+        let _ = meter_next(meter, Colour::Green, &mut metered, report);
     }
     metered.total
+}
+
+// The same by a meter of any kind.
+fn metered_by(meter: &AnyMeter, reports: Settled<'_>) -> Sums
+    requires rises { IsStrictlySortedBy report_cmp reports }
+    requires few { length reports ≤ most_reports }
+    ensures { result ≡ sums_of (colours (any_rule meter.now) (packet_of Green) reports.entry) }
+{
+    match meter {
+        AnyMeter::SrTcm(meter) => metered(meter, reports),
+        AnyMeter::TrTcm(meter) => metered(meter, reports),
+        AnyMeter::Rfc4115(meter) => metered(meter, reports),
+    }
 }
 
 // The lines that go out.
@@ -42,7 +56,7 @@ fn made(alloc: Global, spec: &str, inputs: &[Vec<u8>]) -> Result<String, RunFaul
 {
     let meter = meter_spec(spec)?;
     let (log, _notes) = unite(alloc, inputs)?;
-    let sums = metered(&meter, log.settled());
+    let sums = metered_by(&meter, log.settled());
     let lines = meter_lines(alloc, &sums)?;
     Ok(lines)
 }

@@ -1,6 +1,6 @@
 //! Replicas that read the inputs by workers, and tell each other what they hold.
 ghost use Rattle.std.specs.Prelude.{◌≡◌, ◌≤◌, ◌<◌, ◌+◌, IfOk, IfErr, length, map};
-ghost use Rattle.tcacct.specs.Replicated.{AreRead, AreReplicasRefused, IsRunRefused, IsWithinLimits};
+ghost use Rattle.tcacct.specs.Replicated.{AreRead, AreReplicasRefused, IsReadingRefused, IsRunRefused, IsWithinLimits};
 ghost use Rattle.tcacct.specs.Runs.{octets_of};
 
 use crate::answers::{Answer, Contents, contents_of, empty_places, put_answers};
@@ -56,7 +56,7 @@ fn worked<'a, L: Side + Send + Sync, R: Threads + Wait + Sync, G: Gate>(
     places: &mut Vec<Option<Answer<'a>>>,
 ) -> Result<Vec<Pass<L>>, RunFault>
     requires { IsWithinLimits setting.now.replicas setting.now.workers (length setting.now.inputs.now) }
-    ensures { IfErr result IsRunRefused }
+    ensures { IfErr result IsReadingRefused }
 {
     let (alloc, step) = (setting.alloc, setting.replicas);
     let share = share_of(alloc, setting.inputs, first, step)?;
@@ -79,7 +79,7 @@ fn worked<'a, L: Side + Send + Sync, R: Threads + Wait + Sync, G: Gate>(
 // Closes a replica with all its passes.
 fn closed<L: Side>(shared: Shared<L>, passes: Vec<Pass<L>>) -> Result<Closed, RunFault>
     ensures plan { IfOk result (λ c. c.replica.plan ≡ L.plan) }
-    ensures refused { IfErr result IsRunRefused }
+    ensures refused { IfErr result IsReadingRefused }
 {
     match shared.close(passes) {
         Ok(closed) => Ok(closed),
@@ -101,7 +101,7 @@ fn read_by<'a, L: Side + Send + Sync, R: Threads + Wait + Sync, G: Gate>(
     requires plan { plan ≡ L.plan }
     requires above { 1 ≤ name }
     requires limits { IsWithinLimits setting.now.replicas setting.now.workers (length setting.now.inputs.now) }
-    ensures { IfErr result IsRunRefused }
+    ensures { IfErr result IsReadingRefused }
 {
     let shared = Shared::<L>::new(setting.alloc, blank, name, plan)?;
     let passes = worked(setting, &shared, name - 1, places)?;
@@ -115,7 +115,7 @@ fn others_of<'a, R: Threads + Wait + Sync, G: Gate>(
     places: &mut Vec<Option<Answer<'a>>>,
 ) -> Result<Vec<Closed>, RunFault>
     requires { IsWithinLimits setting.now.replicas setting.now.workers (length setting.now.inputs.now) }
-    ensures { IfErr result IsRunRefused }
+    ensures { IfErr result IsReadingRefused }
 {
     let alloc = setting.alloc;
     let mut others = Vec::new(alloc);

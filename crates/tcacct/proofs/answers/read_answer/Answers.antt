@@ -1,11 +1,11 @@
-use Rattle.std.proofs.Common.{◌≡◌, None, Ok, Err, rules, subst, inl}
+use Rattle.std.proofs.Common.{◌≡◌, None, Ok, Err, rules, subst, inl, inr}
 use Rattle.tca_ingest.specs.EntryViews.{entry_view}
 use Rattle.tca_ingest.specs.Entries.{Took}
 use Rattle.tca_ingest.specs.Works.{IsResult}
-use Rattle.tca_ingest.specs.declared.job.JobFault.TheVariants.{Input}
+use Rattle.tca_ingest.specs.declared.job.JobFault.TheVariants.{Input, Share}
 use Rattle.tcacct.specs.Replicated.{AnswerView}
 use Rattle.tcacct.specs.Runs.{HoldsReports}
-use Rattle.tcacct.proofs.ReadLaws.{holds_if_taken, noted_if_taken, own_fault}
+use Rattle.tcacct.proofs.ReadLaws.{holds_if_taken, noted_if_taken, own_fault, read_of}
 use Rattle.tcacct.proofs.answers.read_answer.Goals as goal
 
 pub returns-in-Err-Input-clause-refused : goal.returns-in-Err-Input-clause-refused
@@ -14,6 +14,24 @@ returns-in-Err-Input-clause-refused c =
     let result : c.args.answer.result ≡ Err (Input fault) = search rules in
     let is : IsResult c.args.answer.input c.args.answer.result = subst (λ (v : AnswerView). IsResult v.input v.result) c.answer.view_is c.answer.invariant in
     inl (own_fault c.args.n c.args.answer.input fault c.input.result c.input.ensures.fault (subst (IsResult c.args.answer.input) result is))
+
+pub returns-in-Err-Share-clause-refused : goal.returns-in-Err-Share-clause-refused
+returns-in-Err-Share-clause-refused c =
+    let fault = c.in-Err-Share.fault in
+    let input = c.args.answer.input in
+    let result : c.args.answer.result ≡ Err (Share fault) = search rules in
+    let is : IsResult input c.args.answer.result = subst (λ (v : AnswerView). IsResult v.input v.result) c.answer.view_is c.answer.invariant in
+    let read = subst (IsResult input) result is in
+    inr (read_of input read.1.0 read.1.1 read.1.2, inr (fault, read.0, c.share.ensures))
+
+pub returns-in-Took-default-default-default-Some-clause-refused :
+    goal.returns-in-Took-default-default-default-Some-clause-refused
+returns-in-Took-default-default-default-Some-clause-refused c =
+    let input = c.args.answer.input in
+    let result : c.args.answer.result ≡ Ok (c.in-Ok.notes, c.in-Ok.receipt) = search rules in
+    let is : IsResult input c.args.answer.result = subst (λ (v : AnswerView). IsResult v.input v.result) c.answer.view_is c.answer.invariant in
+    let read = subst (IsResult input) result is in
+    inr (read_of input read.0 c.in-Ok.notes read.1, inl (_, c.log.ensures))
 
 pub returns-in-Took-default-default-default-None-clause-noted :
     goal.returns-in-Took-default-default-default-None-clause-noted

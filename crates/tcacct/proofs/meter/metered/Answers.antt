@@ -10,8 +10,8 @@ loop-report-init g c =
     let all : c.into_iter-report-iterator.result ≡ c.args.reports = cc in
     rw (all, c.no_reports-metered.ensures) (metering_begun (g.M.Meter.rule c.args.meter.now) c.args.reports c.requires.rises c.requires.few)
 
-pub meter_report-requires-clause-few : goal.meter_report-requires-clause-few
-meter_report-requires-clause-few g c =
+pub meter_next-requires-clause-few : goal.meter_next-requires-clause-few
+meter_next-requires-clause-few g c =
     let rule = g.M.Meter.rule c.args.meter.now in
     let m = rw c.in-Some.ensures.steps at c.loop-report.invariant in
     room rule (colours rule (packet_of Green) c.args.reports) c.loop-report.metered c.in-Some.report.now c.next.new.self m
@@ -20,7 +20,7 @@ pub loop-report-preserved : goal.loop-report-preserved
 loop-report-preserved g c =
     let rule = g.M.Meter.rule c.args.meter.now in
     let m = rw c.in-Some.ensures.steps at c.loop-report.invariant in
-    rw c.meter_report.ensures.after (metering_more rule (colours rule (packet_of Green) c.args.reports) c.loop-report.metered c.in-Some.report.now c.next.new.self m)
+    rw c.meter_next.ensures.after (metering_more rule (colours rule (packet_of Green) c.args.reports) c.loop-report.metered c.in-Some.report.now c.next.new.self m)
 
 pub returns : goal.returns
 returns g c =

@@ -1,7 +1,6 @@
-use Rattle.std.proofs.Common.{◌≡◌, ◌∙◌, ◌∷◌, ◌++◌, ◌+◌, [], List, length, take, sym, ap, append_assoc, rules}
-use Rattle.std.proofs.lemmas.List.{append-nil, take_more}
+use Rattle.std.proofs.Common.{◌≡◌, ◌∙◌, ◌∷◌, ◌++◌, ◌+◌, [], List, take, sym, ap, append_assoc, rules}
+use Rattle.std.proofs.lemmas.List.{take_more}
 use Rattle.tca_report.specs.report.Reports.{PacketReport}
-use Rattle.tca_gossip.proofs.Exact.{report_decides}
 use Rattle.tcacct.proofs.replicated.are_all_of.Goals as goal
 
 pub loop-report-preserved : goal.loop-report-preserved
