@@ -38,16 +38,45 @@ fn joined<J: Join>(first: &J, second: &J) -> Result<J, JoinFault> {
     Ok(value)
 }
 
-// The items of each key's chain.
+fn show_one<A: Allocator + Clone>(
+    all: &mut Vec<u32>,
+    key: u32,
+    chain: &Chain<u32, A>,
+) -> Result<(), AllocError> {
+    all.push(key)?;
+    all.push(chain.len())?;
+    for item in chain.items() {
+        all.push(*item)?;
+    }
+    Ok(())
+}
+
+// Each key, how many items its chain has, and these.
 fn shown<A: Allocator + Clone>(
     alloc: Global,
     map: &ByKey<Chain<u32, A>, A>,
-) -> Result<Vec<(u32, Vec<u32>)>, AllocError> {
+) -> Result<Vec<u32>, AllocError> {
     let mut all = Vec::new(alloc);
     for entry in map.entries() {
-        all.push((entry.0, entry.1.items().to_vec(alloc)?))?;
+        show_one(&mut all, entry.0, &entry.1)?;
     }
     Ok(all)
+}
+
+fn is_as<A: Allocator + Clone>(
+    alloc: Global,
+    map: &ByKey<Chain<u32, A>, A>,
+    before: &[u32],
+) -> Result<bool, AllocError> {
+    Ok(shown(alloc, map)?.as_slice() == before)
+}
+
+// How many items a key's chain has.
+fn length_at<A: Allocator + Clone>(map: &ByKey<Chain<u32, A>, A>, key: u32) -> u32 {
+    match map.get(key) {
+        Some(chain) => chain.len(),
+        None => 0,
+    }
 }
 
 #[test]
@@ -121,6 +150,15 @@ fn a_copy_has_the_room_of_its_source(rt: HostRuntime) -> Result<(), Fail> {
     Ok(())
 }
 
+fn set_chain<A: Allocator + Copy>(
+    alloc: A,
+    map: &mut ByKey<Chain<u32, A>, A>,
+    key: u32,
+    items: &[u32],
+) -> Result<(), AllocError> {
+    map.set(key, chain_of(alloc, items)?)
+}
+
 // A map of chains of these items, set in this order.
 fn map_of<A: Allocator + Copy>(
     alloc: A,
@@ -128,8 +166,7 @@ fn map_of<A: Allocator + Copy>(
 ) -> Result<ByKey<Chain<u32, A>, A>, AllocError> {
     let mut map = ByKey::new(alloc);
     for (key, items) in chains {
-        let chain = chain_of(alloc, *items)?;
-        map.set(*key, chain)?;
+        set_chain(alloc, &mut map, *key, *items)?;
     }
     Ok(map)
 }
@@ -181,17 +218,35 @@ fn is_refused_at(
 ) -> Result<bool, AllocError> {
     let before = shown(alloc, map)?;
     let refused = map.join_from(other) == Err(JoinFault::Clash { key });
-    Ok(refused && shown(alloc, map)? == before)
+    Ok(refused && is_as(alloc, map, &before)?)
 }
 
-fn replace(map: &mut ByKey<Chain<u32>>, key: u32, chain: Chain<u32>) -> bool {
+fn replace(
+    alloc: Global,
+    map: &mut ByKey<Chain<u32>>,
+    key: u32,
+    items: &[u32],
+) -> Result<bool, AllocError> {
+    let chain = chain_of(alloc, items)?;
     match map.get_mut(key) {
         Some(place) => {
             *place = chain;
-            true
+            Ok(true)
         }
-        None => false,
+        None => Ok(false),
     }
+}
+
+// Whether the clash at 1 is named, and the one at 5 where there is none at 1.
+fn names_the_least(
+    alloc: Global,
+    first: &mut ByKey<Chain<u32>>,
+    second: &ByKey<Chain<u32>>,
+) -> Result<bool, AllocError> {
+    let at_one = is_refused_at(alloc, first, second, 1)?;
+    let replaced = replace(alloc, first, 1, &[2, 2, 6])? && first.get_mut(2).is_none();
+    let at_five = is_refused_at(alloc, first, second, 5)?;
+    Ok(at_one && replaced && at_five && length_at(first, 1) == 3)
 }
 
 #[test]
@@ -205,11 +260,7 @@ fn the_least_key_that_clashes_is_named(rt: HostRuntime) -> Result<(), Fail> {
         alloc,
         &[(8, &[2, 1]), (3, &[2, 1]), (1, &[2, 2]), (5, &[2])],
     )?;
-    assert!(rt; is_refused_at(alloc, &mut first, &second, 1)?);
-    let chain = chain_of(alloc, &[2, 2, 6])?;
-    assert!(rt; replace(&mut first, 1, chain) && first.get_mut(2).is_none());
-    assert!(rt; is_refused_at(alloc, &mut first, &second, 5)?);
-    assert!(rt; first.get(1).map_or(0, |chain| chain.len()) == 3);
+    assert!(rt; names_the_least(alloc, &mut first, &second)?);
     Ok(())
 }
 
@@ -263,26 +314,39 @@ fn clash_is_named<'a>(first: &mut SmallMap<'a>, second: &SmallMap<'a>) -> bool {
     first.refusal(second) == Some(clash) && first.join_from(second) == Err(clash)
 }
 
+// The same in a heap that refuses each growth.
+fn clash_is_named_without_memory(alloc: Global, heap: &LocalHeap) -> Result<bool, AllocError> {
+    let mut first = map_of(heap, &[(3, &[1]), (5, &[7])])?;
+    let second = map_of(heap, &[(3, &[1, 2]), (5, &[8])])?;
+    let taken = exhausted(alloc, heap)?;
+    let used = heap.used();
+    let named = clash_is_named(&mut first, &second);
+    Ok(named && heap.used() == used && taken.len() > 0)
+}
+
 // Whether the map that joins with another, but for its want of memory, joins with one that is empty.
-fn lacks_memory<'a>(heap: &'a LocalHeap, third: &mut SmallMap<'a>, fourth: &SmallMap<'a>) -> bool {
+fn lacks_memory<'a>(first: &mut SmallMap<'a>, second: &SmallMap<'a>, none: &SmallMap<'a>) -> bool {
+    first.refusal(second).is_none()
+        && first.join_from(second).err() == Some(JoinFault::Memory)
+        && first.join_from(none).is_ok()
+}
+
+// The same in a heap that refuses each growth.
+fn lacks_only_memory(alloc: Global, heap: &LocalHeap) -> Result<bool, AllocError> {
+    let mut first = map_of(heap, &[(3, &[1]), (5, &[7])])?;
+    let second = map_of(heap, &[(3, &[1, 2]), (5, &[7])])?;
     let none = ByKey::new(heap);
-    third.refusal(fourth).is_none()
-        && third.join_from(fourth) == Err(JoinFault::Memory)
-        && third.join_from(&none) == Ok(())
+    let taken = exhausted(alloc, heap)?;
+    let used = heap.used();
+    let lacks = lacks_memory(&mut first, &second, &none);
+    Ok(lacks && heap.used() == used && taken.len() > 0)
 }
 
 #[test]
 fn a_clash_is_named_where_memory_lacks(rt: HostRuntime) -> Result<(), Fail> {
     let heap = LocalHeap::new(rt.alloc(), 1 << 12)?;
-    let mut first = map_of(&heap, &[(3, &[1]), (5, &[7])])?;
-    let second = map_of(&heap, &[(3, &[1, 2]), (5, &[8])])?;
-    let mut third = map_of(&heap, &[(3, &[1]), (5, &[7])])?;
-    let fourth = map_of(&heap, &[(3, &[1, 2]), (5, &[7])])?;
-    let taken = exhausted(rt.alloc(), &heap)?;
-    let used = heap.used();
-    assert!(rt; clash_is_named(&mut first, &second));
-    assert!(rt; lacks_memory(&heap, &mut third, &fourth));
-    assert!(rt; heap.used() == used && taken.len() > 0);
+    assert!(rt; clash_is_named_without_memory(rt.alloc(), &heap)?);
+    assert!(rt; lacks_only_memory(rt.alloc(), &heap)?);
     Ok(())
 }
 
@@ -290,9 +354,9 @@ const ITEMS: [u32; 5] = [10, 11, 12, 13, 14];
 
 // Adds the items until a growth is refused, and answers whether the chain then has just those before that.
 fn adds_until_refused(chain: &mut Chain<u32, &LocalHeap>) -> Option<bool> {
-    for (n, item) in ITEMS.iter().enumerate() {
-        if add(chain, *item).is_err() {
-            return Some(ITEMS.get(..n) == Some(chain.items()));
+    for n in 0..ITEMS.len() {
+        if add(chain, ITEMS[n]).is_err() {
+            return Some(chain.items() == &ITEMS[..n]);
         }
     }
     None
@@ -303,9 +367,11 @@ fn seen(step: Step, is_as_before: bool) -> Step {
 }
 
 // Goes on until a growth is refused, and sees that what it was refused to is as before.
-fn chain_step<'a>(small: &'a LocalHeap, longer: &Chain<u32, &'a LocalHeap>) -> Step {
-    let mut chain = Chain::new(small);
-    if let Some(is_as_before) = adds_until_refused(&mut chain) {
+fn chain_step<'a>(
+    chain: &mut Chain<u32, &'a LocalHeap>,
+    longer: &Chain<u32, &'a LocalHeap>,
+) -> Step {
+    if let Some(is_as_before) = adds_until_refused(chain) {
         return seen(Step::Reserve, is_as_before);
     }
     if chain.copy().is_err() {
@@ -320,12 +386,17 @@ fn chain_step<'a>(small: &'a LocalHeap, longer: &Chain<u32, &'a LocalHeap>) -> S
     }
 }
 
+fn new_chain_step<'a>(small: &'a LocalHeap, longer: &Chain<u32, &'a LocalHeap>) -> Step {
+    let mut chain = Chain::new(small);
+    chain_step(&mut chain, longer)
+}
+
 // The same in a heap of this many octets for the chain itself, beside one with room for the other.
 fn chain_within(alloc: Global, octets: usize) -> Result<Step, AllocError> {
     let small = LocalHeap::new(alloc, octets)?;
     let ample = LocalHeap::new(alloc, 1 << 16)?;
     let longer = chain_of(&ample, &[10, 11, 12, 13, 14, 15, 16, 17, 18, 19])?;
-    let step = chain_step(&small, &longer);
+    let step = new_chain_step(&small, &longer);
     Ok(seen(step, small.used() == 0))
 }
 
@@ -356,15 +427,15 @@ fn set_one<'a>(
     map: &mut SmallMap<'a>,
     small: &'a LocalHeap,
     key: u32,
+    before: &[u32],
 ) -> Result<Option<Step>, AllocError> {
-    let before = shown(alloc, map)?;
     let Ok(chain) = chain_of(small, &[key]) else {
         return Ok(Some(Step::Reserve));
     };
-    if map.set(key, chain).is_err() {
-        return Ok(Some(seen(Step::Set, shown(alloc, map)? == before)));
+    match map.set(key, chain) {
+        Ok(()) => Ok(None),
+        Err(_) => Ok(Some(seen(Step::Set, is_as(alloc, map, before)?))),
     }
-    Ok(None)
 }
 
 fn set_each<'a>(
@@ -373,7 +444,8 @@ fn set_each<'a>(
     small: &'a LocalHeap,
 ) -> Result<Option<Step>, AllocError> {
     for key in KEYS {
-        let refused = set_one(alloc, map, small, key)?;
+        let before = shown(alloc, map)?;
+        let refused = set_one(alloc, map, small, key, &before)?;
         if refused.is_some() {
             return Ok(refused);
         }
@@ -382,9 +454,7 @@ fn set_each<'a>(
 }
 
 fn has_joined(map: &SmallMap<'_>) -> bool {
-    map.get(30).map_or(0, |chain| chain.len()) == 6
-        && map.get(35).map_or(0, |chain| chain.len()) == 1
-        && map.entries().len() == 6
+    length_at(map, 30) == 6 && length_at(map, 35) == 1 && map.entries().len() == 6
 }
 
 // The join with another, once the map was copied, which is as before whatever becomes of the map.
@@ -393,13 +463,13 @@ fn join_step<'a>(
     map: &mut SmallMap<'a>,
     copy: &SmallMap<'a>,
     other: &SmallMap<'a>,
+    before: &[u32],
 ) -> Result<Step, AllocError> {
-    let before = shown(alloc, copy)?;
     match map.join_from(other) {
-        Ok(()) => Ok(seen(Step::Done, has_joined(map) && shown(alloc, copy)? == before)),
+        Ok(()) => Ok(seen(Step::Done, has_joined(map) && is_as(alloc, copy, before)?)),
         Err(fault) => Ok(seen(
             Step::Join,
-            fault == JoinFault::Memory && shown(alloc, map)? == before,
+            fault == JoinFault::Memory && is_as(alloc, map, before)?,
         )),
     }
 }
@@ -408,14 +478,14 @@ fn copy_step<'a>(
     alloc: Global,
     map: &mut SmallMap<'a>,
     other: &SmallMap<'a>,
+    before: &[u32],
 ) -> Result<Step, AllocError> {
-    let before = shown(alloc, map)?;
     match map.copy() {
         Ok(copy) => {
-            let is_alike = shown(alloc, &copy)? == before;
-            Ok(seen(join_step(alloc, map, &copy, other)?, is_alike))
+            let is_alike = is_as(alloc, &copy, before)?;
+            Ok(seen(join_step(alloc, map, &copy, other, before)?, is_alike))
         }
-        Err(_) => Ok(seen(Step::Copy, shown(alloc, map)? == before)),
+        Err(_) => Ok(seen(Step::Copy, is_as(alloc, map, before)?)),
     }
 }
 
@@ -425,10 +495,11 @@ fn map_step<'a>(
     other: &SmallMap<'a>,
 ) -> Result<Step, AllocError> {
     let mut map = ByKey::new(small);
-    match set_each(alloc, &mut map, small)? {
-        Some(step) => Ok(step),
-        None => copy_step(alloc, &mut map, other),
+    if let Some(step) = set_each(alloc, &mut map, small)? {
+        return Ok(step);
     }
+    let before = shown(alloc, &map)?;
+    copy_step(alloc, &mut map, other, &before)
 }
 
 fn map_within(alloc: Global, octets: usize) -> Result<Step, AllocError> {

@@ -129,20 +129,31 @@ fn add_each(log: &mut Log, plain: &mut Vec<Report>, order: &[Report]) -> Result<
     Ok(true)
 }
 
+// Whether a log has just the reports of a list, by each call that gives them.
+fn is_list(log: Log, list: &[Report]) -> Result<bool, Fail> {
+    let all = has_all(&log, list) && log.len() as usize == list.len();
+    let reports = log.into_reports()?;
+    Ok(all && reports.as_slice() == list)
+}
+
 // Whether a log that gets the reports one by one answers as a plain list does and has what that has.
 fn agrees(alloc: Global, order: &[Report], disputed: u32) -> Result<bool, Fail> {
-    let mut log = Log::new(alloc);
     let mut plain = Vec::new(alloc);
+    let mut log = Log::new(alloc);
     let alike = add_each(&mut log, &mut plain, order)?;
     plain.sort_unstable();
-    let all = has_all(&log, &plain) && log.len() as usize == plain.len();
     let disputes = log.disputed() == disputed;
-    Ok(alike && all && disputes && log.into_reports()? == plain)
+    let all = is_list(log, &plain)?;
+    Ok(alike && all && disputes)
+}
+
+fn unites_once(log: &mut Log, one: &Log) -> bool {
+    log.union(one) == Ok(1) && log.union(one) == Ok(0)
 }
 
 fn unites(alloc: Global, log: &mut Log, report: Report) -> bool {
     let mut one = Log::new(alloc);
-    one.add(report) == Ok(Added::Fresh) && log.union(&one) == Ok(1) && log.union(&one) == Ok(0)
+    one.add(report) == Ok(Added::Fresh) && unites_once(log, &one)
 }
 
 fn unites_each(alloc: Global, order: &[Report], list: &[Report]) -> bool {
@@ -156,28 +167,45 @@ fn unites_each(alloc: Global, order: &[Report], list: &[Report]) -> bool {
 }
 
 fn adds_all(alloc: Global, order: &[Report], list: &[Report], new: u32) -> Result<bool, Fail> {
+    let given = Vec::from_slice(alloc, order)?;
     let mut log = Log::new(alloc);
-    let added = log.add_all(Vec::from_slice(alloc, order)?) == Ok(new);
+    let added = log.add_all(given) == Ok(new);
     Ok(added && has_all(&log, list))
+}
+
+fn rows_in_turn(
+    alloc: Global,
+    count: usize,
+    code: usize,
+    order: &mut Vec<Report>,
+) -> Result<(), Fail> {
+    let mut left = rows(alloc, count)?;
+    in_turn(&mut left, code, order)
 }
 
 // The first rows in one of their orders, so many times.
 fn order_of(alloc: Global, count: usize, code: usize, times: u32) -> Result<Vec<Report>, Fail> {
     let mut order = Vec::new(alloc);
     for _ in 0..times {
-        let mut left = rows(alloc, count)?;
-        in_turn(&mut left, code, &mut order)?;
+        rows_in_turn(alloc, count, code, &mut order)?;
     }
     Ok(order)
+}
+
+fn unites_in_turn(alloc: Global, code: usize, list: &[Report]) -> Result<bool, Fail> {
+    let once = order_of(alloc, 3, code, 1)?;
+    Ok(unites_each(alloc, &once, list))
+}
+
+fn adds_twice_in_turn(alloc: Global, code: usize, list: &[Report]) -> Result<bool, Fail> {
+    let twice = order_of(alloc, 3, code, 2)?;
+    Ok(adds_all(alloc, &twice, list, 3)? && agrees(alloc, &twice, 0)?)
 }
 
 // Whether an order of the first reports, each twice, gives one log by all three calls.
 fn is_one_log(alloc: Global, code: usize) -> Result<bool, Fail> {
     let list = rows(alloc, 3)?;
-    let once = order_of(alloc, 3, code, 1)?;
-    let twice = order_of(alloc, 3, code, 2)?;
-    let united = unites_each(alloc, &once, &list);
-    Ok(united && adds_all(alloc, &twice, &list, 3)? && agrees(alloc, &twice, 0)?)
+    Ok(unites_in_turn(alloc, code, &list)? && adds_twice_in_turn(alloc, code, &list)?)
 }
 
 fn agrees_in_turn(alloc: Global, count: usize, code: usize, disputed: u32) -> Result<bool, Fail> {
@@ -203,35 +231,55 @@ fn disputes_do_not_depend_on_the_order(rt: HostRuntime) -> Result<(), Fail> {
     Ok(())
 }
 
-// The answers to the late contents in the order of the worked rows, and a copy.
+fn answers(log: &mut Log, report: Report, wanted: Added) -> bool {
+    log.add(report) == Ok(wanted)
+}
+
+// The answers to the late contents in the order of the worked rows.
 fn answers_late(log: &mut Log, late: Report, second: Report, third: Report) -> bool {
-    log.add(late) == Ok(Added::Fresh)
+    answers(log, late, Added::Fresh)
         && log.contains(&late)
         && !log.contains(&second)
-        && log.add(second) == Ok(Added::NewDispute { withdrawn: late })
-        && log.add(third) == Ok(Added::MoreDispute)
-        && log.add(second) == Ok(Added::Repeat)
+        && answers(log, second, Added::NewDispute { withdrawn: late })
+        && answers(log, third, Added::MoreDispute)
+        && answers(log, second, Added::Repeat)
+}
+
+// A log that gets a list at once, of which so many are new.
+fn log_of(alloc: Global, list: &[Report], new: u32) -> Result<Log, Fail> {
+    let given = Vec::from_slice(alloc, list)?;
+    let mut log = Log::new(alloc);
+    if log.add_all(given) != Ok(new) {
+        return Err("another number of new reports".into());
+    }
+    Ok(log)
+}
+
+fn is_copied(log: &Log, list: &[Report]) -> Result<bool, Fail> {
+    let copy = log.copy()?;
+    let disputed = copy.disputed();
+    Ok(is_list(copy, list)? && disputed == 1)
 }
 
 fn copies(alloc: Global) -> Result<bool, Fail> {
-    let list = rows(alloc, 6)?;
+    let mut list = rows(alloc, 6)?;
+    let log = log_of(alloc, &list, 6)?;
+    list.sort_unstable();
+    is_copied(&log, &list)
+}
+
+fn disputes_late(alloc: Global, list: &[Report]) -> bool {
+    let [_, _, _, late, second, third] = list else {
+        return false;
+    };
     let mut log = Log::new(alloc);
-    let added = log.add_all(Vec::from_slice(alloc, &list)?) == Ok(6);
-    let mut sorted = list;
-    sorted.sort_unstable();
-    let copy = log.copy()?;
-    let alike = has_all(&copy, &sorted) && copy.disputed() == 1;
-    Ok(added && alike && copy.into_reports()? == sorted)
+    let alike = answers_late(&mut log, *late, *second, *third);
+    alike && (log.len(), log.disputed()) == (3, 1)
 }
 
 fn disputes(alloc: Global) -> Result<bool, Fail> {
     let list = rows(alloc, 6)?;
-    let mut log = Log::new(alloc);
-    let [_, _, _, late, second, third] = list.as_slice() else {
-        return Ok(false);
-    };
-    let alike = answers_late(&mut log, *late, *second, *third);
-    Ok(alike && (log.len(), log.disputed()) == (3, 1))
+    Ok(disputes_late(alloc, &list))
 }
 
 #[test]
@@ -260,13 +308,16 @@ fn alternating(alloc: Global, list: &[Report]) -> Result<Vec<Report>, Fail> {
     Ok(order)
 }
 
+fn agrees_alternating(alloc: Global, list: &[Report]) -> Result<bool, Fail> {
+    let order = alternating(alloc, list)?;
+    Ok(agrees(alloc, &order, 213)? && adds_all(alloc, &order, list, 513)?)
+}
+
 #[test]
 fn chunks_do_not_show(rt: HostRuntime) -> Result<(), Fail> {
     let mut list = many(rt.alloc())?;
-    let order = alternating(rt.alloc(), &list)?;
     assert!(rt; agrees(rt.alloc(), &list, 213)?);
-    assert!(rt; agrees(rt.alloc(), &order, 213)?);
-    assert!(rt; adds_all(rt.alloc(), &order, &list, 513)?);
+    assert!(rt; agrees_alternating(rt.alloc(), &list)?);
     list.reverse();
     assert!(rt; agrees(rt.alloc(), &list, 213)?);
     Ok(())
@@ -284,10 +335,20 @@ fn fill(log: &mut Log) -> bool {
     log.len() == LIMIT
 }
 
+// What a log answers to a list of one report.
+fn added_alone(
+    alloc: Global,
+    log: &mut Log,
+    report: Report,
+) -> Result<Result<u32, LogFault>, Fail> {
+    let given = Vec::from_slice(alloc, &[report])?;
+    Ok(log.add_all(given))
+}
+
 fn refuses(alloc: Global, log: &mut Log, new: Report, old: Report) -> Result<bool, Fail> {
     let alone = log.add(new) == Err(LogFault::Full) && log.add(old) == Ok(Added::Repeat);
-    let new = log.add_all(Vec::from_slice(alloc, &[new])?);
-    let old = log.add_all(Vec::from_slice(alloc, &[old])?);
+    let new = added_alone(alloc, log, new)?;
+    let old = added_alone(alloc, log, old)?;
     Ok(alone && new == Err(LogFault::Full) && old == Ok(0) && log.len() == LIMIT)
 }
 
@@ -296,20 +357,23 @@ fn join_refused<J: Join>(value: &mut J, other: &J) -> Option<JoinFault> {
     value.join_from(other).err()
 }
 
+fn refuses_log(log: &mut Log, other: &Log) -> bool {
+    log.refusal(other) == Some(JoinFault::Full)
+        && log.union(other) == Err(LogFault::Full)
+        && join_refused(log, other) == Some(JoinFault::Full)
+        && log.len() == LIMIT
+}
+
 fn refuses_union(alloc: Global, log: &mut Log, report: Report) -> bool {
     let mut other = Log::new(alloc);
-    other.add(report) == Ok(Added::Fresh)
-        && log.refusal(&other) == Some(JoinFault::Full)
-        && log.union(&other) == Err(LogFault::Full)
-        && join_refused(log, &other) == Some(JoinFault::Full)
-        && log.len() == LIMIT
+    other.add(report) == Ok(Added::Fresh) && refuses_log(log, &other)
 }
 
 #[test]
 fn a_full_log_refuses_what_is_new(rt: HostRuntime) -> Result<(), Fail> {
+    let (new, old) = (report(9, LIMIT, 40)?, report(9, 9, 40)?);
     let mut log = Log::new(rt.alloc());
     assert!(rt; fill(&mut log));
-    let (new, old) = (report(9, LIMIT, 40)?, report(9, 9, 40)?);
     assert!(rt; refuses(rt.alloc(), &mut log, new, old)?);
     assert!(rt; refuses_union(rt.alloc(), &mut log, new));
     Ok(())
@@ -322,13 +386,12 @@ fn joined<J: Join>(first: &J, second: &J) -> Result<J, JoinFault> {
     Ok(value)
 }
 
-// This many of a list, without some at its start.
-fn part(alloc: Global, list: &[Report], without: usize, count: usize) -> Result<Vec<Report>, Fail> {
-    let mut part = Vec::new(alloc);
-    for report in list.iter().skip(without).take(count) {
-        part.push(*report)?;
+// The reports of a list from one place to another, or none where it has no such places.
+fn part(list: &[Report], from: usize, to: usize) -> &[Report] {
+    match list.get(from..to) {
+        Some(part) => part,
+        None => &[],
     }
-    Ok(part)
 }
 
 fn joins_to(first: &Log, second: &Log, list: &[Report]) -> bool {
@@ -338,26 +401,17 @@ fn joins_to(first: &Log, second: &Log, list: &[Report]) -> bool {
     }
 }
 
-// A log that gets a list at once, of which so many are new.
-fn log_of(alloc: Global, list: &[Report], new: u32) -> Result<Log, Fail> {
-    let mut log = Log::new(alloc);
-    if log.add_all(Vec::from_slice(alloc, list)?) != Ok(new) {
-        return Err("another number of new reports".into());
-    }
-    Ok(log)
+fn joins_both(first: &Log, second: &Log, list: &[Report]) -> bool {
+    joins_to(first, second, list)
+        && joins_to(second, first, list)
+        && joins_to(first, first, part(list, 0, 400))
 }
 
 fn joins(alloc: Global) -> Result<bool, Fail> {
     let list = many(alloc)?;
-    let lower = part(alloc, &list, 0, 400)?;
-    let upper = part(alloc, &list, 200, 313)?;
-    let first = log_of(alloc, &lower, 400)?;
-    let second = log_of(alloc, &upper, 313)?;
-    Ok(
-        joins_to(&first, &second, &list)
-            && joins_to(&second, &first, &list)
-            && joins_to(&first, &first, &lower),
-    )
+    let second = log_of(alloc, part(&list, 200, 513), 313)?;
+    let first = log_of(alloc, part(&list, 0, 400), 400)?;
+    Ok(joins_both(&first, &second, &list))
 }
 
 #[test]
@@ -438,11 +492,20 @@ fn kept(alloc: Global, steps: &[Step]) -> Result<Vec<usize>, Fail> {
     Ok(kept)
 }
 
+fn dispute_within(
+    alloc: Global,
+    octets: usize,
+    first: Report,
+    second: Report,
+) -> Result<Step, Fail> {
+    let small = LocalHeap::new(alloc, octets)?;
+    Ok(dispute_step(&small, first, second))
+}
+
 fn dispute_steps(alloc: Global, first: Report, second: Report) -> Result<Vec<Step>, Fail> {
     let mut met = Vec::new(alloc);
     for size in 1..1024 {
-        let small = LocalHeap::new(alloc, STEP * size)?;
-        let step = dispute_step(&small, first, second);
+        let step = dispute_within(alloc, STEP * size, first, second)?;
         met.push(step)?;
         if step == Step::Done {
             break;
@@ -490,14 +553,16 @@ fn late_content_step(small: &LocalHeap, list: &[Report], all: &[Report]) -> Step
     late_answer(&mut log, small, list, all)
 }
 
-fn late_content_steps(alloc: Global, content: Report) -> Result<Vec<Step>, Fail> {
-    let list = rows(alloc, 3)?;
-    let mut all = rows(alloc, 3)?;
-    all.push(content)?;
+fn late_content_within(alloc: Global, octets: usize, all: &[Report]) -> Result<Step, Fail> {
+    let small = LocalHeap::new(alloc, octets)?;
+    Ok(late_content_step(&small, part(all, 0, 3), all))
+}
+
+// All four are given in order.
+fn late_content_steps(alloc: Global, all: &[Report]) -> Result<Vec<Step>, Fail> {
     let mut met = Vec::new(alloc);
     for size in 1..1024 {
-        let small = LocalHeap::new(alloc, STEP * size)?;
-        let step = late_content_step(&small, &list, &all);
+        let step = late_content_within(alloc, STEP * size, all)?;
         met.push(step)?;
         if step == Step::Done {
             break;
@@ -506,9 +571,16 @@ fn late_content_steps(alloc: Global, content: Report) -> Result<Vec<Step>, Fail>
     Ok(met)
 }
 
+fn three_and(alloc: Global, content: Report) -> Result<Vec<Report>, Fail> {
+    let mut all = rows(alloc, 3)?;
+    all.push(content)?;
+    Ok(all)
+}
+
 #[test]
 fn a_list_in_order_is_disputed_later(rt: HostRuntime) -> Result<(), Fail> {
-    let met = late_content_steps(rt.alloc(), report(1, 300, 60)?)?;
+    let all = three_and(rt.alloc(), report(1, 300, 60)?)?;
+    let met = late_content_steps(rt.alloc(), &all)?;
     // Refused to the reports, to the index that is made now, to the disputed identities' list of chunks, and to a chunk of
     // these.
     assert!(rt; kept(rt.alloc(), &met)?.len() == 4);
@@ -550,6 +622,34 @@ fn called<'a>(
     }
 }
 
+fn called_step<'a>(
+    (log, small): (&mut Log<&'a LocalHeap>, &'a LocalHeap),
+    call: Call,
+    other: &Log<&'a LocalHeap>,
+    given: Vec<Report, &'a LocalHeap>,
+    (lower, list): (&[Report], &[Report]),
+) -> Step {
+    match called(log, call, other, given) {
+        Ok(_) => done(log, list, 1),
+        Err(fault) => refused(log, fault, lower, small.used()),
+    }
+}
+
+// A call on a log in a small heap.
+fn small_step<'a>(
+    small: &'a LocalHeap,
+    call: Call,
+    other: &Log<&'a LocalHeap>,
+    given: Vec<Report, &'a LocalHeap>,
+    (lower, list): (&[Report], &[Report]),
+) -> Step {
+    let mut log = Log::new(small);
+    if add_to(&mut log, lower).is_err() {
+        return Step::Before;
+    }
+    called_step((&mut log, small), call, other, given, (lower, list))
+}
+
 // A call that takes more into a log in a small heap, where what it takes is in another one.
 fn call_step<'a>(
     (small, ample): (&'a LocalHeap, &'a LocalHeap),
@@ -557,19 +657,12 @@ fn call_step<'a>(
     (lower, more): (&[Report], &[Report]),
     list: &[Report],
 ) -> Result<Step, Fail> {
-    let given = Vec::from_slice(ample, more)?;
     let mut other = Log::new(ample);
     if add_to(&mut other, more).is_err() {
         return Ok(Step::Wrong);
     }
-    let mut log = Log::new(small);
-    if add_to(&mut log, lower).is_err() {
-        return Ok(Step::Before);
-    }
-    Ok(match called(&mut log, call, &other, given) {
-        Ok(_) => done(&log, list, 1),
-        Err(fault) => refused(&log, fault, lower, small.used()),
-    })
+    let given = Vec::from_slice(ample, more)?;
+    Ok(small_step(small, call, &other, given, (lower, list)))
 }
 
 fn call_within(
@@ -579,25 +672,34 @@ fn call_within(
     parts: (&[Report], &[Report]),
     list: &[Report],
 ) -> Result<Step, Fail> {
-    let small = LocalHeap::new(alloc, octets)?;
     let ample = LocalHeap::new(alloc, 1 << 17)?;
+    let small = LocalHeap::new(alloc, octets)?;
     call_step((&small, &ample), call, parts, list)
 }
 
-// The last reports, some of which the log has, each twice and out of order, in larger and larger heaps.
-fn call_steps(alloc: Global, call: Call) -> Result<Vec<Step>, Fail> {
-    let list = chunk_and_three(alloc)?;
-    let lower = part(alloc, &list, 0, 256)?;
-    let more = alternating(alloc, &part(alloc, &list, 200, 59)?)?;
+// The calls in larger and larger heaps.
+fn calls_within(
+    alloc: Global,
+    call: Call,
+    parts: (&[Report], &[Report]),
+    list: &[Report],
+) -> Result<Vec<Step>, Fail> {
     let mut met = Vec::new(alloc);
     for size in 320..1024 {
-        let step = call_within(alloc, STEP * size, call, (&lower, &more), &list)?;
+        let step = call_within(alloc, STEP * size, call, parts, list)?;
         met.push(step)?;
         if step == Step::Done {
             break;
         }
     }
     Ok(met)
+}
+
+// The last reports, some of which the log has, each twice and out of order.
+fn call_steps(alloc: Global, call: Call) -> Result<Vec<Step>, Fail> {
+    let list = chunk_and_three(alloc)?;
+    let more = alternating(alloc, part(&list, 200, 259))?;
+    calls_within(alloc, call, (part(&list, 0, 256), &more), &list)
 }
 
 // Whether each growth was refused in turn. The call's own come first: the new reports, their order by identity, the
@@ -643,15 +745,12 @@ fn has_them_already<'a>(
     heap: &LocalHeap,
     list: &[Report],
     other: &Log<&'a LocalHeap>,
-    given: Vec<Report, &'a LocalHeap>,
 ) -> bool {
     let used = heap.used();
     let each = list.iter().all(|report| log.contains(report));
     let repeats = repeats_each(log, list);
     let united = log.union(other) == Ok(0) && log.join_from(other) == Ok(());
-    let kept = heap.used() == used;
-    let given = log.add_all(given) == Ok(0);
-    each && repeats && united && kept && given
+    each && repeats && united && heap.used() == used
 }
 
 fn repeats_each<A: Allocator + Copy>(log: &mut Log<A>, list: &[Report]) -> bool {
@@ -665,20 +764,32 @@ fn repeats_each<A: Allocator + Copy>(log: &mut Log<A>, list: &[Report]) -> bool 
 
 // A log of the six worked rows.
 fn log_of_six<'a>(heap: &'a LocalHeap, list: &[Report]) -> Result<Log<&'a LocalHeap>, Fail> {
+    let given = Vec::from_slice(heap, list)?;
     let mut log = Log::new(heap);
-    if log.add_all(Vec::from_slice(heap, list)?) != Ok(6) {
+    if log.add_all(given) != Ok(6) {
         return Err("six new reports".into());
     }
     Ok(log)
 }
 
-// Whether a log in an exhausted heap has what it is given already.
+// Whether a log has what it is given already once its heap is exhausted.
+fn has_them_exhausted<'a>(
+    (alloc, heap): (Global, &'a LocalHeap),
+    log: &mut Log<&'a LocalHeap>,
+    list: &[Report],
+    other: &Log<&'a LocalHeap>,
+) -> Result<bool, Fail> {
+    let given = Vec::from_slice(heap, list)?;
+    let taken = exhausted(alloc, heap)?;
+    let kept = has_them_already(log, heap, list, other);
+    let repeats = log.add_all(given) == Ok(0);
+    Ok(kept && repeats && taken.len() > 0)
+}
+
 fn has_them_without_memory(alloc: Global, heap: &LocalHeap, list: &[Report]) -> Result<bool, Fail> {
     let other = log_of_six(heap, list)?;
     let mut log = log_of_six(heap, list)?;
-    let given = Vec::from_slice(heap, list)?;
-    let taken = exhausted(alloc, heap)?;
-    Ok(has_them_already(&mut log, heap, list, &other, given) && taken.len() > 0)
+    has_them_exhausted((alloc, heap), &mut log, list, &other)
 }
 
 #[test]

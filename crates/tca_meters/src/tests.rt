@@ -130,28 +130,39 @@ fn two_rates_fill_two_buckets(rt: HostRuntime) -> Result<(), Fail> {
     Ok(())
 }
 
+/// Compares three packets at the meter of a text.
+fn compare_spec(rt: &impl Abort, text: &str, packets: [(u64, u32, (Colour, u64, u64)); 3]) {
+    match meter_spec(text) {
+        Ok(meter) => compare_three(rt, meter, packets),
+        Err(_) => assert!(rt; false, "a meter"),
+    }
+}
+
+fn has_parameters(meter: &Rfc4115) -> bool {
+    (meter.cir(), meter.cbs()) == (1, 2)
+        && (meter.eir(), meter.ebs()) == (3, 4)
+        && meter.exact_fit()
+        && meter.aware()
+}
+
 #[test]
 fn a_packet_fits_exactly_or_below(rt: HostRuntime) -> Result<(), Fail> {
     let meter = Rfc4115::new(1, 2, 3, 4, true, true).ok().ok_or("a meter")?;
-    let rates = (meter.cir(), meter.cbs(), meter.eir(), meter.ebs());
-    assert!(rt; rates == (1, 2, 3, 4));
-    assert!(rt; (meter.exact_fit(), meter.aware()) == (true, true));
-    let exact = meter_spec("rfc4115:1000:1000:1000:1000:exact:blind")
-        .ok()
-        .ok_or("a meter")?;
-    compare_three(
+    assert!(rt; has_parameters(&meter));
+    compare_spec(
         &rt,
-        exact,
+        "rfc4115:1000:1000:1000:1000:exact:blind",
         [
             (T, 1000, (Colour::Green, 0, 1000)),
             (T, 1000, (Colour::Yellow, 0, 0)),
             (T, 1000, (Colour::Red, 0, 0)),
         ],
     );
-    let below = meter_spec("rfc4115:1000:1000:1000:1000:below:blind")
-        .ok()
-        .ok_or("a meter")?;
-    compare_three(&rt, below, [(T, 1000, (Colour::Red, 1000, 1000)); 3]);
+    compare_spec(
+        &rt,
+        "rfc4115:1000:1000:1000:1000:below:blind",
+        [(T, 1000, (Colour::Red, 1000, 1000)); 3],
+    );
     Ok(())
 }
 
@@ -283,16 +294,30 @@ fn some_packet(seed: u64, slow: &Slow) -> (u64, u32, Colour) {
     (seed % 6, (octets % 4096) as u32, pre)
 }
 
-/// The meter that has the parameters of a slow one. RFC 2697 has no second rate.
-fn meter_of(slow: &Slow) -> Result<AnyMeter, MeterFault> {
-    let (cir, cbs) = (slow.cir, slow.cbs);
+/// RFC 2697 has no second rate.
+fn single_rate(slow: &Slow) -> Result<AnyMeter, MeterFault> {
+    let meter = SrTcm::new(slow.cir, slow.cbs, slow.second_size, slow.aware)?;
+    Ok(meter.into())
+}
+
+fn two_rates(slow: &Slow) -> Result<AnyMeter, MeterFault> {
     let (rate, size) = (slow.second_rate, slow.second_size);
+    let meter = TrTcm::new(rate, size, slow.cir, slow.cbs, slow.aware)?;
+    Ok(meter.into())
+}
+
+fn two_fits(slow: &Slow, exact_fit: bool) -> Result<AnyMeter, MeterFault> {
+    let (rate, size) = (slow.second_rate, slow.second_size);
+    let meter = Rfc4115::new(slow.cir, slow.cbs, rate, size, exact_fit, slow.aware)?;
+    Ok(meter.into())
+}
+
+/// The meter that has the parameters of a slow one.
+fn meter_of(slow: &Slow) -> Result<AnyMeter, MeterFault> {
     match slow.kind {
-        Kind::Rfc2697 => SrTcm::new(cir, cbs, size, slow.aware).map(AnyMeter::from),
-        Kind::Rfc2698 => TrTcm::new(rate, size, cir, cbs, slow.aware).map(AnyMeter::from),
-        Kind::Rfc4115 { exact_fit } => {
-            Rfc4115::new(cir, cbs, rate, size, exact_fit, slow.aware).map(AnyMeter::from)
-        }
+        Kind::Rfc2697 => single_rate(slow),
+        Kind::Rfc2698 => two_rates(slow),
+        Kind::Rfc4115 { exact_fit } => two_fits(slow, exact_fit),
     }
 }
 

@@ -52,8 +52,17 @@ fn fresh_tally<M: Meter + Drop, A: Allocator + Copy>(
     rows: RowsIter<'_, Report, A>,
 ) -> Result<Tally, AllocError> {
     let mut lane = Lane::new(alloc, meter, Colour::Green, HOUR, 65_536);
+    tally_with(alloc, &mut lane, rows)
+}
+
+// The tally of a lane that gets these rows.
+fn tally_with<M: Meter, A: Allocator + Copy>(
+    alloc: Global,
+    lane: &mut Lane<M>,
+    rows: RowsIter<'_, Report, A>,
+) -> Result<Tally, AllocError> {
     for row in rows {
-        put(&mut lane, *row)?;
+        put(lane, *row)?;
     }
     lane.resume();
     lane.tally(alloc)

@@ -58,14 +58,8 @@ fn is_below(lower: Parts, upper: Parts) -> Result<bool, &'static str> {
     Ok(lower < report(place, time, octets, dscp)?)
 }
 
-#[test]
-fn reports_keep_their_ranges(rt: HostRuntime) -> Result<(), Fail> {
-    for (time, octets, dscp) in [(1 << 48, 1, 0), (T, 0, 0), (T, 65_576, 0), (T, 1, 64)] {
-        assert!(rt;
-            report(0, time, octets, dscp).is_err(),
-            "{time} {octets} {dscp}"
-        );
-    }
+// Whether the report of the greatest time, size and code point has these.
+fn has_the_greatest_parts() -> Result<bool, &'static str> {
     let identity = Identity {
         domain: 7,
         place: 9,
@@ -77,14 +71,25 @@ fn reports_keep_their_ranges(rt: HostRuntime) -> Result<(), Fail> {
         iface: 1,
     };
     let last = report(9, (1 << 48) - 1, 65_575, 63)?;
-    assert!(rt; has_parts(last, identity, content));
+    Ok(has_parts(last, identity, content))
+}
+
+#[test]
+fn reports_keep_their_ranges(rt: HostRuntime) -> Result<(), Fail> {
+    for (time, octets, dscp) in [(1 << 48, 1, 0), (T, 0, 0), (T, 65_576, 0), (T, 1, 64)] {
+        assert!(rt;
+            report(0, time, octets, dscp).is_err(),
+            "{time} {octets} {dscp}"
+        );
+    }
+    assert!(rt; has_the_greatest_parts().unwrap_or(false));
     order_is_total();
     for (lower, upper) in [
         ((9, T, 1, 0), (0, T + 1, 1, 0)),
         ((0, T, 9, 9), (1, T, 1, 0)),
         ((0, T, 1, 9), (0, T, 2, 0)),
     ] {
-        assert!(rt; is_below(lower, upper)?);
+        assert!(rt; is_below(lower, upper).unwrap_or(false));
     }
     Ok(())
 }
@@ -413,53 +418,62 @@ fn a_file_is_a_device(rt: HostRuntime) -> Result<(), Fail> {
     Ok(())
 }
 
-fn says<F: Display + Drop>(alloc: Global, fault: F, text: &str) -> Result<bool, Fail> {
-    Ok(format!(in alloc; "{fault}")?.as_str() == text)
+// The faults of a reader, each with its number and its text.
+const READ_FAULTS: [(ReadFault, u8, &'static str); 3] = [
+    (ReadFault::Read, 1, "the reader failed"),
+    (
+        ReadFault::Turns,
+        2,
+        "the input did not end within 4194304 reads",
+    ),
+    (ReadFault::Memory, 3, "out of memory"),
+];
+
+// The same of an export.
+const EXPORT_FAULTS: [(ExportFault, u8, &'static str); 7] = [
+    (ExportFault::Magic, 1, "the export does not begin with TCAX"),
+    (
+        ExportFault::Version(2),
+        2,
+        "the export has version 2, not 1",
+    ),
+    (
+        ExportFault::Count,
+        3,
+        "the export counts more than 4194304 reports, or octets follow its last report",
+    ),
+    (ExportFault::Cut, 4, "the export is cut short"),
+    (
+        ExportFault::Range { n: 0 },
+        5,
+        "report 0 has a time, a size or a DSCP out of range",
+    ),
+    (
+        ExportFault::Order { n: 1 },
+        6,
+        "report 1 is not above the report before it",
+    ),
+    (ExportFault::Memory, 7, "out of memory"),
+];
+
+fn says<F: Display + Drop>(alloc: Global, fault: F, text: &str) -> bool {
+    match format!(in alloc; "{fault}") {
+        Ok(line) => line.as_str() == text,
+        Err(_) => false,
+    }
 }
 
 #[test]
 fn faults_have_texts_and_numbers(rt: HostRuntime) -> Result<(), Fail> {
-    for (fault, number, text) in [
-        (ReadFault::Read, 1, "the reader failed"),
-        (
-            ReadFault::Turns,
-            2,
-            "the input did not end within 4194304 reads",
-        ),
-        (ReadFault::Memory, 3, "out of memory"),
-    ] {
-        assert!(rt; fault.number() == number && says(rt.alloc(), fault, text)?);
+    for (fault, number, text) in READ_FAULTS {
+        assert!(rt; fault.number() == number && says(rt.alloc(), fault, text));
     }
-    for (fault, number, text) in [
-        (ExportFault::Magic, 1, "the export does not begin with TCAX"),
-        (
-            ExportFault::Version(2),
-            2,
-            "the export has version 2, not 1",
-        ),
-        (
-            ExportFault::Count,
-            3,
-            "the export counts more than 4194304 reports, or octets follow its last report",
-        ),
-        (ExportFault::Cut, 4, "the export is cut short"),
-        (
-            ExportFault::Range { n: 0 },
-            5,
-            "report 0 has a time, a size or a DSCP out of range",
-        ),
-        (
-            ExportFault::Order { n: 1 },
-            6,
-            "report 1 is not above the report before it",
-        ),
-        (ExportFault::Memory, 7, "out of memory"),
-    ] {
-        assert!(rt; fault.number() == number && says(rt.alloc(), fault, text)?);
+    for (fault, number, text) in EXPORT_FAULTS {
+        assert!(rt; fault.number() == number && says(rt.alloc(), fault, text));
     }
     let fault = WriteFault { written: 7 };
     let text = "the writer failed after 7 octets";
-    assert!(rt; fault.number() == 1 && says(rt.alloc(), fault, text)?);
+    assert!(rt; fault.number() == 1 && says(rt.alloc(), fault, text));
     Ok(())
 }
 

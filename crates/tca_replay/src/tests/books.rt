@@ -38,22 +38,34 @@ pub(super) fn figures(bill: &Bill) -> ([u64; 3], u32, u32) {
     (octets, bill.reports, bill.disputed)
 }
 
-// The bill after each of these reports was taken and settled.
-fn bill(alloc: Global, k: u32, rows: &[(u32, u32, u32)]) -> Result<([u64; 3], u32, u32), Fail>
-    requires some { 0 < k }
-    requires few { k ≤ 65536 }
+// The bill of a book that takes these reports, and settles after each.
+fn bill(
+    alloc: Global,
+    log: &mut Log,
+    book: &mut Book,
+    rows: &[(u32, u32, u32)],
+) -> Result<([u64; 3], u32, u32), Fail>
+    requires { Fits log.old book.old }
 {
-    let plan = Plan::from_text(alloc, PLAN.as_bytes())?;
-    let mut log = Log::new(alloc);
-    let mut book = Book::new(alloc, plan, k)?;
     for row in rows {
         let (place, late, octets) = *row;
         let report = report(place, late, octets, 0).ok_or("a report")?;
-        take(&mut log, &mut book, report)?;
+        take(log, book, report)?;
         book.settle();
     }
     book.settle();
     Ok(figures(&book.totals(alloc)?))
+}
+
+// The bill of these reports, with a mark after each so many rows.
+fn billed(alloc: Global, k: u32, rows: &[(u32, u32, u32)]) -> Result<([u64; 3], u32, u32), Fail>
+    requires some { 0 < k }
+    requires few { k ≤ 65536 }
+{
+    let plan = Plan::from_text(alloc, PLAN.as_bytes())?;
+    let mut book = Book::new(alloc, plan, k)?;
+    let mut log = Log::new(alloc);
+    bill(alloc, &mut log, &mut book, rows)
 }
 
 const FIRST: [(u32, u32, u32); 3] = [(0, 0, 1500), (1, 100, 1000), (2, 200, 800)];
@@ -62,9 +74,10 @@ const FIRST: [(u32, u32, u32); 3] = [(0, 0, 1500), (1, 100, 1000), (2, 200, 800)
 fn a_late_report_is_metered_in_its_place(rt: HostRuntime) -> Result<(), Fail> {
     let [first, second, third] = FIRST;
     for k in [1, 2, 256] {
-        assert!(rt; bill(rt.alloc(), k, &FIRST)? == ([1500, 1000, 800], 3, 0));
+        assert!(rt; billed(rt.alloc(), k, &FIRST)? == ([1500, 1000, 800], 3, 0));
         assert!(rt;
-            bill(rt.alloc(), k, &[first, second, third, (3, 50, 600)])? == ([1500, 600, 1800], 4, 0)
+            billed(rt.alloc(), k, &[first, second, third, (3, 50, 600)])?
+                == ([1500, 600, 1800], 4, 0)
         );
     }
     Ok(())
@@ -75,7 +88,7 @@ fn a_dispute_takes_the_first_content_away(rt: HostRuntime) -> Result<(), Fail> {
     let [first, second, third] = FIRST;
     for k in [1, 2, 256] {
         let rows = [first, second, third, (3, 50, 600), (3, 60, 601)];
-        assert!(rt; bill(rt.alloc(), k, &rows)? == ([1500, 1000, 800], 5, 1));
+        assert!(rt; billed(rt.alloc(), k, &rows)? == ([1500, 1000, 800], 5, 1));
         let rows = [
             first,
             second,
@@ -84,7 +97,7 @@ fn a_dispute_takes_the_first_content_away(rt: HostRuntime) -> Result<(), Fail> {
             (3, 50, 600),
             (3, 70, 602),
         ];
-        assert!(rt; bill(rt.alloc(), k, &rows)? == ([1500, 1000, 800], 6, 1));
+        assert!(rt; billed(rt.alloc(), k, &rows)? == ([1500, 1000, 800], 6, 1));
     }
     Ok(())
 }

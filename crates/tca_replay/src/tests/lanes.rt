@@ -81,22 +81,34 @@ fn single_rate() -> Result<SrTcm, Fail> {
     Ok(SrTcm::new(1000, 2000, 1000, false).ok().ok_or("a meter")?)
 }
 
+fn new_counting(offers: &Arc<AtomicU64, Global>) -> Result<Counting, Fail> {
+    let meter = single_rate()?;
+    let offers = Arc::try_clone(offers)?;
+    Ok(Counting { meter, offers })
+}
+
+// Puts five rows into a lane that has none, and resumes it.
+fn put_five(
+    alloc: Global,
+    lane: &mut Lane<Counting>,
+    offers: &Arc<AtomicU64, Global>,
+) -> Result<(), Fail> {
+    for at in 0..5 {
+        put(lane, row(at, 0)?)?;
+    }
+    if steps(alloc, lane, offers)? != 5 {
+        return Err("five rows are not five steps".into());
+    }
+    Ok(())
+}
+
 // A lane of five rows, resumed.
 fn five_rows(alloc: Global, offers: &Arc<AtomicU64, Global>, k: u32) -> Result<Lane<Counting>, Fail>
     requires some { 0 < k }
     requires few { k ≤ 65536 }
 {
-    let meter = Counting {
-        meter: single_rate()?,
-        offers: Arc::try_clone(offers)?,
-    };
-    let mut lane = Lane::new(alloc, meter, Colour::Green, HOUR, k);
-    for at in 0..5 {
-        put(&mut lane, row(at, 0)?)?;
-    }
-    if steps(alloc, &mut lane, offers)? != 5 {
-        return Err("five rows are not five steps".into());
-    }
+    let mut lane = Lane::new(alloc, new_counting(offers)?, Colour::Green, HOUR, k);
+    put_five(alloc, &mut lane, offers)?;
     Ok(lane)
 }
 
@@ -112,17 +124,53 @@ fn exchanged(
     steps(alloc, lane, offers)
 }
 
+// Whether the exchange of each of these rows takes so many steps at most, and to resume after them takes none.
+fn exchange_within(
+    alloc: Global,
+    lane: &mut Lane<Counting>,
+    offers: &Arc<AtomicU64, Global>,
+    exchanges: &[(u32, u64)],
+) -> Result<bool, Fail> {
+    for exchange in exchanges {
+        let (at, most) = *exchange;
+        if exchanged(alloc, lane, offers, at)? > most {
+            return Ok(false);
+        }
+    }
+    Ok(steps(alloc, lane, offers)? == 0)
+}
+
+// The same of a lane of five rows, with a mark after each so many.
+fn exchanges_take(
+    alloc: Global,
+    offers: &Arc<AtomicU64, Global>,
+    k: u32,
+    exchanges: &[(u32, u64)],
+) -> Result<bool, Fail>
+    requires some { 0 < k }
+    requires few { k ≤ 65536 }
+{
+    let mut lane = five_rows(alloc, offers, k)?;
+    exchange_within(alloc, &mut lane, offers, exchanges)
+}
+
 #[test]
 fn an_exchanged_row_is_metered_from_the_mark_before(rt: HostRuntime) -> Result<(), Fail> {
     let alloc = rt.alloc();
     let offers = Arc::new(alloc, AtomicU64::new(0))?;
-    let mut lane = five_rows(alloc, &offers, 2)?;
-    assert!(rt; exchanged(alloc, &mut lane, &offers, 3)? <= 4);
-    assert!(rt; exchanged(alloc, &mut lane, &offers, 0)? <= 7);
-    assert!(rt; steps(alloc, &mut lane, &offers)? == 0);
-    let mut lane = five_rows(alloc, &offers, 1)?;
-    assert!(rt; exchanged(alloc, &mut lane, &offers, 3)? <= 3);
+    assert!(rt; exchanges_take(alloc, &offers, 2, &[(3, 4), (0, 7)])?);
+    assert!(rt; exchanges_take(alloc, &offers, 1, &[(3, 3)])?);
     Ok(())
+}
+
+// Puts one row more, and answers the steps.
+fn with_sixth(
+    alloc: Global,
+    lane: &mut Lane<Counting>,
+    offers: &Arc<AtomicU64, Global>,
+) -> Result<u64, Fail> {
+    put(lane, row(5, 0)?)?;
+    steps(alloc, lane, offers)
 }
 
 #[test]
@@ -130,10 +178,35 @@ fn a_row_at_the_end_is_metered_from_the_mark_before(rt: HostRuntime) -> Result<(
     let alloc = rt.alloc();
     let offers = Arc::new(alloc, AtomicU64::new(0))?;
     let mut lane = five_rows(alloc, &offers, 2)?;
-    put(&mut lane, row(5, 0)?)?;
-    assert!(rt; steps(alloc, &mut lane, &offers)? <= 3);
+    assert!(rt; with_sixth(alloc, &mut lane, &offers)? <= 3);
     assert!(rt; lane.len() == 6);
     Ok(())
+}
+
+// Puts a row and withdraws it, withdraws another and puts it again, and answers the steps.
+fn come_and_go(
+    alloc: Global,
+    lane: &mut Lane<Counting>,
+    offers: &Arc<AtomicU64, Global>,
+) -> Result<u64, Fail> {
+    let (one, other) = (row(4, 1)?, row(4, 0)?);
+    put(lane, one)?;
+    withdraw(lane, &one);
+    withdraw(lane, &other);
+    put(lane, other)?;
+    steps(alloc, lane, offers)
+}
+
+// Whether that takes few steps and changes no tally.
+fn keeps_its_tally(
+    alloc: Global,
+    lane: &mut Lane<Counting>,
+    offers: &Arc<AtomicU64, Global>,
+) -> Result<bool, Fail> {
+    let before = fresh_tally(alloc, single_rate()?, lane.rows())?;
+    let few = come_and_go(alloc, lane, offers)? <= 3;
+    let after = fresh_tally(alloc, single_rate()?, lane.rows())?;
+    Ok(few && are_alike(&before, &after))
 }
 
 #[test]
@@ -141,13 +214,6 @@ fn a_row_that_came_and_went_changes_no_tally(rt: HostRuntime) -> Result<(), Fail
     let alloc = rt.alloc();
     let offers = Arc::new(alloc, AtomicU64::new(0))?;
     let mut lane = five_rows(alloc, &offers, 2)?;
-    let before = fresh_tally(alloc, single_rate()?, lane.rows())?;
-    put(&mut lane, row(4, 1)?)?;
-    withdraw(&mut lane, &row(4, 1)?);
-    withdraw(&mut lane, &row(4, 0)?);
-    put(&mut lane, row(4, 0)?)?;
-    assert!(rt; steps(alloc, &mut lane, &offers)? <= 3);
-    let after = fresh_tally(alloc, single_rate()?, lane.rows())?;
-    assert!(rt; are_alike(&before, &after));
+    assert!(rt; keeps_its_tally(alloc, &mut lane, &offers)?);
     Ok(())
 }

@@ -80,24 +80,35 @@ fn resumes(
     Ok(few && are_alike(&tally, &fresh))
 }
 
-// A list of 24 changes and some resumes between them.
+// Whether a lane agrees throughout a list of 24 changes and some resumes between them.
+fn changed_agrees(
+    alloc: Global,
+    lane: &mut Lane<SrTcm>,
+    meter: SrTcm,
+    k: u32,
+    numbers: &mut Numbers,
+) -> Result<bool, AllocError> {
+    let mut least = None;
+    let mut alike = true;
+    for _ in 0..24 {
+        if let Some(report) = one_of(numbers.below(24)) {
+            least = Some(change(lane, report, least)?);
+        }
+        if numbers.below(4) == 0 {
+            alike = resumes(alloc, lane, meter, k, least)? && alike;
+            least = None;
+        }
+    }
+    Ok(resumes(alloc, lane, meter, k, least)? && alike)
+}
+
+// The same of a lane that has no rows at first.
 fn agrees(alloc: Global, meter: SrTcm, k: u32, numbers: &mut Numbers) -> Result<bool, AllocError>
     requires some { 0 < k }
     requires few { k ≤ 65536 }
 {
     let mut lane = Lane::new(alloc, meter, Colour::Green, HOUR, k);
-    let mut least = None;
-    let mut alike = true;
-    for _ in 0..24 {
-        if let Some(report) = one_of(numbers.below(24)) {
-            least = Some(change(&mut lane, report, least)?);
-        }
-        if numbers.below(4) == 0 {
-            alike = resumes(alloc, &mut lane, meter, k, least)? && alike;
-            least = None;
-        }
-    }
-    Ok(resumes(alloc, &mut lane, meter, k, least)? && alike)
+    changed_agrees(alloc, &mut lane, meter, k, numbers)
 }
 
 #[test]
