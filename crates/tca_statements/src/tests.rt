@@ -58,13 +58,23 @@ fn billed(alloc: Global, plan: &Plan, rows: &[Row]) -> Result<Bill, Fail> {
     Ok(bill_all(alloc, plan, &log)?)
 }
 
-fn text(alloc: Global, plan: &Plan, bill: &Bill) -> Result<Vec<u8>, Fail> {
+fn statement(alloc: Global, plan: &Plan, bill: &Bill) -> Result<Statement, Fail> {
     if bill.accounts.as_slice().len() != plan.accounts() as usize {
         return Err(Fail::from("a tally of each account"));
     }
-    let statement = Statement::of(alloc, plan, bill)?;
+    Ok(Statement::of(alloc, plan, bill)?)
+}
+
+// The statement of these reports.
+fn stated(alloc: Global, rows: &[Row]) -> Result<Statement, Fail> {
+    let plan = Plan::from_text(alloc, PLAN)?;
+    let bill = billed(alloc, &plan, rows)?;
+    statement(alloc, &plan, &bill)
+}
+
+fn text(alloc: Global, statement: &Statement) -> Result<Vec<u8>, Fail> {
     let mut out = Host::new(Vec::new(alloc));
-    if render(&statement, &mut out).is_err() {
+    if render(statement, &mut out).is_err() {
         return Err(Fail::from("a list takes all octets"));
     }
     Ok(out.into_inner())
@@ -73,24 +83,23 @@ fn text(alloc: Global, plan: &Plan, bill: &Bill) -> Result<Vec<u8>, Fail> {
 #[test]
 fn writes_the_text_of_a_bill(rt: HostRuntime) -> Result<(), Fail> {
     let alloc = rt.alloc();
-    let plan = Plan::from_text(alloc, PLAN)?;
-    let bill = billed(alloc, &plan, &FIRST)?;
-    let octets = text(alloc, &plan, &bill)?;
+    let three = stated(alloc, &FIRST)?;
+    let octets = text(alloc, &three)?;
     assert!(rt; octets.len() == 144);
     assert!(rt; octets.as_slice() == THREE.as_bytes());
-    let bill = billed(alloc, &plan, &[])?;
-    assert!(rt; text(alloc, &plan, &bill)?.as_slice() == NONE.as_bytes());
+    let none = stated(alloc, &[])?;
+    assert!(rt; text(alloc, &none)?.as_slice() == NONE.as_bytes());
     Ok(())
 }
 
+const HEAD: &str = "tcacct statement 1\nperiod 3600000\n";
+
 // Whether the statement of these reports has these lines behind the period.
 fn states(alloc: Global, rows: &[Row], lines: &str) -> Result<bool, Fail> {
-    let plan = Plan::from_text(alloc, PLAN)?;
-    let bill = billed(alloc, &plan, rows)?;
-    let octets = text(alloc, &plan, &bill)?;
-    let mut wanted = String::from_str(alloc, "tcacct statement 1\nperiod 3600000\n")?;
-    wanted.push_str(lines)?;
-    Ok(octets.as_slice() == wanted.as_bytes())
+    let statement = stated(alloc, rows)?;
+    let octets = text(alloc, &statement)?;
+    let (head, behind) = (octets.get(..HEAD.len()), octets.get(HEAD.len()..));
+    Ok(head == Some(HEAD.as_bytes()) && behind == Some(lines.as_bytes()))
 }
 
 #[test]
@@ -131,17 +140,37 @@ fn states_late_and_disputed_reports(rt: HostRuntime) -> Result<(), Fail> {
     Ok(())
 }
 
-// Adds reports one after another, each of them twice, and once more by the union with a log that has it alone.
+// A log that has one report alone.
+fn alone(alloc: Global, report: Report) -> Result<Log, Fail> {
+    let mut log = Log::new(alloc);
+    log.add(report)?;
+    Ok(log)
+}
+
+// Adds a report twice, and once more by the union with a log that has it alone.
+fn collect(alloc: Global, log: &mut Log, row: &Row) -> Result<(), Fail> {
+    let report = report(row)?;
+    log.add(report)?;
+    log.add(report)?;
+    log.union(&alone(alloc, report)?)?;
+    Ok(())
+}
+
+// The log that gets reports so, one after another.
 fn collected(alloc: Global, rows: &[Row]) -> Result<Log, Fail> {
     let mut log = Log::new(alloc);
     for row in rows {
-        let mut one = Log::new(alloc);
-        one.add(report(row)?)?;
-        log.add(report(row)?)?;
-        log.add(report(row)?)?;
-        log.union(&one)?;
+        collect(alloc, &mut log, row)?;
     }
     Ok(log)
+}
+
+// Whether the statement of the log that gets reports so is that of the three.
+fn is_three(alloc: Global, plan: &Plan, rows: &[Row]) -> Result<bool, Fail> {
+    let log = collected(alloc, rows)?;
+    let bill = bill_all(alloc, plan, &log)?;
+    let statement = statement(alloc, plan, &bill)?;
+    Ok(text(alloc, &statement)?.as_slice() == THREE.as_bytes())
 }
 
 #[test]
@@ -157,8 +186,7 @@ fn states_one_set_alike_in_each_order(rt: HostRuntime) -> Result<(), Fail> {
         [third, first, second],
         [third, second, first],
     ] {
-        let bill = bill_all(alloc, &plan, &collected(alloc, &order)?)?;
-        assert!(rt; text(alloc, &plan, &bill)?.as_slice() == THREE.as_bytes());
+        assert!(rt; is_three(alloc, &plan, &order)?);
     }
     Ok(())
 }
@@ -204,24 +232,26 @@ impl io::Write for Narrow {
     }
 }
 
+// Whether a writer with this room takes so many octets, and is told so.
+fn goes_out(alloc: Global, statement: &Statement, room: usize) -> bool {
+    let mut out = Host::new(Narrow {
+        taken: Vec::new(alloc),
+        room,
+    });
+    let told = match render(statement, &mut out) {
+        Ok(()) => false,
+        Err(fault) => fault.written == room as u64,
+    };
+    let taken = out.into_inner().taken;
+    told && Some(taken.as_slice()) == THREE.as_bytes().get(..room)
+}
+
 #[test]
 fn says_how_much_of_a_statement_went_out(rt: HostRuntime) -> Result<(), Fail> {
     let alloc = rt.alloc();
-    let plan = Plan::from_text(alloc, PLAN)?;
-    let bill = billed(alloc, &plan, &FIRST)?;
-    assert!(rt; bill.accounts.as_slice().len() == plan.accounts() as usize);
-    let statement = Statement::of(alloc, &plan, &bill)?;
+    let statement = stated(alloc, &FIRST)?;
     for room in [14, 143, 0] {
-        let mut out = Host::new(Narrow {
-            taken: Vec::new(alloc),
-            room,
-        });
-        let written = render(&statement, &mut out)
-            .err()
-            .map(|fault| fault.written);
-        assert!(rt; written == Some(room as u64));
-        let taken = out.into_inner().taken;
-        assert!(rt; Some(taken.as_slice()) == THREE.as_bytes().get(..room));
+        assert!(rt; goes_out(alloc, &statement, room));
     }
     Ok(())
 }
