@@ -48,12 +48,22 @@ fn joined(alloc: Global, parts: &[&str]) -> Result<String, AllocError> {
 // Appends a report to the octets of an export.
 fn push_row(row: &Row, into: &mut Vec<u8>) -> Result<(), AllocError> {
     let (place, late, octets, dscp, iface) = *row;
-    into.extend_from_slice(&START.wrapping_add(late).to_be_bytes())?;
-    into.extend_from_slice(&7u32.to_be_bytes())?;
-    into.extend_from_slice(&place.to_be_bytes())?;
-    into.extend_from_slice(&octets.to_be_bytes())?;
-    into.extend_from_slice(&[dscp])?;
-    into.extend_from_slice(&iface.to_be_bytes())
+    let time = START.wrapping_add(late).to_be_bytes();
+    let place = place.to_be_bytes();
+    let octets = octets.to_be_bytes();
+    let iface = iface.to_be_bytes();
+    let parts = [
+        time.as_slice(),
+        &[0, 0, 0, 7],
+        place.as_slice(),
+        octets.as_slice(),
+        &[dscp],
+        iface.as_slice(),
+    ];
+    for part in parts {
+        into.extend_from_slice(part)?;
+    }
+    Ok(())
 }
 
 // The export of these rows, which are in the order of reports.
@@ -66,16 +76,20 @@ fn exported(alloc: Global, rows: &[Row]) -> Result<Vec<u8>, AllocError> {
     Ok(octets)
 }
 
-// What the audit of a statement with these lines finds, under a plan of one account with this meter.
+// What the audit of a statement finds.
+fn audited(alloc: Global, plan: &[u8], rows: &[Row], statement: &[u8]) -> Result<Verdict, Fail> {
+    let export = exported(alloc, rows)?;
+    Ok(audit(alloc, plan, &export, statement)?)
+}
+
+// What that of a statement with these lines finds, under a plan of one account with this meter.
 fn found(alloc: Global, meter: &str, rows: &[Row], lines: &str) -> Result<Verdict, Fail> {
     let plan = joined(alloc, &[HEAD, meter])?;
     let statement = joined(
         alloc,
         &["tcacct statement 1\nperiod 3600000\n", lines, "end\n"],
     )?;
-    let export = exported(alloc, rows)?;
-    let verdict = audit(alloc, plan.as_bytes(), &export, statement.as_bytes())?;
-    Ok(verdict)
+    audited(alloc, plan.as_bytes(), rows, statement.as_bytes())
 }
 
 #[test]
@@ -212,19 +226,23 @@ impl Numbers {
     }
 }
 
+fn report(row: &Row) -> Result<Report, Fail> {
+    let (place, late, octets, dscp, iface) = *row;
+    let identity = Identity { domain: 7, place };
+    let content = Content {
+        time: START.wrapping_add(late),
+        octets,
+        dscp,
+        iface,
+    };
+    Ok(Report::new(identity, content).ok_or("a report within its ranges")?)
+}
+
 // A log of some reports.
 fn logged(alloc: Global, numbers: &mut Numbers) -> Result<Log, Fail> {
     let mut log = Log::new(alloc);
     for _ in 0..numbers.below(14) {
-        let (place, late, octets, dscp, iface) = numbers.row();
-        let identity = Identity { domain: 7, place };
-        let content = Content {
-            time: START.wrapping_add(late),
-            octets,
-            dscp,
-            iface,
-        };
-        let report = Report::new(identity, content).ok_or("a report within its ranges")?;
+        let report = report(&numbers.row())?;
         log.add(report)?;
     }
     Ok(log)
@@ -242,6 +260,20 @@ fn rows(alloc: Global, log: &Log) -> Result<Vec<Row>, AllocError> {
     Ok(list)
 }
 
+// The export of a log.
+fn exported_log(alloc: Global, log: &Log) -> Result<Vec<u8>, AllocError> {
+    let list = rows(alloc, log)?;
+    exported(alloc, &list)
+}
+
+fn text(alloc: Global, statement: &Statement) -> Result<Vec<u8>, Fail> {
+    let mut out = Host::new(Vec::new(alloc));
+    if render(statement, &mut out).is_err() {
+        return Err(Fail::from("a list takes all octets"));
+    }
+    Ok(out.into_inner())
+}
+
 // The statement of a log.
 fn stated(alloc: Global, plan: &Plan, log: &Log) -> Result<Vec<u8>, Fail> {
     let bill = bill_all(alloc, plan, log)?;
@@ -249,11 +281,32 @@ fn stated(alloc: Global, plan: &Plan, log: &Log) -> Result<Vec<u8>, Fail> {
         return Err(Fail::from("a tally of each account"));
     }
     let statement = Statement::of(alloc, plan, &bill)?;
-    let mut out = Host::new(Vec::new(alloc));
-    if render(&statement, &mut out).is_err() {
-        return Err(Fail::from("a list takes all octets"));
+    text(alloc, &statement)
+}
+
+// Whether the audit of a statement agrees, and tells the place of one octet that is then changed in it.
+fn tells_a_change(
+    alloc: Global,
+    plan: &Plan,
+    export: &[u8],
+    statement: &mut Vec<u8>,
+    at: usize,
+) -> Result<bool, Fail> {
+    let right = audit_under(alloc, plan, export, statement)?;
+    if let Some(octet) = statement.get_mut(at) {
+        *octet ^= 1;
     }
-    Ok(out.into_inner())
+    let changed = audit_under(alloc, plan, export, statement)?;
+    Ok(right == Verdict::Agrees && changed == Verdict::Differs { at: at as u64 })
+}
+
+// The same of the statement of the bill of some reports.
+fn agrees(alloc: Global, plan: &Plan, numbers: &mut Numbers) -> Result<bool, Fail> {
+    let log = logged(alloc, numbers)?;
+    let export = exported_log(alloc, &log)?;
+    let mut statement = stated(alloc, plan, &log)?;
+    let at = numbers.below(statement.len().min(4_194_304) as u32) as usize;
+    tells_a_change(alloc, plan, &export, &mut statement, at)
 }
 
 #[test]
@@ -262,18 +315,7 @@ fn agrees_with_the_bill(rt: HostRuntime) -> Result<(), Fail> {
     let plan = Plan::from_text(alloc, SEVERAL.as_bytes())?;
     let mut numbers = Numbers { state: 1 };
     for _ in 0..2_000 {
-        let log = logged(alloc, &mut numbers)?;
-        let list = rows(alloc, &log)?;
-        let export = exported(alloc, &list)?;
-        let mut statement = stated(alloc, &plan, &log)?;
-        let verdict = audit_under(alloc, &plan, &export, &statement)?;
-        assert!(rt; verdict == Verdict::Agrees);
-        let at = numbers.below(statement.len().min(4_194_304) as u32) as usize;
-        if let Some(octet) = statement.get_mut(at) {
-            *octet ^= 1;
-        }
-        let verdict = audit_under(alloc, &plan, &export, &statement)?;
-        assert!(rt; verdict == Verdict::Differs { at: at as u64 });
+        assert!(rt; agrees(alloc, &plan, &mut numbers)?);
     }
     Ok(())
 }
