@@ -10,7 +10,7 @@ mod memory;
 mod rows;
 mod threads;
 
-use crate::{Entry, Pass, Shared, Side};
+use crate::{Closed, Entry, Pass, Shared, Side};
 use std::alloc::{AllocError, Global};
 use std::sync::Wait;
 use std::test::Fail;
@@ -38,7 +38,7 @@ fn report(row: (u32, u32, u32)) -> Option<Report> {
     Report::new(
         Identity { domain: 7, place },
         Content {
-            time: START + late as u64,
+            time: START.wrapping_add(late as u64),
             octets,
             dscp: 0,
             iface: 1,
@@ -110,4 +110,22 @@ fn alone<L: Side>(alloc: Global, pass: Pass<L>) -> Result<Vec<Pass<L>>, AllocErr
     let mut passes = Vec::new(alloc);
     passes.push(pass)?;
     Ok(passes)
+}
+
+// Passes, with one more.
+fn with_one_more<L: Side>(passes: Vec<Pass<L>>, pass: Pass<L>) -> Result<Vec<Pass<L>>, AllocError> {
+    let mut all = passes;
+    all.push(pass)?;
+    Ok(all)
+}
+
+// What comes of a close that isn't refused.
+fn closed_with<L: Side>(shared: Shared<L>, passes: Vec<Pass<L>>) -> Result<Closed, Fail> {
+    Ok(shared.close(passes).ok().ok_or("a close")?)
+}
+
+// The lengths of the journal and of the log, where a close isn't refused.
+fn lengths<L: Side>(shared: Shared<L>, passes: Vec<Pass<L>>) -> Option<(usize, u32)> {
+    let closed = shared.close(passes).ok()?;
+    Some((closed.journal.len(), closed.replica.log().len()))
 }

@@ -1,7 +1,7 @@
 //! Two shared replicas that tell each other what they hold, and closed ones that don't agree.
 ghost use Rattle.std.specs.Prelude.{◌≡◌};
 
-use super::{FIRST, PARTS, SECOND, THIRD, alone, plan, reports, states_three, take};
+use super::{FIRST, PARTS, SECOND, THIRD, alone, closed_with, plan, reports, states_three, take};
 use crate::{CloseFault, Closed, Entry, Pass, Shared, Side, close_all, exchange};
 use std::alloc::{AllocError, Global};
 use std::marker::Brand;
@@ -59,15 +59,38 @@ fn tell_each_other<I: Side, F: Side, R: Wait>(
 
 // Closes with one pass.
 fn closed<L: Side>(alloc: Global, shared: Shared<L>, pass: Pass<L>) -> Result<Closed, Fail> {
-    Ok(shared.close(alone(alloc, pass)?).ok().ok_or("a close")?)
+    closed_with(shared, alone(alloc, pass)?)
 }
 
 // Two closed replicas, as one list.
-fn both(alloc: Global, one: Closed, two: Closed) -> Result<Vec<Closed>, AllocError> {
+pub(super) fn both(alloc: Global, one: Closed, two: Closed) -> Result<Vec<Closed>, AllocError> {
     let mut both = Vec::new(alloc);
     both.push(one)?;
     both.push(two)?;
     Ok(both)
+}
+
+// Whether two closed replicas have three reports each, and agree.
+pub(super) fn are_of_three(both: &[Closed]) -> bool {
+    let are_whole = match both {
+        [one, two] => one.replica.log().len() == 3 && two.replica.log().len() == 3,
+        _ => false,
+    };
+    are_whole && close_all(both).is_ok()
+}
+
+// A pass of each replica, by which they told each other.
+fn told<I: Side, F: Side, R: Wait>(
+    rt: &R,
+    alloc: Global,
+    into: &Shared<I>,
+    from: &Shared<F>,
+) -> Result<(Pass<I>, Pass<F>), Fail> {
+    let (mut mine, mut theirs) = (into.pass(rt)?, from.pass(rt)?);
+    if !tell_each_other(rt, alloc, (into, &mut mine), (from, &mut theirs))? {
+        return Err("an exchange".into());
+    }
+    Ok((mine, theirs))
 }
 
 // Whether two replicas that tell each other close, with three reports each, and agree.
@@ -77,12 +100,10 @@ fn agree<I: Side, F: Side, R: Wait>(
     into: Shared<I>,
     from: Shared<F>,
 ) -> Result<bool, Fail> {
-    let (mut mine, mut theirs) = (into.pass(rt)?, from.pass(rt)?);
-    let agreed = tell_each_other(rt, alloc, (&into, &mut mine), (&from, &mut theirs))?;
-    let (one, two) = (closed(alloc, into, mine)?, closed(alloc, from, theirs)?);
-    let whole = one.replica.log().len() == 3 && two.replica.log().len() == 3;
-    let both = both(alloc, one, two)?;
-    Ok(agreed && whole && close_all(&both).is_ok())
+    let (mine, theirs) = told(rt, alloc, &into, &from)?;
+    let one = closed(alloc, into, mine)?;
+    let two = closed(alloc, from, theirs)?;
+    Ok(are_of_three(&both(alloc, one, two)?))
 }
 
 fn agreed<I: Side, F: Side, R: Wait>(
@@ -137,23 +158,54 @@ fn refuses<L: Side, R: Wait>(
     Ok(answer(&receipt.entry) == Some(Err(fault)))
 }
 
-// A run past what is held is a gap, and one of the own name that ends past the own chain is ahead of it.
-fn stays<L: Side, R: Wait>(rt: &R, alloc: Global, shared: Shared<L>) -> Result<bool, Fail> {
-    let mut pass = shared.pass(rt)?;
-    let taken = take(rt, alloc, &shared, &mut pass, &[FIRST, SECOND])?;
+// Whether a run past what is held is a gap.
+pub(super) fn is_gap<L: Side, R: Wait>(
+    rt: &R,
+    alloc: Global,
+    shared: &Shared<L>,
+    pass: &mut Pass<L>,
+) -> Result<bool, Fail> {
     let past = one_run(alloc, 2, 2, &[])?;
     let gap = AbsorbFault::Gap {
         origin: 2,
         have: 0,
         from: 2,
     };
-    let far = refuses(rt, &shared, &mut pass, &past, gap)?;
+    refuses(rt, shared, pass, &past, gap)
+}
+
+// Whether a run of the own name that ends past the own chain is ahead of it.
+fn is_ahead<L: Side, R: Wait>(
+    rt: &R,
+    alloc: Global,
+    shared: &Shared<L>,
+    pass: &mut Pass<L>,
+) -> Result<bool, Fail> {
     let longer = one_run(alloc, 1, 0, &[FIRST, SECOND, THIRD])?;
     let own = AbsorbFault::OwnAhead { have: 2, said: 3 };
-    let ahead = refuses(rt, &shared, &mut pass, &longer, own)?;
+    refuses(rt, shared, pass, &longer, own)
+}
+
+// Whether both are refused after a take.
+fn refuses_both<L: Side, R: Wait>(
+    rt: &R,
+    alloc: Global,
+    shared: &Shared<L>,
+    pass: &mut Pass<L>,
+) -> Result<bool, Fail> {
+    let taken = take(rt, alloc, shared, pass, &[FIRST, SECOND])?;
+    let far = is_gap(rt, alloc, shared, pass)?;
+    let ahead = is_ahead(rt, alloc, shared, pass)?;
+    Ok(taken == Some(1) && far && ahead)
+}
+
+// Whether what is refused leaves the take alone.
+fn stays<L: Side, R: Wait>(rt: &R, alloc: Global, shared: Shared<L>) -> Result<bool, Fail> {
+    let mut pass = shared.pass(rt)?;
+    let refused = refuses_both(rt, alloc, &shared, &mut pass)?;
     let closed = closed(alloc, shared, pass)?;
     let same = closed.replica.log().len() == 2 && closed.replica.chain(1).len() == 2;
-    Ok(taken == Some(1) && far && ahead && same && closed.journal.len() == 3)
+    Ok(refused && same && closed.journal.len() == 3)
 }
 
 fn stays_as_it_was<L: Side, R: Wait>(

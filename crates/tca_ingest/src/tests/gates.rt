@@ -3,11 +3,10 @@
 ghost use Rattle.std.specs.Prelude.{◌≡◌, ◌≤◌, IfOk, length};
 
 use super::jobs::exports;
-use super::{FIRST, PARTS, SECOND, THIRD, plan};
+use super::{FIRST, PARTS, SECOND, THIRD, lengths, plan};
 use crate::{Gate, Shared, Side, work};
 use std::alloc::Global;
 use std::marker::Brand;
-use std::process::Abort;
 use std::sync::Wait;
 use std::sync::atomic::{AtomicU64, Ordering};
 use std::sync::ledger::Blank;
@@ -56,19 +55,30 @@ impl<'a, R: Clock + Sync> Gate for Meeting<'a, R> {
     fn after(&self, _job: u32) {}
 }
 
-fn meets<L: Side + Send + Sync, R: Threads + Wait + Clock + Abort + Sync>(
+// The counts of results, entries and reports after workers took inputs, where the replica closes.
+fn taken<L: Side + Send + Sync, R: Threads + Wait + Sync, G: Gate>(
     rt: &R,
     alloc: Global,
-    blank: Blank,
-    name: u32,
-    plan: Plan,
-) -> Result<(), Fail>
-    requires name { blank.name ≡ L.name }
-    requires parts { (blank.parts ≡ L.parts) × (L.parts ≡ 65537) }
-    requires called { name ≡ L.called }
-    requires plan { plan ≡ L.plan }
+    shared: Shared<L>,
+    inputs: &[Vec<u8>],
+    gate: &G,
+    workers: u32,
+) -> Option<(usize, usize, u32)>
+    requires workers { (1 ≤ workers) × (workers ≤ 64) }
+    requires inputs { length inputs.now ≤ 192 }
 {
-    let shared = Shared::<L>::new(alloc, blank, name, plan)?;
+    let worked = work(rt, alloc, &shared, inputs, gate, workers).ok()?;
+    let done = worked.done.len();
+    let (entries, held) = lengths(shared, worked.passes)?;
+    Some((done, entries, held))
+}
+
+// Whether the first two of three jobs meet.
+fn meet<L: Side + Send + Sync, R: Threads + Wait + Clock + Sync>(
+    rt: &R,
+    alloc: Global,
+    shared: Shared<L>,
+) -> Result<bool, Fail> {
     let inputs = exports(alloc, &[FIRST, SECOND, THIRD])?;
     let gate = Meeting {
         rt,
@@ -76,21 +86,31 @@ fn meets<L: Side + Send + Sync, R: Threads + Wait + Clock + Abort + Sync>(
         second: AtomicU64::new(0),
         met: AtomicU64::new(0),
     };
-    let Ok(worked) = work(rt, alloc, &shared, &inputs, &gate, 2) else {
-        return Err("workers".into());
-    };
-    assert!(rt; gate.met.load(Ordering::SeqCst) == 2);
-    let Ok(closed) = shared.close(worked.passes) else {
-        return Err("a close".into());
-    };
-    assert!(rt; (closed.journal.len(), closed.replica.log().len()) == (3, 3));
-    Ok(())
+    let counts = taken(rt, alloc, shared, &inputs, &gate, 2);
+    Ok(gate.met.load(Ordering::SeqCst) == 2 && counts == Some((3, 3, 3)))
+}
+
+fn meets<L: Side + Send + Sync, R: Threads + Wait + Clock + Sync>(
+    rt: &R,
+    alloc: Global,
+    blank: Blank,
+    name: u32,
+    plan: Plan,
+) -> Result<bool, Fail>
+    requires name { blank.name ≡ L.name }
+    requires parts { (blank.parts ≡ L.parts) × (L.parts ≡ 65537) }
+    requires called { name ≡ L.called }
+    requires plan { plan ≡ L.plan }
+{
+    let shared = Shared::<L>::new(alloc, blank, name, plan)?;
+    meet(rt, alloc, shared)
 }
 
 #[test]
 fn two_jobs_meet(rt: HostRuntime) -> Result<(), Fail> {
     let plan = plan(rt.alloc())?;
-    meets::<Brand, _>(&rt, rt.alloc(), Blank::new(PARTS), 1, plan)
+    assert!(rt; meets::<Brand, _>(&rt, rt.alloc(), Blank::new(PARTS), 1, plan)?);
+    Ok(())
 }
 
 // Each job waits for as many as there are workers.
@@ -138,21 +158,28 @@ fn empty_inputs(alloc: Global) -> Result<Vec<Vec<u8>>, Fail>
     Ok(all)
 }
 
-fn goes_by_rounds<L: Side + Send + Sync, R: Threads + Wait + Clock + Abort + Sync>(
+// Whether 192 jobs came, took and ended, and no wait met the limit.
+fn is_through<R: Clock>(gate: &Rounds<'_, R>) -> bool {
+    let met = (
+        gate.came.load(Ordering::SeqCst),
+        gate.late.load(Ordering::SeqCst),
+    );
+    let through = (
+        gate.took.load(Ordering::SeqCst),
+        gate.ended.load(Ordering::SeqCst),
+    );
+    met == (192, 0) && through == (192, 192)
+}
+
+// Whether this many workers take 192 inputs by rounds.
+fn go_by_rounds<L: Side + Send + Sync, R: Threads + Wait + Clock + Sync>(
     rt: &R,
     alloc: Global,
-    blank: Blank,
-    name: u32,
-    plan: Plan,
+    shared: Shared<L>,
     workers: u32,
-) -> Result<(), Fail>
-    requires name { blank.name ≡ L.name }
-    requires parts { (blank.parts ≡ L.parts) × (L.parts ≡ 65537) }
-    requires called { name ≡ L.called }
-    requires plan { plan ≡ L.plan }
+) -> Result<bool, Fail>
     requires workers { (1 ≤ workers) × (workers ≤ 64) }
 {
-    let shared = Shared::<L>::new(alloc, blank, name, plan)?;
     let inputs = empty_inputs(alloc)?;
     let gate = Rounds {
         rt,
@@ -162,24 +189,26 @@ fn goes_by_rounds<L: Side + Send + Sync, R: Threads + Wait + Clock + Abort + Syn
         took: AtomicU64::new(0),
         ended: AtomicU64::new(0),
     };
-    let Ok(worked) = work(rt, alloc, &shared, &inputs, &gate, workers) else {
-        return Err("workers".into());
-    };
-    let met = (
-        gate.came.load(Ordering::SeqCst),
-        gate.late.load(Ordering::SeqCst),
-    );
-    assert!(rt; (met, worked.done.len()) == ((192, 0), 192));
-    let through = (
-        gate.took.load(Ordering::SeqCst),
-        gate.ended.load(Ordering::SeqCst),
-    );
-    assert!(rt; through == (192, 192));
-    let Ok(closed) = shared.close(worked.passes) else {
-        return Err("a close".into());
-    };
-    assert!(rt; closed.journal.len() == 192);
-    Ok(())
+    let counts = taken(rt, alloc, shared, &inputs, &gate, workers);
+    Ok(is_through(&gate) && counts == Some((192, 192, 0)))
+}
+
+fn goes_by_rounds<L: Side + Send + Sync, R: Threads + Wait + Clock + Sync>(
+    rt: &R,
+    alloc: Global,
+    blank: Blank,
+    name: u32,
+    plan: Plan,
+    workers: u32,
+) -> Result<bool, Fail>
+    requires name { blank.name ≡ L.name }
+    requires parts { (blank.parts ≡ L.parts) × (L.parts ≡ 65537) }
+    requires called { name ≡ L.called }
+    requires plan { plan ≡ L.plan }
+    requires workers { (1 ≤ workers) × (workers ≤ 64) }
+{
+    let shared = Shared::<L>::new(alloc, blank, name, plan)?;
+    go_by_rounds(rt, alloc, shared, workers)
 }
 
 #[test]
@@ -187,7 +216,7 @@ fn all_workers_work_at_once(rt: HostRuntime) -> Result<(), Fail> {
     let alloc = rt.alloc();
     for workers in [2, 3, 64] {
         let plan = plan(alloc)?;
-        goes_by_rounds::<Brand, _>(&rt, alloc, Blank::new(PARTS), 1, plan, workers)?;
+        assert!(rt; goes_by_rounds::<Brand, _>(&rt, alloc, Blank::new(PARTS), 1, plan, workers)?);
     }
     Ok(())
 }
@@ -246,20 +275,12 @@ fn answers<L: Side, R: Wait + Clock>(rt: &R, shared: &Shared<L>, gate: &Holding<
     true
 }
 
-fn holds_one<
+// Whether the other replica answers while the held one waits for it.
+fn answers_meanwhile<
     I: Side + Send + Sync,
     F: Side + Send + Sync,
-    R: Threads + Wait + Clock + Abort + Sync,
->(rt: &R, alloc: Global, one: (Blank, u32, Plan), two: (Blank, u32, Plan)) -> Result<(), Fail>
-    requires name { (one.0.name ≡ I.name) × (two.0.name ≡ F.name) }
-    requires parts { (one.0.parts ≡ I.parts) × (I.parts ≡ 65537) × (two.0.parts ≡ F.parts) × (F.parts ≡ 65537) }
-    requires called { (one.1 ≡ I.called) × (two.1 ≡ F.called) }
-    requires plan { (one.2 ≡ I.plan) × (two.2 ≡ F.plan) }
-{
-    let (blank, name, plan) = one;
-    let held = Shared::<I>::new(alloc, blank, name, plan)?;
-    let (blank, name, plan) = two;
-    let other = Shared::<F>::new(alloc, blank, name, plan)?;
+    R: Threads + Wait + Clock + Sync,
+>(rt: &R, alloc: Global, held: &Shared<I>, other: &Shared<F>) -> Result<bool, Fail> {
     let inputs = exports(alloc, &[FIRST, SECOND])?;
     let gate = Holding {
         rt,
@@ -267,19 +288,35 @@ fn holds_one<
         answered: AtomicU64::new(0),
         in_time: AtomicU64::new(0),
     };
-    let (first, second, list, gates) = (&held, &other, inputs.as_slice(), &gate);
+    let (list, gates) = (inputs.as_slice(), &gate);
     let done = thread::join(
         rt,
-        move || works(rt, alloc, first, list, gates),
-        move || answers(rt, second, gates),
+        move || works(rt, alloc, held, list, gates),
+        move || answers(rt, other, gates),
     );
-    assert!(rt; (done, gate.in_time.load(Ordering::SeqCst)) == ((true, true), 1));
-    Ok(())
+    Ok((done, gate.in_time.load(Ordering::SeqCst)) == ((true, true), 1))
+}
+
+fn holds_one<I: Side + Send + Sync, F: Side + Send + Sync, R: Threads + Wait + Clock + Sync>(
+    rt: &R,
+    alloc: Global,
+    one: (Blank, u32, Plan),
+    two: (Blank, u32, Plan),
+) -> Result<bool, Fail>
+    requires name { (one.0.name ≡ I.name) × (two.0.name ≡ F.name) }
+    requires parts { (one.0.parts ≡ I.parts) × (I.parts ≡ 65537) × (two.0.parts ≡ F.parts) × (F.parts ≡ 65537) }
+    requires called { (one.1 ≡ I.called) × (two.1 ≡ F.called) }
+    requires plan { (one.2 ≡ I.plan) × (two.2 ≡ F.plan) }
+{
+    let held = Shared::<I>::new(alloc, one.0, one.1, one.2)?;
+    let other = Shared::<F>::new(alloc, two.0, two.1, two.2)?;
+    answers_meanwhile(rt, alloc, &held, &other)
 }
 
 #[test]
 fn a_replica_that_is_held_holds_no_other(rt: HostRuntime) -> Result<(), Fail> {
     let one = (Blank::new(PARTS), 1, plan(rt.alloc())?);
     let two = (Blank::new(PARTS), 2, plan(rt.alloc())?);
-    holds_one::<Brand, Brand, _>(&rt, rt.alloc(), one, two)
+    assert!(rt; holds_one::<Brand, Brand, _>(&rt, rt.alloc(), one, two)?);
+    Ok(())
 }

@@ -1,10 +1,14 @@
 //! Workers: two replicas that tell each other what they hold, an input that is refused among good ones, and too few passes.
 ghost use Rattle.std.specs.Prelude.{◌≡◌, ◌≤◌, IfOk, length};
 
-use super::{FIRST, PARTS, SECOND, START, THIRD, is_of_three, plan};
+use super::exchanges::{are_of_three, both, is_gap};
+use super::limits::makes;
+use super::{
+    FIRST, PARTS, SECOND, START, THIRD, closed_with, is_of_three, lengths, plan, with_one_more,
+};
 use crate::{
-    Closed, Done, Entry, JobFault, NoGate, Pass, Receipt, ShareFault, Shared, Side, WorkFault,
-    close_all, exchange, work,
+    Done, Entry, JobFault, NoGate, Pass, Receipt, ShareFault, Shared, Side, WorkFault, exchange,
+    work,
 };
 use std::alloc::{AllocError, Global};
 use std::marker::Brand;
@@ -14,20 +18,24 @@ use std::sync::ledger::Blank;
 use std::test::Fail;
 use std::thread::Threads;
 use tca_accounts::Plan;
-use tca_gossip::{AbsorbFault, Delta, Run};
+use tca_gossip::AbsorbFault;
 use tca_report::{InputFault, Notes};
 
-// The log export of one report, spelled here by hand.
-pub(super) fn export(alloc: Global, row: (u32, u32, u32)) -> Result<Vec<u8>, AllocError> {
+// The octets of the log export of one report, spelled here by hand.
+fn octets_of(row: (u32, u32, u32)) -> [u8; 35] {
     let (place, late, octets) = row;
-    let mut export = Vec::from_slice(alloc, b"TCAX\x00\x01\x00\x00\x00\x01")?;
-    export.extend_from_slice(&START.wrapping_add(late as u64).to_be_bytes())?;
-    export.extend_from_slice(&7u32.to_be_bytes())?;
-    export.extend_from_slice(&place.to_be_bytes())?;
-    export.extend_from_slice(&octets.to_be_bytes())?;
-    export.push(0)?;
-    export.extend_from_slice(&1u32.to_be_bytes())?;
-    Ok(export)
+    let [a, b, c, d, e, f, g, h] = START.wrapping_add(late as u64).to_be_bytes();
+    let [i, j, k, l] = place.to_be_bytes();
+    let [m, n, o, p] = octets.to_be_bytes();
+    [
+        b'T', b'C', b'A', b'X', 0, 1, 0, 0, 0, 1, a, b, c, d, e, f, g, h, 0, 0, 0, 7, i, j, k, l,
+        m, n, o, p, 0, 0, 0, 0, 1,
+    ]
+}
+
+// The log export of one report.
+pub(super) fn export(alloc: Global, row: (u32, u32, u32)) -> Result<Vec<u8>, AllocError> {
+    Vec::from_slice(alloc, &octets_of(row))
 }
 
 // The exports of at most three reports, one each.
@@ -108,17 +116,6 @@ fn absorbed(receipt: Result<Receipt, ShareFault>) -> Result<Result<u64, AbsorbFa
     }
 }
 
-// A run of origin 2 that starts past all that is held.
-fn past(alloc: Global) -> Result<Delta, Fail> {
-    let mut runs = Vec::new(alloc);
-    runs.push(Run {
-        origin: 2,
-        start: 2,
-        reports: Vec::new(alloc),
-    })?;
-    Ok(Delta::of(runs).ok_or("a delta")?)
-}
-
 // Whether the statement is that of the first three rows.
 fn states_three<L: Side, R: Wait>(
     rt: &R,
@@ -131,43 +128,75 @@ fn states_three<L: Side, R: Wait>(
     }
 }
 
+// Whether an absorb appends so many reports.
+fn tells<I: Side, F: Side, R: Wait>(
+    rt: &R,
+    into: (&Shared<I>, &mut Pass<I>),
+    from: (&Shared<F>, &mut Pass<F>),
+    new: u64,
+) -> Result<bool, Fail> {
+    let told = absorbed(exchange(rt, into.0, into.1, from.0, from.1))?;
+    Ok(told == Ok(new))
+}
+
 // Each lacks one report of the other's.
-fn tell_each_other<I: Side, F: Side, R: Wait + Abort>(
+fn tell_each_other<I: Side, F: Side, R: Wait>(
     rt: &R,
     alloc: Global,
     one: (&Shared<I>, &mut Pass<I>),
     two: (&Shared<F>, &mut Pass<F>),
-) -> Result<(), Fail> {
-    let (into, mine) = one;
-    let (from, theirs) = two;
-    let gap = AbsorbFault::Gap {
-        origin: 2,
-        have: 0,
-        from: 2,
-    };
-    let refused = absorbed(into.absorb(rt, mine, &past(alloc)?))?;
-    assert!(rt; refused == Err(gap));
+) -> Result<bool, Fail> {
+    let ((into, mine), (from, theirs)) = (one, two);
+    let mut agreed = is_gap(rt, alloc, into, mine)?;
     for new in [2, 0] {
-        let there = absorbed(exchange(rt, into, mine, from, theirs))?;
-        let back = absorbed(exchange(rt, from, theirs, into, mine))?;
-        assert!(rt; (there, back) == (Ok(new), Ok(new)));
+        let there = tells(rt, (into, mine), (from, theirs), new)?;
+        let back = tells(rt, (from, theirs), (into, mine), new)?;
+        agreed = agreed && there && back;
     }
-    assert!(rt; states_three(rt, into, mine)? && states_three(rt, from, theirs)?);
-    Ok(())
+    let ended = states_three(rt, into, mine)?;
+    let other_ended = states_three(rt, from, theirs)?;
+    Ok(agreed && ended && other_ended)
 }
 
-// Closes with the workers' passes and one more.
-fn closed<L: Side>(
-    shared: Shared<L>,
-    passes: Vec<Pass<L>>,
-    one_more: Pass<L>,
-) -> Result<Closed, Fail> {
-    let mut all = passes;
-    all.push(one_more)?;
-    match shared.close(all) {
-        Ok(closed) => Ok(closed),
-        Err(_) => Err("a close".into()),
+// A pass of each replica, by which they told each other.
+fn told<I: Side, F: Side, R: Wait>(
+    rt: &R,
+    alloc: Global,
+    into: &Shared<I>,
+    from: &Shared<F>,
+) -> Result<(Pass<I>, Pass<F>), Fail> {
+    let (mut mine, mut theirs) = (into.pass(rt)?, from.pass(rt)?);
+    if !tell_each_other(rt, alloc, (into, &mut mine), (from, &mut theirs))? {
+        return Err("an exchange".into());
     }
+    Ok((mine, theirs))
+}
+
+// The workers' passes of each replica, and one more.
+fn worked<I: Side + Send + Sync, F: Side + Send + Sync, R: Threads + Wait + Abort + Sync>(
+    rt: &R,
+    alloc: Global,
+    into: &Shared<I>,
+    from: &Shared<F>,
+) -> Result<(Vec<Pass<I>>, Vec<Pass<F>>), Fail> {
+    let ours = by_two(rt, alloc, into, [FIRST, SECOND])?;
+    let others = by_two(rt, alloc, from, [SECOND, THIRD])?;
+    let (mine, theirs) = told(rt, alloc, into, from)?;
+    let all_ours = with_one_more(ours, mine)?;
+    Ok((all_ours, with_one_more(others, theirs)?))
+}
+
+// Whether two replicas close with three reports each, and agree.
+fn agree<I: Side + Send + Sync, F: Side + Send + Sync, R: Threads + Wait + Abort + Sync>(
+    rt: &R,
+    alloc: Global,
+    into: Shared<I>,
+    from: Shared<F>,
+) -> Result<bool, Fail> {
+    let (ours, others) = worked(rt, alloc, &into, &from)?;
+    let one = closed_with(into, ours)?;
+    let two = closed_with(from, others)?;
+    Ok(are_of_three(&both(alloc, one, two)?))
 }
 
 fn agreed<I: Side + Send + Sync, F: Side + Send + Sync, R: Threads + Wait + Abort + Sync>(
@@ -175,43 +204,73 @@ fn agreed<I: Side + Send + Sync, F: Side + Send + Sync, R: Threads + Wait + Abor
     alloc: Global,
     one: (Blank, u32, Plan),
     two: (Blank, u32, Plan),
-) -> Result<(), Fail>
+) -> Result<bool, Fail>
     requires name { (one.0.name ≡ I.name) × (two.0.name ≡ F.name) }
     requires parts { (one.0.parts ≡ I.parts) × (I.parts ≡ 65537) × (two.0.parts ≡ F.parts) × (F.parts ≡ 65537) }
     requires called { (one.1 ≡ I.called) × (two.1 ≡ F.called) }
     requires plan { (one.2 ≡ I.plan) × (two.2 ≡ F.plan) }
 {
-    let (blank, name, plan) = one;
-    let into = Shared::<I>::new(alloc, blank, name, plan)?;
-    let (blank, name, plan) = two;
-    let from = Shared::<F>::new(alloc, blank, name, plan)?;
-    let ours = by_two(rt, alloc, &into, [FIRST, SECOND])?;
-    let others = by_two(rt, alloc, &from, [SECOND, THIRD])?;
-    let (mut mine, mut theirs) = (into.pass(rt)?, from.pass(rt)?);
-    tell_each_other(rt, alloc, (&into, &mut mine), (&from, &mut theirs))?;
-    let mut both = Vec::new(alloc);
-    both.push(closed(into, ours, mine)?)?;
-    both.push(closed(from, others, theirs)?)?;
-    assert!(rt; (both[0].replica.log().len(), both[1].replica.log().len()) == (3, 3));
-    assert!(rt; close_all(&both) == Ok(()));
-    Ok(())
+    let into = Shared::<I>::new(alloc, one.0, one.1, one.2)?;
+    let from = Shared::<F>::new(alloc, two.0, two.1, two.2)?;
+    agree(rt, alloc, into, from)
 }
 
 #[test]
 fn workers_of_two_replicas_bring_one_bill(rt: HostRuntime) -> Result<(), Fail> {
     let one = (Blank::new(PARTS), 1, plan(rt.alloc())?);
     let two = (Blank::new(PARTS), 2, plan(rt.alloc())?);
-    agreed::<Brand, Brand, _>(&rt, rt.alloc(), one, two)
+    assert!(rt; agreed::<Brand, Brand, _>(&rt, rt.alloc(), one, two)?);
+    Ok(())
+}
+
+// Whether a job is the second, and its input is refused for its cut.
+fn is_cut(done: &Done) -> bool {
+    match &done.result {
+        Err(fault) => {
+            let is_export = matches!(fault, JobFault::Input(InputFault::Export(_)));
+            is_export && (done.job, fault.number()) == (1, 1)
+        }
+        Ok(_) => false,
+    }
+}
+
+// Whether the second of three jobs is refused, and the others have a report each.
+fn are_but_one(done: &[Done]) -> bool {
+    match done {
+        [first, second, third] => {
+            let others = (of_job(first), of_job(third));
+            is_cut(second) && others == (Some((0, 1)), Some((2, 1)))
+        }
+        _ => false,
+    }
+}
+
+// Whether two workers take two of three inputs.
+fn take_the_others<L: Side + Send + Sync, R: Threads + Wait + Sync>(
+    rt: &R,
+    alloc: Global,
+    shared: Shared<L>,
+    inputs: &[Vec<u8>],
+) -> bool
+    requires { length inputs.now ≤ 3 }
+{
+    match work(rt, alloc, &shared, inputs, &NoGate, 2) {
+        Ok(worked) => {
+            let are_right = are_but_one(&worked.done);
+            lengths(shared, worked.passes) == Some((2, 2)) && are_right
+        }
+        Err(_) => false,
+    }
 }
 
 // The second of three inputs is cut.
-fn takes_the_others<L: Side + Send + Sync, R: Threads + Wait + Abort + Sync>(
+fn takes_the_others<L: Side + Send + Sync, R: Threads + Wait + Sync>(
     rt: &R,
     alloc: Global,
     blank: Blank,
     name: u32,
     plan: Plan,
-) -> Result<(), Fail>
+) -> Result<bool, Fail>
     requires name { blank.name ≡ L.name }
     requires parts { (blank.parts ≡ L.parts) × (L.parts ≡ 65537) }
     requires called { name ≡ L.called }
@@ -219,62 +278,58 @@ fn takes_the_others<L: Side + Send + Sync, R: Threads + Wait + Abort + Sync>(
 {
     let shared = Shared::<L>::new(alloc, blank, name, plan)?;
     let inputs = with_a_cut(alloc)?;
-    let Ok(worked) = work(rt, alloc, &shared, &inputs, &NoGate, 2) else {
-        return Err("workers".into());
-    };
-    assert!(rt; worked.done.len() == 3);
-    let agreed = (of_job(&worked.done[0]), of_job(&worked.done[2]));
-    assert!(rt; agreed == (Some((0, 1)), Some((2, 1))));
-    let Err(fault) = worked.done[1].result else {
-        return Err("a cut input".into());
-    };
-    assert!(rt; (worked.done[1].job, fault.number()) == (1, 1));
-    assert!(rt; matches!(fault, JobFault::Input(InputFault::Export(_))));
-    let Ok(closed) = shared.close(worked.passes) else {
-        return Err("a close".into());
-    };
-    assert!(rt; (closed.journal.len(), closed.replica.log().len()) == (2, 2));
-    Ok(())
+    Ok(take_the_others(rt, alloc, shared, &inputs))
 }
 
 #[test]
 fn a_refused_input_leaves_the_others(rt: HostRuntime) -> Result<(), Fail> {
     let plan = plan(rt.alloc())?;
-    takes_the_others::<Brand, _>(&rt, rt.alloc(), Blank::new(PARTS), 1, plan)
+    assert!(rt; takes_the_others::<Brand, _>(&rt, rt.alloc(), Blank::new(PARTS), 1, plan)?);
+    Ok(())
+}
+
+// Whether two workers are refused for their passes, and the one that was made closes without an entry.
+fn lack_a_pass<L: Side + Send + Sync, R: Threads + Wait + Sync>(
+    rt: &R,
+    alloc: Global,
+    shared: Shared<L>,
+    inputs: &[Vec<u8>],
+) -> bool
+    requires { length inputs.now ≤ 3 }
+{
+    match work(rt, alloc, &shared, inputs, &NoGate, 2) {
+        Ok(_) => false,
+        Err(refused) => {
+            let fault = (refused.fault, refused.fault.number());
+            let is_one = refused.passes.len() == 1;
+            let closed = lengths(shared, refused.passes);
+            is_one && fault == (WorkFault::PassesOut, 4) && closed == Some((0, 0))
+        }
+    }
 }
 
 // One pass is left for two workers.
-fn lacks_a_pass<L: Side + Send + Sync, R: Threads + Wait + Abort + Sync>(
+fn lacks_a_pass<L: Side + Send + Sync, R: Threads + Wait + Sync>(
     rt: &R,
     alloc: Global,
     blank: Blank,
     name: u32,
     plan: Plan,
-) -> Result<(), Fail>
+) -> Result<bool, Fail>
     requires name { blank.name ≡ L.name }
     requires parts { (blank.parts ≡ L.parts) × (L.parts ≡ 65537) }
     requires called { name ≡ L.called }
     requires plan { plan ≡ L.plan }
 {
     let shared = Shared::<L>::new(alloc, blank, name, plan)?;
-    for _ in 0..65_535 {
-        shared.pass(rt)?;
-    }
+    let made = makes(rt, &shared, 65_535);
     let inputs = exports(alloc, &[FIRST])?;
-    let Err(refused) = work(rt, alloc, &shared, &inputs, &NoGate, 2) else {
-        return Err("too few passes".into());
-    };
-    assert!(rt; (refused.fault, refused.fault.number()) == (WorkFault::PassesOut, 4));
-    assert!(rt; refused.passes.len() == 1);
-    let Ok(closed) = shared.close(refused.passes) else {
-        return Err("a close".into());
-    };
-    assert!(rt; closed.journal.is_empty());
-    Ok(())
+    Ok(lack_a_pass(rt, alloc, shared, &inputs) && made)
 }
 
 #[test]
 fn workers_want_a_pass_each(rt: HostRuntime) -> Result<(), Fail> {
     let plan = plan(rt.alloc())?;
-    lacks_a_pass::<Brand, _>(&rt, rt.alloc(), Blank::new(PARTS), 1, plan)
+    assert!(rt; lacks_a_pass::<Brand, _>(&rt, rt.alloc(), Blank::new(PARTS), 1, plan)?);
+    Ok(())
 }

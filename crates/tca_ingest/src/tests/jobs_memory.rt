@@ -1,14 +1,14 @@
 //! Workers that may be refused a growth. The test is run with each growth refused in turn: whatever is refused, the passes that are
 //! handed back close the replica, and it holds what its journal says.
-ghost use Rattle.std.specs.Prelude.{◌≡◌};
+ghost use Rattle.std.specs.Prelude.{◌≡◌, ◌≤◌, length};
 
 use super::jobs::exports;
-use super::{FIRST, PARTS, SECOND, plan};
+use super::{FIRST, PARTS, SECOND, closed_with, plan};
 use crate::{
-    Closed, Done, Entry, JobFault, NoGate, ShareFault, Shared, Side, WorkFault, WorkRefused,
+    Closed, Done, Entry, JobFault, NoGate, Pass, ShareFault, Shared, Side, WorkFault, WorkRefused,
     Worked, work,
 };
-use std::alloc::Global;
+use std::alloc::{AllocError, Global};
 use std::marker::Brand;
 use std::sync::Wait;
 use std::sync::ledger::Blank;
@@ -63,6 +63,35 @@ fn held(closed: &Closed) -> Option<usize> {
     }
 }
 
+// Whether two jobs were done, or were refused for memory.
+fn are_done(done: &[Done]) -> bool {
+    done.len() == 2 && done.iter().all(is_done)
+}
+
+// The workers' passes, where what came of their work is right.
+fn passes_of<L: Side + Send + Sync, R: Threads + Wait + Sync>(
+    rt: &R,
+    alloc: Global,
+    shared: &Shared<L>,
+    inputs: &[Vec<u8>],
+) -> Option<Vec<Pass<L>>>
+    requires { length inputs.now ≤ 3 }
+{
+    let (is_right, passes) = match work(rt, alloc, shared, inputs, &NoGate, 2) {
+        Ok(Worked { done, passes }) => (are_done(&done), passes),
+        Err(WorkRefused { fault, passes }) => (is_refused(fault), passes),
+    };
+    if is_right { Some(passes) } else { None }
+}
+
+// Whether a closed replica holds what its journal says, and its bill is of that.
+fn is_as_noted(closed: &Closed) -> Result<bool, AllocError> {
+    match held(closed) {
+        Some(held) => Ok(closed.replica.totals()?.reports as usize == held),
+        None => Ok(false),
+    }
+}
+
 fn works_and_closes<L: Side + Send + Sync, R: Threads + Wait + Sync>(
     rt: &R,
     alloc: Global,
@@ -77,17 +106,8 @@ fn works_and_closes<L: Side + Send + Sync, R: Threads + Wait + Sync>(
 {
     let inputs = exports(alloc, &[FIRST, SECOND])?;
     let shared = Shared::<L>::new(alloc, blank, name, plan)?;
-    let (is_right, passes) = match work(rt, alloc, &shared, &inputs, &NoGate, 2) {
-        Ok(Worked { done, passes }) => (done.len() == 2 && done.iter().all(is_done), passes),
-        Err(WorkRefused { fault, passes }) => (is_refused(fault), passes),
-    };
-    let Ok(closed) = shared.close(passes) else {
-        return Ok(false);
-    };
-    let Some(held) = held(&closed) else {
-        return Ok(false);
-    };
-    Ok(is_right && closed.replica.totals()?.reports as usize == held)
+    let passes = passes_of(rt, alloc, &shared, &inputs).ok_or("workers")?;
+    Ok(is_as_noted(&closed_with(shared, passes)?)?)
 }
 
 #[test]

@@ -1,7 +1,7 @@
 //! As many passes as there may be, and as many entries.
 ghost use Rattle.std.specs.Prelude.{◌≡◌};
 
-use super::{PARTS, alone, plan};
+use super::{PARTS, alone, lengths, plan, with_one_more};
 use crate::{Pass, ShareFault, Shared, Side};
 use std::alloc::Global;
 use std::marker::Brand;
@@ -11,7 +11,7 @@ use std::test::Fail;
 use tca_accounts::Plan;
 
 // Makes passes, and answers whether they have the numbers from 0 on.
-fn makes<L: Side, R: Wait>(rt: &R, shared: &Shared<L>, count: u32) -> bool {
+pub(super) fn makes<L: Side, R: Wait>(rt: &R, shared: &Shared<L>, count: u32) -> bool {
     for number in 0..count {
         match shared.pass(rt) {
             Ok(pass) => {
@@ -40,7 +40,8 @@ fn runs_out_of_passes<L: Side, R: Wait>(
     let shared = Shared::<L>::new(alloc, blank, name, plan)?;
     let made = makes(rt, &shared, 65_536);
     let out = shared.pass(rt).err() == Some(ShareFault::PassesOut);
-    Ok(made && out && shared.close(Vec::new(alloc)).is_ok())
+    let closed = lengths(shared, Vec::new(alloc));
+    Ok(made && out && closed == Some((0, 0)))
 }
 
 #[test]
@@ -67,16 +68,35 @@ fn is_full<L: Side, R: Wait>(rt: &R, shared: &Shared<L>, pass: &mut Pass<L>) -> 
     asked == Some(ShareFault::JournalFull) && taken == asked
 }
 
+// Whether two passes fill the journal, and then no more is noted.
+fn is_filled<L: Side, R: Wait>(
+    rt: &R,
+    shared: &Shared<L>,
+    first: &mut Pass<L>,
+    second: &mut Pass<L>,
+) -> bool {
+    let half = asks(rt, shared, first, 524_288);
+    let other = asks(rt, shared, second, 524_288);
+    half && other && is_full(rt, shared, first)
+}
+
+// The passes that filled the journal.
+fn filled<L: Side, R: Wait>(
+    rt: &R,
+    alloc: Global,
+    shared: &Shared<L>,
+) -> Result<Vec<Pass<L>>, Fail> {
+    let (mut first, mut second) = (shared.pass(rt)?, shared.pass(rt)?);
+    if !is_filled(rt, shared, &mut first, &mut second) {
+        return Err("a full journal".into());
+    }
+    Ok(with_one_more(alone(alloc, first)?, second)?)
+}
+
 // Two passes fill the journal, and close.
 fn fills<L: Side, R: Wait>(rt: &R, alloc: Global, shared: Shared<L>) -> Result<bool, Fail> {
-    let (mut first, mut second) = (shared.pass(rt)?, shared.pass(rt)?);
-    let half = asks(rt, &shared, &mut first, 524_288);
-    let other = asks(rt, &shared, &mut second, 524_288);
-    let full = is_full(rt, &shared, &mut first);
-    let mut passes = alone(alloc, first)?;
-    passes.push(second)?;
-    let closed = shared.close(passes).ok().ok_or("a close")?;
-    Ok(half && other && full && closed.journal.len() == 1_048_576)
+    let passes = filled(rt, alloc, &shared)?;
+    Ok(lengths(shared, passes) == Some((1_048_576, 0)))
 }
 
 fn fills_the_journal<L: Side, R: Wait>(

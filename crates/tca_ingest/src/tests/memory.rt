@@ -2,7 +2,7 @@
 //! made nothing changed, else the entry names what is held; and the replica can be closed.
 ghost use Rattle.std.specs.Prelude.{◌≡◌};
 
-use super::{FIRST, PARTS, SECOND, THIRD, is_of_three, plan, reports};
+use super::{FIRST, PARTS, SECOND, THIRD, closed_with, is_of_three, plan, reports};
 use crate::{Closed, Entry, Pass, Receipt, ShareFault, Shared, Side};
 use std::alloc::{AllocError, Global};
 use std::marker::Brand;
@@ -58,16 +58,26 @@ fn has(closed: &Closed, count: usize) -> Result<bool, AllocError> {
     Ok(closed.replica.log().len() as usize == count && (count != 3 || is_of_three(&bill)))
 }
 
+// Takes the three rows twice by a pass that is put to the others; answers how many are held then.
+fn takes_twice<L: Side, R: Wait>(
+    rt: &R,
+    alloc: Global,
+    shared: &Shared<L>,
+    passes: &mut Vec<Pass<L>>,
+) -> Result<usize, Fail> {
+    let list = reports(alloc, &[FIRST, SECOND, THIRD])?;
+    let mut pass = shared.pass(rt)?;
+    let first = takes(rt, shared, &mut pass, &list).ok_or("a take")?;
+    let again = takes(rt, shared, &mut pass, &list).ok_or("a take")?;
+    passes.push(pass)?;
+    Ok(first.max(again))
+}
+
 // Takes the three rows twice, and closes.
 fn twice<L: Side, R: Wait>(rt: &R, alloc: Global, shared: Shared<L>) -> Result<bool, Fail> {
-    let list = reports(alloc, &[FIRST, SECOND, THIRD])?;
     let mut passes = Vec::with_capacity(alloc, 1)?;
-    let mut pass = shared.pass(rt)?;
-    let first = takes(rt, &shared, &mut pass, &list).ok_or("a take")?;
-    let again = takes(rt, &shared, &mut pass, &list).ok_or("a take")?;
-    passes.push(pass)?;
-    let closed = shared.close(passes).ok().ok_or("a close")?;
-    Ok(has(&closed, first.max(again))?)
+    let count = takes_twice(rt, alloc, &shared, &mut passes)?;
+    Ok(has(&closed_with(shared, passes)?, count)?)
 }
 
 fn takes_again<L: Side, R: Wait>(

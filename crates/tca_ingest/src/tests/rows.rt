@@ -1,7 +1,7 @@
 //! Worked rows: one pass that takes and asks, and passes that are held back from a close.
 ghost use Rattle.std.specs.Prelude.{◌≡◌};
 
-use super::{FIRST, PARTS, SECOND, THIRD, alone, plan, states_three, take};
+use super::{FIRST, PARTS, SECOND, THIRD, alone, plan, states_three, take, with_one_more};
 use crate::{CloseFault, Pass, Shared, Side, Unclosed};
 use std::alloc::{AllocError, Global};
 use std::marker::Brand;
@@ -50,10 +50,9 @@ fn closes_then<L: Side>(
     pass: Pass<L>,
 ) -> Result<bool, AllocError> {
     let as_it_was = refused.fault == fault && refused.passes.len() == count;
-    let Unclosed { shared, passes, .. } = refused;
-    let mut all = passes;
-    all.push(pass)?;
-    Ok(as_it_was && shared.close(all).is_ok())
+    let all = with_one_more(refused.passes, pass)?;
+    let closes = refused.shared.close(all).is_ok();
+    Ok(as_it_was && closes)
 }
 
 // Whether a close without a pass is refused with this fault, and with it it isn't.

@@ -1,7 +1,7 @@
 //! Two threads on one replica.
 ghost use Rattle.std.specs.Prelude.{◌≡◌};
 
-use super::{FIRST, PARTS, SECOND, THIRD, alone, plan, reports};
+use super::{FIRST, PARTS, SECOND, THIRD, alone, closed_with, plan, reports, with_one_more};
 use crate::{Closed, Entry, Pass, Shared, Side};
 use std::alloc::{AllocError, Global};
 use std::marker::Brand;
@@ -104,6 +104,31 @@ fn is_as_plain(closed: &Closed, plain: &mut Replica, day: &Day) -> Result<bool, 
     Ok(whole && same_bill && are_same(closed.replica.log(), plain.log()))
 }
 
+// The passes of two threads that were refused nothing.
+fn worked<L: Side + Send + Sync, R: Threads + Wait + Sync>(
+    rt: &R,
+    alloc: Global,
+    shared: &Shared<L>,
+    day: &Day,
+) -> Result<Vec<Pass<L>>, Fail> {
+    let (mut first, mut second) = (shared.pass(rt)?, shared.pass(rt)?);
+    if !at_once(rt, shared, &mut first, &mut second, day) {
+        return Err("a refusal".into());
+    }
+    Ok(with_one_more(alone(alloc, second)?, first)?)
+}
+
+// What two threads leave of a replica.
+fn closed_after<L: Side + Send + Sync, R: Threads + Wait + Sync>(
+    rt: &R,
+    alloc: Global,
+    shared: Shared<L>,
+    day: &Day,
+) -> Result<Closed, Fail> {
+    let passes = worked(rt, alloc, &shared, day)?;
+    closed_with(shared, passes)
+}
+
 // Two threads share a replica, which is closed then and compared with a plain one.
 fn shares<L: Side + Send + Sync, R: Threads + Wait + Sync>(
     rt: &R,
@@ -112,13 +137,9 @@ fn shares<L: Side + Send + Sync, R: Threads + Wait + Sync>(
     plain: Replica,
 ) -> Result<bool, Fail> {
     let day = planned(alloc)?;
-    let (mut first, mut second) = (shared.pass(rt)?, shared.pass(rt)?);
-    let worked = at_once(rt, &shared, &mut first, &mut second, &day);
-    let mut passes = alone(alloc, second)?;
-    passes.push(first)?;
-    let closed = shared.close(passes).ok().ok_or("a close")?;
+    let closed = closed_after(rt, alloc, shared, &day)?;
     let mut other = plain;
-    Ok(worked && is_as_plain(&closed, &mut other, &day)?)
+    Ok(is_as_plain(&closed, &mut other, &day)?)
 }
 
 fn by_two<L: Side + Send + Sync, R: Threads + Wait + Sync>(
