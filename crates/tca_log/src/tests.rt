@@ -467,15 +467,15 @@ fn add_to<A: Allocator + Copy>(log: &mut Log<A>, list: &[Report]) -> Result<(), 
     Ok(())
 }
 
-// A second content for the only identity, until a growth is refused.
-fn dispute_step(small: &LocalHeap, first: Report, second: Report) -> Step {
+// A log of these, given a second content of one of their identities. All that it then has are given in order.
+fn dispute_step(small: &LocalHeap, before: &[Report], content: Report, after: &[Report]) -> Step {
     let mut log = Log::new(small);
-    if log.add(first).is_err() {
+    if add_to(&mut log, before).is_err() {
         return Step::Before;
     }
-    match log.add(second) {
-        Ok(_) => done(&log, &[first, second], 1),
-        Err(fault) => refused(&log, fault, &[first], small.used()),
+    match log.add(content) {
+        Ok(_) => done(&log, after, 1),
+        Err(fault) => refused(&log, fault, before, small.used()),
     }
 }
 
@@ -495,17 +495,23 @@ fn kept(alloc: Global, steps: &[Step]) -> Result<Vec<usize>, Fail> {
 fn dispute_within(
     alloc: Global,
     octets: usize,
-    first: Report,
-    second: Report,
+    before: &[Report],
+    content: Report,
+    after: &[Report],
 ) -> Result<Step, Fail> {
     let small = LocalHeap::new(alloc, octets)?;
-    Ok(dispute_step(&small, first, second))
+    Ok(dispute_step(&small, before, content, after))
 }
 
-fn dispute_steps(alloc: Global, first: Report, second: Report) -> Result<Vec<Step>, Fail> {
+fn dispute_steps(
+    alloc: Global,
+    before: &[Report],
+    content: Report,
+    after: &[Report],
+) -> Result<Vec<Step>, Fail> {
     let mut met = Vec::new(alloc);
     for size in 1..1024 {
-        let step = dispute_within(alloc, STEP * size, first, second)?;
+        let step = dispute_within(alloc, STEP * size, before, content, after)?;
         met.push(step)?;
         if step == Step::Done {
             break;
@@ -516,9 +522,23 @@ fn dispute_steps(alloc: Global, first: Report, second: Report) -> Result<Vec<Ste
 
 #[test]
 fn a_refused_dispute_leaves_the_log_as_it_was(rt: HostRuntime) -> Result<(), Fail> {
-    let met = dispute_steps(rt.alloc(), report(3, 50, 600)?, report(3, 60, 601)?)?;
+    let (first, content) = (report(3, 50, 600)?, report(3, 60, 601)?);
+    let met = dispute_steps(rt.alloc(), &[first], content, &[first, content])?;
     // Refused to the reports, to the disputed identities' list of chunks, and to a chunk of these.
     assert!(rt; kept(rt.alloc(), &met)?.len() == 3);
+    assert!(rt; met.contains(&Step::Done) && !met.contains(&Step::Wrong));
+    Ok(())
+}
+
+#[test]
+fn a_refused_dispute_leaves_other_reports_too(rt: HostRuntime) -> Result<(), Fail> {
+    let (a, late) = (report(0, 0, 1500)?, report(3, 50, 600)?);
+    let (b, c) = (report(1, 100, 1000)?, report(2, 200, 800)?);
+    let content = report(3, 60, 601)?;
+    let after = [a, late, content, b, c];
+    let met = dispute_steps(rt.alloc(), &[a, late, b, c], content, &after)?;
+    // The reports have room for a fifth.
+    assert!(rt; kept(rt.alloc(), &met)?.len() == 2);
     assert!(rt; met.contains(&Step::Done) && !met.contains(&Step::Wrong));
     Ok(())
 }
