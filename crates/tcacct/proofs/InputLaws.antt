@@ -14,7 +14,7 @@ use Rattle.tca_report.specs.declared.input.InputFault.TheVariants.{Export, Wire,
 use Rattle.tcacct.specs.declared.fault.RunFault.{RunFault}
 use Rattle.tcacct.specs.Runs.{IsRefusedAs, IsSoundExport, input_refusal, is_memory, wants_memory, with_input}
 
--- what was so_far where reports and notes were given
+-- reports and notes are those of a capture that was read
 pub gathered_ok : (r : Result CaptureSoFar InputFault) (x : List PacketReport × Notes) → gathered_of r ≡ Ok x → (h : CaptureSoFar) × (r ≡ Ok h) × (x.0 ≡ h.reports) × (x.1 ≡ notes_of h)
 gathered_ok (Ok h) x e =
     let same : reports_and_notes h ≡ x = cc in

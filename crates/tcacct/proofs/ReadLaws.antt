@@ -1,12 +1,10 @@
 -- What workers answered of each input, and what all inputs hold together.
 use Rattle.std.proofs.Common.{◌≡◌, ◌≢◌, ◌∙◌, ◌<◌, ◌+◌, ℕ, List, [], ◌∷◌, ◌++◌, length, get_or, map, take, Some, None, Ok, Err, is_ok, refl, sym, ap, subst, append_assoc, arith, take_all, inl, inr}
 use Rattle.std.specs.Prelude.{IsOk, option_map, slice_get}
-use Rattle.std.specs.List.{AllByRecursion, flat_map}
-use Rattle.std.proofs.lemmas.Grind.{flat_map-append}
+use Rattle.std.specs.List.{AllByRecursion}
 use Rattle.std.proofs.lemmas.List.{append-nil, take_more, take-map}
 use Rattle.std.proofs.lemmas.Option.{slice_get-map, slice_get_read}
-use Rattle.tca_join.specs.Sets.{in_order}
-use Rattle.tca_report.specs.report.Reports.{PacketReport, report_cmp}
+use Rattle.tca_report.specs.report.Reports.{PacketReport}
 use Rattle.tca_report.specs.input.Inputs.{input_of}
 use Rattle.tca_report.specs.input.Wants.{WantsMemory}
 use Rattle.tca_report.specs.declared.input.InputFault.{InputFault}
@@ -20,9 +18,8 @@ use Rattle.tca_ingest.specs.Works.{IsResult, contents_of}
 use Rattle.tcacct.specs.declared.fault.RunFault.{RunFault}
 use Rattle.tcacct.specs.Noted.{AreNotes, IsNoted}
 use Rattle.tcacct.specs.Replicated.{AreReplicasRefused, AreSound, IsInputFault, IsOwnFault}
-use Rattle.tcacct.specs.Runs.{HoldsReports, HoldReports, input_refusal, union_of}
+use Rattle.tcacct.specs.Runs.{HoldsReports, HoldReports, input_refusal}
 use Rattle.tcacct.proofs.InputLaws.{gathered_err, gathered_ok}
-use Rattle.tcacct.proofs.UnionLaws.{inside}
 
 -- a take that didn't stop lists all reports that it was given
 pub all_taken : (reports list : List PacketReport) (number pass fresh : ℕ) → IsTake reports number (Took pass list fresh None) → list ≡ reports
@@ -111,11 +108,3 @@ one_sound f inputs n input low is before here =
 -- the refusal of an input
 pub refused_at : {X : Type 0} (f : X → List ℕ) (inputs : List X) (n : ℕ) (input : X) (e : RunFault) → n < length inputs → input ≡ get_or inputs n input → AreSound (take n (map f inputs)) → IsInputFault n (f input) e → AreReplicasRefused (map f inputs) e
 refused_at f inputs n input e low is before why = inr (inl (record { place = n; input = f input; here = found_at f inputs n input low is; before = before; why = why }))
-
--- the union with one list more
-pub union_more : (lists : List (List PacketReport)) (rs log : List PacketReport) → log ≡ union_of lists → in_order report_cmp (log ++ rs) ≡ union_of (lists ++ rs ∷ [])
-union_more lists rs log is =
-    let all = flat_map (λ (l : List PacketReport). l) lists in
-    ap (λ (l : List PacketReport). in_order report_cmp (l ++ rs)) is
-    ∙ inside all rs
-    ∙ ap (in_order report_cmp) (ap (λ (l : List PacketReport). all ++ l) (sym (append-nil rs)) ∙ sym (flat_map-append (λ (l : List PacketReport). l) lists (rs ∷ [])))

@@ -1,6 +1,6 @@
 //! What the workers of all replicas answered, put back into the order of the inputs.
 ghost use Rattle.std.specs.List.{flat_map};
-ghost use Rattle.std.specs.Prelude.{◌≡◌, ◌<◌, ◌^◌, IfOk, IfErr, Some, length, map};
+ghost use Rattle.std.specs.Prelude.{◌≡◌, ◌++◌, ◌<◌, ◌^◌, IfOk, IfErr, Some, length, map};
 ghost use Rattle.tca_ingest.specs.Works.{AreSliceResults};
 ghost use Rattle.tcacct.specs.Noted.{IsNoted};
 ghost use Rattle.tcacct.specs.Replicated.{AreRead, AreReplicasRefused, IsInputFault, IsReadingRefused, refusal_of};
@@ -173,15 +173,28 @@ fn count_of(lists: &[Vec<Report>]) -> usize {
     count
 }
 
-// The reports of these lists, one list after another.
-fn chained(alloc: Global, lists: Vec<Vec<Report>>) -> Result<Vec<Report>, AllocError>
-    ensures { IfOk result (λ all. all.items ≡ flat_map (λ rs. rs) (map (λ l. l.items) lists.items)) }
+// A list, and behind it the reports of others, one list after another.
+fn followed(first: Vec<Report>, others: Vec<Vec<Report>>) -> Result<Vec<Report>, AllocError>
+    ensures { IfOk result (λ all. all.items ≡ first.items ++ flat_map (λ rs. rs) (map (λ l. l.items) others.items)) }
 {
-    let mut all = Vec::with_capacity(alloc, count_of(&lists))?;
-    for reports in lists {
+    let mut all = first;
+    all.reserve(count_of(&others))?;
+    for reports in others {
         all.extend_from_slice(&reports)?;
     }
     Ok(all)
+}
+
+// The reports of these lists, one list after another. The first list isn't copied.
+fn chained(alloc: Global, lists: Vec<Vec<Report>>) -> Result<Vec<Report>, AllocError>
+    ensures { IfOk result (λ all. all.items ≡ flat_map (λ rs. rs) (map (λ l. l.items) lists.items)) }
+{
+    let mut others = lists;
+    if others.is_empty() {
+        return Ok(Vec::new(alloc));
+    }
+    let first = others.remove(0);
+    followed(first, others)
 }
 
 /// All reports of these lists in order, each once.
