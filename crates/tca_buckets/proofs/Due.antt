@@ -1,9 +1,9 @@
 -- How many tokens are due, as a difference of two quotients, and that adjoining intervals have them in parts.
-use Rattle.std.proofs.Common.{◌≡◌, ℕ, zero, suc, ◌+◌, ◌-◌, ◌*◌, ◌/◌, ◌<◌, ◌≤◌, Bool, true, not, ltb, leb, ◌&&◌, List, length, ap, ◌∙◌, arith, inl, inr}
+use Rattle.std.proofs.Common.{◌≡◌, ℕ, zero, suc, ◌+◌, ◌-◌, ◌*◌, ◌/◌, ◌<◌, ◌≤◌, Bool, not, ltb, leb, ◌&&◌, List, length, ap, ◌∙◌, arith, inl, inr}
 use Rattle.std.specs.Prelude.{filter, max}
 use Rattle.std.specs.List.{list_all, list_any}
 use Rattle.std.proofs.Math.Nat.{mul-le-mul_left}
-use Rattle.std.proofs.lemmas.Bool.{cases_lt, lt-ltb, le-ltb, le-leb, lt-leb, leb-true, and_parts}
+use Rattle.std.proofs.lemmas.Bool.{cases_lt, lt-ltb, le-ltb, le-leb, lt-leb}
 use Rattle.std.proofs.lemmas.Bool.Decides.{nat_tests}
 use Rattle.tca_buckets.specs.Tokens.{numbers_from, has_come, arrives_at, due_tokens, due}
 
@@ -53,15 +53,6 @@ between p q (suc n) k h =
 -- a token against thousands, and against their quotients
 in_thousands : (lo hi k : ℕ) → (ltb lo (1000 * k) && leb (1000 * k) hi) ≡ (ltb (lo / 1000) k && leb k (hi / 1000))
 in_thousands lo hi k = grind (arith, nat_tests)
-
--- so a list of tokens up to rate * to leaves none out
-pub arrives_below : (rate token time to : ℕ) → time ≤ to → arrives_at rate token time ≡ true → token ≤ rate * to
-unfolding arrives_at
-arrives_below rate token time to h e =
-    let up : rate * time ≤ rate * to = rises rate time to h in
-    let come : leb (1000 * token) (rate * time) ≡ true = (and_parts _ _ e).0 in
-    let le : 1000 * token ≤ rate * time = leb-true _ _ come in
-    omega arith
 
 -- the tokens due are the thousands that rate * time passes
 pub due_quotients : (rate from to : ℕ) → from ≤ to → due rate from to ≡ rate * to / 1000 - rate * from / 1000

@@ -1,10 +1,12 @@
+ghost use Rattle.std.specs.Prelude.{◌≡◌, true};
+
 use crate::{ByKey, Chain, Join, JoinFault, MaxOf};
 use linked_list_allocator::LocalHeap;
 use std::alloc::{AllocError, Allocator, Global};
 use std::test::Fail;
 
 // What a step of the sweeps below was refused memory for.
-#[derive(Clone, Copy, Debug, PartialEq, Eq)]
+#[derive(Clone, Copy, PartialEq, Eq)]
 enum Step {
     Reserve,
     Set,
@@ -38,39 +40,6 @@ fn joined<J: Join>(first: &J, second: &J) -> Result<J, JoinFault> {
     Ok(value)
 }
 
-fn show_one<A: Allocator + Clone>(
-    all: &mut Vec<u32>,
-    key: u32,
-    chain: &Chain<u32, A>,
-) -> Result<(), AllocError> {
-    all.push(key)?;
-    all.push(chain.len())?;
-    for item in chain.items() {
-        all.push(*item)?;
-    }
-    Ok(())
-}
-
-// Each key, how many items its chain has, and these.
-fn shown<A: Allocator + Clone>(
-    alloc: Global,
-    map: &ByKey<Chain<u32, A>, A>,
-) -> Result<Vec<u32>, AllocError> {
-    let mut all = Vec::new(alloc);
-    for entry in map.entries() {
-        show_one(&mut all, entry.0, &entry.1)?;
-    }
-    Ok(all)
-}
-
-fn is_as<A: Allocator + Clone>(
-    alloc: Global,
-    map: &ByKey<Chain<u32, A>, A>,
-    before: &[u32],
-) -> Result<bool, AllocError> {
-    Ok(shown(alloc, map)?.as_slice() == before)
-}
-
 // How many items a key's chain has.
 fn length_at<A: Allocator + Clone>(map: &ByKey<Chain<u32, A>, A>, key: u32) -> u32 {
     match map.get(key) {
@@ -79,30 +48,40 @@ fn length_at<A: Allocator + Clone>(map: &ByKey<Chain<u32, A>, A>, key: u32) -> u
     }
 }
 
-#[test]
-fn faults_have_their_numbers_and_texts(rt: HostRuntime) -> Result<(), Fail> {
-    for (fault, number, text) in [
-        (
-            JoinFault::Clash { key: 70 },
-            1,
-            "the values have no join: they clash at 70",
-        ),
-        (JoinFault::Full, 2, "the join is above its limit"),
-        (JoinFault::Memory, 3, "out of memory"),
-    ] {
-        assert!(rt; fault.number() == number);
-        assert!(rt; format!(in rt.alloc(); "{fault}")?.as_str() == text);
+const FAULTS: [(JoinFault, u8, &'static str); 3] = [
+    (
+        JoinFault::Clash { key: 70 },
+        1,
+        "the values have no join: they clash at 70",
+    ),
+    (JoinFault::Full, 2, "the join is above its limit"),
+    (JoinFault::Memory, 3, "out of memory"),
+];
+
+fn says(alloc: Global, fault: JoinFault, text: &str) -> bool {
+    match format!(in alloc; "{fault}") {
+        Ok(said) => said.as_str() == text,
+        Err(_) => false,
     }
-    Ok(())
 }
 
 #[test]
-fn the_greater_count_is_kept(rt: HostRuntime) -> Result<(), Fail> {
-    for (first, second, greater) in [(3, 5, 5), (5, 3, 5), (4, 4, 4)] {
-        assert!(rt; MaxOf(first).refusal(&MaxOf(second)) == None);
-        assert!(rt; joined(&MaxOf(first), &MaxOf(second))? == MaxOf(greater));
+fn faults_have_their_numbers_and_texts(rt: HostRuntime) {
+    for (fault, number, text) in FAULTS {
+        assert!(rt; fault.number() == number && says(rt.alloc(), fault, text));
     }
-    Ok(())
+}
+
+fn keeps_the_greater(first: u32, second: u32, greater: u32) -> bool {
+    let (first, second) = (MaxOf(first), MaxOf(second));
+    first.refusal(&second) == None && joined(&first, &second) == Ok(MaxOf(greater))
+}
+
+#[test]
+fn the_greater_count_is_kept(rt: HostRuntime) {
+    assert!(rt; keeps_the_greater(3, 5, 5));
+    assert!(rt; keeps_the_greater(5, 3, 5));
+    assert!(rt; keeps_the_greater(4, 4, 4));
 }
 
 fn joins_to(first: &Chain<u32>, second: &Chain<u32>, items: &[u32]) -> bool {
@@ -139,14 +118,17 @@ fn the_longer_chain_is_kept(rt: HostRuntime) -> Result<(), Fail> {
     Ok(())
 }
 
-#[test]
-fn a_copy_has_the_room_of_its_source(rt: HostRuntime) -> Result<(), Fail> {
-    let mut chain: Chain<u32> = Chain::new(rt.alloc());
+fn copy_has_room(alloc: Global) -> Result<bool, AllocError> {
+    let mut chain: Chain<u32> = Chain::new(alloc);
     chain.reserve()?;
     let mut copy = chain.copy()?;
     copy.push(8);
-    assert!(rt; copy.items() == [8].as_slice());
-    assert!(rt; chain.len() == 0);
+    Ok(copy.items() == [8].as_slice() && chain.len() == 0)
+}
+
+#[test]
+fn a_copy_has_the_room_of_its_source(rt: HostRuntime) -> Result<(), Fail> {
+    assert!(rt; copy_has_room(rt.alloc())?);
     Ok(())
 }
 
@@ -190,35 +172,48 @@ fn has_chains<A: Allocator + Clone>(
     left.next().is_none()
 }
 
-fn keys_are(alloc: Global, map: &ByKey<Chain<u32>>, keys: &[u32]) -> Result<bool, AllocError> {
-    let found: Vec<u32> = map.keys().collect(alloc)?;
-    Ok(found.as_slice() == keys)
+fn keys_are(map: &ByKey<Chain<u32>>, keys: &[u32]) -> bool {
+    let mut found = map.keys();
+    for key in keys {
+        if found.next() != Some(*key) {
+            return false;
+        }
+    }
+    found.next().is_none()
 }
 
-fn joins_by_key(alloc: Global, all: &ByKey<Chain<u32>>) -> Result<bool, AllocError> {
+fn joins_by_key(all: &ByKey<Chain<u32>>) -> bool {
     let chains: [(u32, &[u32]); 3] = [(4, &[5, 5]), (6, &[7]), (9, &[1, 3])];
-    Ok(has_chains(all, &chains) && keys_are(alloc, all, &[4, 6, 9])? && all.get(5).is_none())
+    has_chains(all, &chains) && keys_are(all, &[4, 6, 9]) && all.get(5).is_none()
+}
+
+fn join_by_key(first: &ByKey<Chain<u32>>, second: &ByKey<Chain<u32>>) -> bool {
+    match joined(first, second) {
+        Ok(all) => joins_by_key(&all),
+        Err(_) => false,
+    }
+}
+
+fn chains_join(alloc: Global) -> Result<bool, AllocError> {
+    let first = map_of(alloc, &[(9, &[1]), (4, &[5, 5])])?;
+    let second = map_of(alloc, &[(9, &[2]), (6, &[7]), (9, &[1, 3])])?;
+    Ok(join_by_key(&first, &second))
 }
 
 #[test]
 fn maps_of_chains_join_key_by_key(rt: HostRuntime) -> Result<(), Fail> {
-    let first = map_of(rt.alloc(), &[(9, &[1]), (4, &[5, 5])])?;
-    let second = map_of(rt.alloc(), &[(9, &[2]), (6, &[7]), (9, &[1, 3])])?;
-    let all = joined(&first, &second)?;
-    assert!(rt; joins_by_key(rt.alloc(), &all)?);
+    assert!(rt; chains_join(rt.alloc())?);
     Ok(())
 }
 
 // Whether a map clashes there with another, and is as before.
 fn is_refused_at(
-    alloc: Global,
     map: &mut ByKey<Chain<u32>>,
     other: &ByKey<Chain<u32>>,
     key: u32,
-) -> Result<bool, AllocError> {
-    let before = shown(alloc, map)?;
-    let refused = map.join_from(other) == Err(JoinFault::Clash { key });
-    Ok(refused && is_as(alloc, map, &before)?)
+    before: &[(u32, &[u32])],
+) -> bool {
+    map.join_from(other) == Err(JoinFault::Clash { key }) && has_chains(map, before)
 }
 
 fn replace(
@@ -243,15 +238,23 @@ fn names_the_least(
     first: &mut ByKey<Chain<u32>>,
     second: &ByKey<Chain<u32>>,
 ) -> Result<bool, AllocError> {
-    let at_one = is_refused_at(alloc, first, second, 1)?;
+    let at_one = is_refused_at(
+        first,
+        second,
+        1,
+        &[(1, &[2, 1]), (3, &[2, 1]), (5, &[1]), (8, &[2, 1])],
+    );
     let replaced = replace(alloc, first, 1, &[2, 2, 6])? && first.get_mut(2).is_none();
-    let at_five = is_refused_at(alloc, first, second, 5)?;
-    Ok(at_one && replaced && at_five && length_at(first, 1) == 3)
+    let at_five = is_refused_at(
+        first,
+        second,
+        5,
+        &[(1, &[2, 2, 6]), (3, &[2, 1]), (5, &[1]), (8, &[2, 1])],
+    );
+    Ok(at_one && replaced && at_five)
 }
 
-#[test]
-fn the_least_key_that_clashes_is_named(rt: HostRuntime) -> Result<(), Fail> {
-    let alloc = rt.alloc();
+fn clashes_are_named(alloc: Global) -> Result<bool, AllocError> {
     let mut first = map_of(
         alloc,
         &[(8, &[2, 1]), (3, &[2, 1]), (1, &[2, 1]), (5, &[1])],
@@ -260,20 +263,40 @@ fn the_least_key_that_clashes_is_named(rt: HostRuntime) -> Result<(), Fail> {
         alloc,
         &[(8, &[2, 1]), (3, &[2, 1]), (1, &[2, 2]), (5, &[2])],
     )?;
-    assert!(rt; names_the_least(alloc, &mut first, &second)?);
+    names_the_least(alloc, &mut first, &second)
+}
+
+#[test]
+fn the_least_key_that_clashes_is_named(rt: HostRuntime) -> Result<(), Fail> {
+    assert!(rt; clashes_are_named(rt.alloc())?);
     Ok(())
+}
+
+fn counts_of(alloc: Global, counts: &[(u32, MaxOf)]) -> Result<ByKey<MaxOf>, AllocError> {
+    let mut map = ByKey::new(alloc);
+    for (key, count) in counts {
+        map.set(*key, *count)?;
+    }
+    Ok(map)
+}
+
+fn have_greater_counts(first: &ByKey<MaxOf>, second: &ByKey<MaxOf>) -> bool {
+    let wanted = [(1, MaxOf(4)), (2, MaxOf(7)), (300, MaxOf(5))];
+    match joined(first, second) {
+        Ok(all) => all.entries() == wanted.as_slice(),
+        Err(_) => false,
+    }
+}
+
+fn counts_join(alloc: Global) -> Result<bool, AllocError> {
+    let first = counts_of(alloc, &[(2, MaxOf(7)), (1, MaxOf(0)), (300, MaxOf(5))])?;
+    let second = counts_of(alloc, &[(2, MaxOf(3)), (1, MaxOf(4)), (300, MaxOf(5))])?;
+    Ok(have_greater_counts(&first, &second))
 }
 
 #[test]
 fn maps_of_counts_join_key_by_key(rt: HostRuntime) -> Result<(), Fail> {
-    let mut first = ByKey::new(rt.alloc());
-    let mut second = ByKey::new(rt.alloc());
-    for (key, one, other) in [(2, 7, 3), (1, 0, 4), (300, 5, 5)] {
-        first.set(key, MaxOf(one))?;
-        second.set(key, MaxOf(other))?;
-    }
-    let all = joined(&first, &second)?;
-    assert!(rt; all.entries() == [(1, MaxOf(4)), (2, MaxOf(7)), (300, MaxOf(5))].as_slice());
+    assert!(rt; counts_join(rt.alloc())?);
     Ok(())
 }
 
@@ -289,8 +312,16 @@ fn exhausted(alloc: Global, heap: &LocalHeap) -> Result<Vec<Vec<u8, &LocalHeap>>
     Ok(taken)
 }
 
-fn has_pushed(chain: &Chain<u32, &LocalHeap>) -> bool {
-    chain.items() == [4, 6, 9].as_slice() && chain.copy().is_err()
+// Whether a push takes nothing of the heap, in which a copy has no room.
+fn pushes_without_memory(heap: &LocalHeap, chain: &mut Chain<u32, &LocalHeap>) -> bool
+    requires { chain.old.room ≡ true }
+{
+    let used = heap.used();
+    if chain.len() == 4_194_304 {
+        return false;
+    }
+    chain.push(9);
+    chain.items() == [4, 6, 9].as_slice() && chain.copy().is_err() && heap.used() == used
 }
 
 #[test]
@@ -299,10 +330,7 @@ fn a_push_into_reserved_room_takes_no_memory(rt: HostRuntime) -> Result<(), Fail
     let mut chain = chain_of(&heap, &[4, 6])?;
     chain.reserve()?;
     let taken = exhausted(rt.alloc(), &heap)?;
-    let used = heap.used();
-    assert!(rt; chain.len() < 4_194_304);
-    chain.push(9);
-    assert!(rt; has_pushed(&chain) && heap.used() == used && taken.len() > 0);
+    assert!(rt; pushes_without_memory(&heap, &mut chain) && taken.len() > 0);
     Ok(())
 }
 
@@ -315,38 +343,59 @@ fn clash_is_named<'a>(first: &mut SmallMap<'a>, second: &SmallMap<'a>) -> bool {
 }
 
 // The same in a heap that refuses each growth.
-fn clash_is_named_without_memory(alloc: Global, heap: &LocalHeap) -> Result<bool, AllocError> {
-    let mut first = map_of(heap, &[(3, &[1]), (5, &[7])])?;
-    let second = map_of(heap, &[(3, &[1, 2]), (5, &[8])])?;
+fn clash_is_named_without_memory<'a>(
+    alloc: Global,
+    heap: &'a LocalHeap,
+    first: &mut SmallMap<'a>,
+    second: &SmallMap<'a>,
+) -> Result<bool, AllocError> {
     let taken = exhausted(alloc, heap)?;
     let used = heap.used();
-    let named = clash_is_named(&mut first, &second);
+    let named = clash_is_named(first, second);
     Ok(named && heap.used() == used && taken.len() > 0)
 }
 
+fn names_clash(alloc: Global, heap: &LocalHeap) -> Result<bool, AllocError> {
+    let mut first = map_of(heap, &[(3, &[1]), (5, &[7])])?;
+    let second = map_of(heap, &[(3, &[1, 2]), (5, &[8])])?;
+    clash_is_named_without_memory(alloc, heap, &mut first, &second)
+}
+
 // Whether the map that joins with another, but for its want of memory, joins with one that is empty.
-fn lacks_memory<'a>(first: &mut SmallMap<'a>, second: &SmallMap<'a>, none: &SmallMap<'a>) -> bool {
+fn lacks_memory<'a>(heap: &'a LocalHeap, first: &mut SmallMap<'a>, second: &SmallMap<'a>) -> bool {
+    let none = ByKey::new(heap);
     first.refusal(second).is_none()
         && first.join_from(second).err() == Some(JoinFault::Memory)
-        && first.join_from(none).is_ok()
+        && first.join_from(&none).is_ok()
 }
 
 // The same in a heap that refuses each growth.
-fn lacks_only_memory(alloc: Global, heap: &LocalHeap) -> Result<bool, AllocError> {
-    let mut first = map_of(heap, &[(3, &[1]), (5, &[7])])?;
-    let second = map_of(heap, &[(3, &[1, 2]), (5, &[7])])?;
-    let none = ByKey::new(heap);
+fn lacks_only_memory<'a>(
+    alloc: Global,
+    heap: &'a LocalHeap,
+    first: &mut SmallMap<'a>,
+    second: &SmallMap<'a>,
+) -> Result<bool, AllocError> {
     let taken = exhausted(alloc, heap)?;
     let used = heap.used();
-    let lacks = lacks_memory(&mut first, &second, &none);
+    let lacks = lacks_memory(heap, first, second);
     Ok(lacks && heap.used() == used && taken.len() > 0)
+}
+
+fn names_memory(alloc: Global, heap: &LocalHeap) -> Result<bool, AllocError> {
+    let mut first = map_of(heap, &[(3, &[1]), (5, &[7])])?;
+    let second = map_of(heap, &[(3, &[1, 2]), (5, &[7])])?;
+    lacks_only_memory(alloc, heap, &mut first, &second)
+}
+
+fn names_what_lacks(alloc: Global) -> Result<bool, AllocError> {
+    let heap = LocalHeap::new(alloc, 1 << 12)?;
+    Ok(names_clash(alloc, &heap)? && names_memory(alloc, &heap)?)
 }
 
 #[test]
 fn a_clash_is_named_where_memory_lacks(rt: HostRuntime) -> Result<(), Fail> {
-    let heap = LocalHeap::new(rt.alloc(), 1 << 12)?;
-    assert!(rt; clash_is_named_without_memory(rt.alloc(), &heap)?);
-    assert!(rt; lacks_only_memory(rt.alloc(), &heap)?);
+    assert!(rt; names_what_lacks(rt.alloc())?);
     Ok(())
 }
 
@@ -400,57 +449,72 @@ fn chain_within(alloc: Global, octets: usize) -> Result<Step, AllocError> {
     Ok(seen(step, small.used() == 0))
 }
 
-fn meets(met: &[Step], wanted: &[Step]) -> bool {
-    wanted.iter().all(|step| met.contains(step)) && !met.contains(&Step::Wrong)
+// Whether one of these heaps ends at that step.
+fn chain_meets(alloc: Global, wanted: Step) -> Result<bool, AllocError> {
+    for size in 1..64 {
+        if chain_within(alloc, 16 * size)? == wanted {
+            return Ok(true);
+        }
+    }
+    Ok(false)
 }
 
 #[test]
 fn a_chain_is_as_before_after_each_refused_growth(rt: HostRuntime) -> Result<(), Fail> {
-    let mut met = Vec::new(rt.alloc());
-    for size in 1..64 {
-        let step = chain_within(rt.alloc(), 16 * size)?;
-        met.push(step)?;
-        if step == Step::Done {
-            break;
-        }
+    for step in [Step::Reserve, Step::Copy, Step::Join, Step::Done] {
+        assert!(rt; chain_meets(rt.alloc(), step)?);
     }
-    let wanted = [Step::Reserve, Step::Copy, Step::Join, Step::Done];
-    assert!(rt; meets(&met, &wanted), "{met:?}");
+    assert!(rt; !chain_meets(rt.alloc(), Step::Wrong)?);
     Ok(())
 }
 
 const KEYS: [u32; 5] = [40, 20, 30, 10, 50];
 
+// The keys once none of these is set, then once each is.
+const SET: [&[u32]; 6] = [
+    &[],
+    &[40],
+    &[20, 40],
+    &[20, 30, 40],
+    &[10, 20, 30, 40],
+    &[10, 20, 30, 40, 50],
+];
+
+// Whether a map has just these keys, and under each a chain with the key alone.
+fn is_as(map: &SmallMap<'_>, keys: &[u32]) -> bool {
+    let mut left = keys.iter();
+    for entry in map.entries() {
+        if left.next() != Some(&entry.0) || entry.1.items() != [entry.0].as_slice() {
+            return false;
+        }
+    }
+    left.next().is_none()
+}
+
 // Sets a chain under this key. The answer is why that was refused, or what is wrong then.
 fn set_one<'a>(
-    alloc: Global,
     map: &mut SmallMap<'a>,
     small: &'a LocalHeap,
     key: u32,
     before: &[u32],
-) -> Result<Option<Step>, AllocError> {
+) -> Option<Step> {
     let Ok(chain) = chain_of(small, &[key]) else {
-        return Ok(Some(Step::Reserve));
+        return Some(Step::Reserve);
     };
     match map.set(key, chain) {
-        Ok(()) => Ok(None),
-        Err(_) => Ok(Some(seen(Step::Set, is_as(alloc, map, before)?))),
+        Ok(()) => None,
+        Err(_) => Some(seen(Step::Set, is_as(map, before))),
     }
 }
 
-fn set_each<'a>(
-    alloc: Global,
-    map: &mut SmallMap<'a>,
-    small: &'a LocalHeap,
-) -> Result<Option<Step>, AllocError> {
-    for key in KEYS {
-        let before = shown(alloc, map)?;
-        let refused = set_one(alloc, map, small, key, &before)?;
+fn set_each<'a>(map: &mut SmallMap<'a>, small: &'a LocalHeap) -> Option<Step> {
+    for n in 0..KEYS.len() {
+        let refused = set_one(map, small, KEYS[n], SET[n]);
         if refused.is_some() {
-            return Ok(refused);
+            return refused;
         }
     }
-    Ok(None)
+    None
 }
 
 fn has_joined(map: &SmallMap<'_>) -> bool {
@@ -458,69 +522,54 @@ fn has_joined(map: &SmallMap<'_>) -> bool {
 }
 
 // The join with another, once the map was copied, which is as before whatever becomes of the map.
-fn join_step<'a>(
-    alloc: Global,
-    map: &mut SmallMap<'a>,
-    copy: &SmallMap<'a>,
-    other: &SmallMap<'a>,
-    before: &[u32],
-) -> Result<Step, AllocError> {
+fn join_step<'a>(map: &mut SmallMap<'a>, copy: &SmallMap<'a>, other: &SmallMap<'a>) -> Step {
     match map.join_from(other) {
-        Ok(()) => Ok(seen(Step::Done, has_joined(map) && is_as(alloc, copy, before)?)),
-        Err(fault) => Ok(seen(
-            Step::Join,
-            fault == JoinFault::Memory && is_as(alloc, map, before)?,
-        )),
+        Ok(()) => seen(Step::Done, has_joined(map) && is_as(copy, SET[5])),
+        Err(fault) => seen(Step::Join, fault == JoinFault::Memory && is_as(map, SET[5])),
     }
 }
 
-fn copy_step<'a>(
-    alloc: Global,
-    map: &mut SmallMap<'a>,
-    other: &SmallMap<'a>,
-    before: &[u32],
-) -> Result<Step, AllocError> {
+fn copy_step<'a>(map: &mut SmallMap<'a>, other: &SmallMap<'a>) -> Step {
     match map.copy() {
         Ok(copy) => {
-            let is_alike = is_as(alloc, &copy, before)?;
-            Ok(seen(join_step(alloc, map, &copy, other, before)?, is_alike))
+            let is_alike = is_as(&copy, SET[5]);
+            seen(join_step(map, &copy, other), is_alike)
         }
-        Err(_) => Ok(seen(Step::Copy, is_as(alloc, map, before)?)),
+        Err(_) => seen(Step::Copy, is_as(map, SET[5])),
     }
 }
 
-fn map_step<'a>(
-    alloc: Global,
-    small: &'a LocalHeap,
-    other: &SmallMap<'a>,
-) -> Result<Step, AllocError> {
+fn map_step<'a>(small: &'a LocalHeap, other: &SmallMap<'a>) -> Step {
     let mut map = ByKey::new(small);
-    if let Some(step) = set_each(alloc, &mut map, small)? {
-        return Ok(step);
+    match set_each(&mut map, small) {
+        Some(step) => step,
+        None => copy_step(&mut map, other),
     }
-    let before = shown(alloc, &map)?;
-    copy_step(alloc, &mut map, other, &before)
 }
 
 fn map_within(alloc: Global, octets: usize) -> Result<Step, AllocError> {
     let small = LocalHeap::new(alloc, octets)?;
     let ample = LocalHeap::new(alloc, 1 << 16)?;
     let other = map_of(&ample, &[(30, &[30, 1, 2, 3, 4, 5]), (35, &[35])])?;
-    let step = map_step(alloc, &small, &other)?;
+    let step = map_step(&small, &other);
     Ok(seen(step, small.used() == 0))
+}
+
+// Whether one of these heaps ends at that step.
+fn map_meets(alloc: Global, wanted: Step) -> Result<bool, AllocError> {
+    for size in 1..256 {
+        if map_within(alloc, 16 * size)? == wanted {
+            return Ok(true);
+        }
+    }
+    Ok(false)
 }
 
 #[test]
 fn a_map_is_as_before_after_each_refused_growth(rt: HostRuntime) -> Result<(), Fail> {
-    let mut met = Vec::new(rt.alloc());
-    for size in 1..256 {
-        let step = map_within(rt.alloc(), 16 * size)?;
-        met.push(step)?;
-        if step == Step::Done {
-            break;
-        }
+    for step in [Step::Reserve, Step::Set, Step::Copy, Step::Join, Step::Done] {
+        assert!(rt; map_meets(rt.alloc(), step)?);
     }
-    let wanted = [Step::Reserve, Step::Set, Step::Copy, Step::Join, Step::Done];
-    assert!(rt; meets(&met, &wanted), "{met:?}");
+    assert!(rt; !map_meets(rt.alloc(), Step::Wrong)?);
     Ok(())
 }

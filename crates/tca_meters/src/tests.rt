@@ -4,6 +4,8 @@ mod specs;
 
 use super::*;
 use slow::{Kind, Slow};
+use std::alloc::Global;
+use std::fmt::Display;
 use std::process::Abort;
 use std::test::*;
 use tca_buckets::{Bucket, ticks};
@@ -166,98 +168,121 @@ fn a_packet_fits_exactly_or_below(rt: HostRuntime) -> Result<(), Fail> {
     Ok(())
 }
 
-#[test]
-fn precolours_count_where_aware(rt: HostRuntime) -> Result<(), Fail> {
-    let aware = SrTcm::new(1000, 2000, 1000, true).ok().ok_or("a meter")?;
-    let blind = SrTcm::new(1000, 2000, 1000, false).ok().ok_or("a meter")?;
-    for (octets, dscp, want, left) in [
-        (100, 14, Colour::Red, (2000, 1000)),
-        (1000, 12, Colour::Yellow, (2000, 0)),
-        (2000, 46, Colour::Green, (0, 1000)),
-    ] {
-        let pre = precolour(dscp, Colour::Green);
-        let (colour, state) = step(&rt, &aware, aware.start(), 0, T, octets, pre);
-        assert!(rt; (colour, levels(state)) == (want, left));
-        let (colour, _) = step(&rt, &blind, blind.start(), 0, T, octets, pre);
-        assert!(rt; colour == Colour::Green);
-    }
-    Ok(())
+/// What a full meter answers to a packet at the time of the worked examples.
+fn offered(meter: &SrTcm, octets: u32, pre: Colour) -> (Colour, (u64, u64)) {
+    let (colour, state) = meter.offer(meter.advance(meter.start(), 0, T), octets, pre);
+    (colour, levels(state))
+}
+
+/// Whether a code point counts at an aware meter, which then leaves these levels, and not at one that is blind.
+fn counts_where_aware(octets: u32, dscp: u8, want: (Colour, (u64, u64))) -> Option<bool> {
+    let aware = SrTcm::new(1000, 2000, 1000, true).ok()?;
+    let blind = SrTcm::new(1000, 2000, 1000, false).ok()?;
+    let pre = precolour(dscp, Colour::Green);
+    let (colour, _) = offered(&blind, octets, pre);
+    Some(offered(&aware, octets, pre) == want && colour == Colour::Green)
 }
 
 #[test]
+fn precolours_count_where_aware(rt: HostRuntime) {
+    let red = (Colour::Red, (2000, 1000));
+    let yellow = (Colour::Yellow, (2000, 0));
+    let green = (Colour::Green, (0, 1000));
+    assert!(rt; counts_where_aware(100, 14, red) == Some(true));
+    assert!(rt; counts_where_aware(1000, 12, yellow) == Some(true));
+    assert!(rt; counts_where_aware(2000, 46, green) == Some(true));
+}
+
+/// The greatest rate and size, and one above it.
+const MOST: u64 = 1_000_000_000_000;
+
+const OVER: u64 = 1_000_000_000_001;
+
+const SINGLE_RATES: [(u64, u64, u64, Option<MeterFault>); 7] = [
+    (OVER, 0, 0, Some(MeterFault::NoBurst)),
+    (OVER, 1, 0, Some(MeterFault::RateRange)),
+    (1, OVER, 0, Some(MeterFault::RateRange)),
+    (1, 0, OVER, Some(MeterFault::RateRange)),
+    (MOST, MOST, MOST, None),
+    (0, 1, 0, None),
+    (0, 0, 1, None),
+];
+
+const PEAK_RATES: [(u64, u64, u64, u64, Option<MeterFault>); 9] = [
+    (1, 0, OVER, 1, Some(MeterFault::NoBurst)),
+    (1, 1, OVER, 0, Some(MeterFault::NoBurst)),
+    (MOST, 1, OVER, 1, Some(MeterFault::PeakBelowCommitted)),
+    (0, OVER, 1, OVER, Some(MeterFault::PeakBelowCommitted)),
+    (OVER, 1, 0, 1, Some(MeterFault::RateRange)),
+    (1, OVER, 1, 1, Some(MeterFault::RateRange)),
+    (1, 1, 1, OVER, Some(MeterFault::RateRange)),
+    (MOST, MOST, MOST, MOST, None),
+    (0, 1, 0, 1, None),
+];
+
+const EXCESS_RATES: [(u64, u64, u64, u64, Option<MeterFault>); 8] = [
+    (OVER, 0, OVER, 0, Some(MeterFault::NoBurst)),
+    (OVER, 1, 1, 0, Some(MeterFault::RateRange)),
+    (1, OVER, 1, 0, Some(MeterFault::RateRange)),
+    (1, 1, OVER, 0, Some(MeterFault::RateRange)),
+    (1, 0, 1, OVER, Some(MeterFault::RateRange)),
+    (MOST, MOST, MOST, MOST, None),
+    (1, 1, 0, 0, None),
+    (1, 0, 0, 1, None),
+];
+
+#[test]
 fn faults_come_in_order(rt: HostRuntime) {
-    let most = 1_000_000_000_000;
-    let over = most + 1;
-    for (cir, cbs, ebs, want) in [
-        (over, 0, 0, Some(MeterFault::NoBurst)),
-        (over, 1, 0, Some(MeterFault::RateRange)),
-        (1, over, 0, Some(MeterFault::RateRange)),
-        (1, 0, over, Some(MeterFault::RateRange)),
-        (most, most, most, None),
-        (0, 1, 0, None),
-        (0, 0, 1, None),
-    ] {
+    for (cir, cbs, ebs, want) in SINGLE_RATES {
         assert!(rt; SrTcm::new(cir, cbs, ebs, false).err() == want);
     }
-    for (pir, pbs, cir, cbs, want) in [
-        (1, 0, over, 1, Some(MeterFault::NoBurst)),
-        (1, 1, over, 0, Some(MeterFault::NoBurst)),
-        (most, 1, over, 1, Some(MeterFault::PeakBelowCommitted)),
-        (0, over, 1, over, Some(MeterFault::PeakBelowCommitted)),
-        (over, 1, 0, 1, Some(MeterFault::RateRange)),
-        (1, over, 1, 1, Some(MeterFault::RateRange)),
-        (1, 1, 1, over, Some(MeterFault::RateRange)),
-        (most, most, most, most, None),
-        (0, 1, 0, 1, None),
-    ] {
+    for (pir, pbs, cir, cbs, want) in PEAK_RATES {
         assert!(rt; TrTcm::new(pir, pbs, cir, cbs, false).err() == want);
     }
-    for (cir, cbs, eir, ebs, want) in [
-        (over, 0, over, 0, Some(MeterFault::NoBurst)),
-        (over, 1, 1, 0, Some(MeterFault::RateRange)),
-        (1, over, 1, 0, Some(MeterFault::RateRange)),
-        (1, 1, over, 0, Some(MeterFault::RateRange)),
-        (1, 0, 1, over, Some(MeterFault::RateRange)),
-        (most, most, most, most, None),
-        (1, 1, 0, 0, None),
-        (1, 0, 0, 1, None),
-    ] {
+    for (cir, cbs, eir, ebs, want) in EXCESS_RATES {
         assert!(rt; Rfc4115::new(cir, cbs, eir, ebs, true, false).err() == want);
     }
 }
 
-#[test]
-fn faults_say_why(rt: HostRuntime) -> Result<(), Fail> {
-    for (fault, number, text) in [
-        (
-            MeterFault::NoBurst,
-            1,
-            "no burst size to meter by: expected one above 0, and for RFC 2698 both",
-        ),
-        (
-            MeterFault::PeakBelowCommitted,
-            2,
-            "the peak rate is below the committed rate: expected it to be at least that",
-        ),
-        (
-            MeterFault::RateRange,
-            3,
-            "a rate or a burst size is out of range: expected each to be at most 1000000000000",
-        ),
-    ] {
-        assert!(rt; fault.number() == number);
-        let said = format!(in rt.alloc(); "{fault}")?;
-        assert!(rt; said.as_str() == text);
+/// The faults, each with its number and its text.
+const FAULTS: [(MeterFault, u8, &'static str); 3] = [
+    (
+        MeterFault::NoBurst,
+        1,
+        "no burst size to meter by: expected one above 0, and for RFC 2698 both",
+    ),
+    (
+        MeterFault::PeakBelowCommitted,
+        2,
+        "the peak rate is below the committed rate: expected it to be at least that",
+    ),
+    (
+        MeterFault::RateRange,
+        3,
+        "a rate or a burst size is out of range: expected each to be at most 1000000000000",
+    ),
+];
+
+fn says<F: Display + Drop>(alloc: Global, fault: F, text: &str) -> bool {
+    match format!(in alloc; "{fault}") {
+        Ok(line) => line.as_str() == text,
+        Err(_) => false,
     }
-    let numbers = [
-        Colour::Green.number(),
-        Colour::Yellow.number(),
-        Colour::Red.number(),
-    ];
-    assert!(rt; numbers == [0, 1, 2]);
-    assert!(rt; Colour::Green < Colour::Yellow && Colour::Yellow < Colour::Red);
+}
+
+#[test]
+fn faults_say_why(rt: HostRuntime) {
+    for (fault, number, text) in FAULTS {
+        assert!(rt; fault.number() == number && says(rt.alloc(), fault, text));
+    }
+}
+
+#[test]
+fn colours_rise(rt: HostRuntime) {
+    let (green, yellow, red) = (Colour::Green, Colour::Yellow, Colour::Red);
+    assert!(rt; [green.number(), yellow.number(), red.number()] == [0, 1, 2]);
+    assert!(rt; green < yellow && yellow < red);
     colours_worsen();
-    Ok(())
 }
 
 const RATES: [u64; 11] = [0, 1, 3, 7, 333, 500, 999, 1000, 1001, 1999, 3000];
@@ -400,21 +425,32 @@ fn colours_of_fits_are_those_by_single_tokens(rt: HostRuntime) {
     }
 }
 
+fn empty_levels() -> Option<Levels> {
+    let committed = Bucket::new(0, MOST)?;
+    let excess = Bucket::new(0, 5)?;
+    Some(Levels { committed, excess })
+}
+
+fn fills(meter: &SrTcm, empty: &Levels) -> bool {
+    let none = levels(meter.advance(*empty, 7, 7));
+    let some = levels(meter.advance(*empty, 7, 10));
+    let all = levels(meter.advance(*empty, 7, 1007));
+    let full = meter.start();
+    let more = meter.advance(*empty, 7, 1008);
+    let last = meter.advance(*empty, 0, (1 << 48) - 1);
+    none == (0, 0) && some == (3_000_000_000, 0) && all == (MOST, 0) && more == full && last == full
+}
+
+fn great_buckets_fill() -> Option<bool> {
+    let meter = SrTcm::new(MOST, MOST, 5, false).ok()?;
+    let empty = empty_levels()?;
+    Some(fills(&meter, &empty))
+}
+
 /// Where a rate is a multiple of 1000, each millisecond brings exactly its thousandth.
 #[test]
-fn great_rates_fill_great_buckets(rt: HostRuntime) -> Result<(), Fail> {
-    let most = 1_000_000_000_000;
-    let meter = SrTcm::new(most, most, 5, false).ok().ok_or("a meter")?;
-    let empty = Levels {
-        committed: Bucket::new(0, most).ok_or("a bucket")?,
-        excess: Bucket::new(0, 5).ok_or("a bucket")?,
-    };
-    assert!(rt; levels(meter.advance(empty, 7, 7)) == (0, 0));
-    assert!(rt; levels(meter.advance(empty, 7, 10)) == (3_000_000_000, 0));
-    assert!(rt; levels(meter.advance(empty, 7, 1007)) == (most, 0));
-    assert!(rt; meter.advance(empty, 7, 1008) == meter.start());
-    assert!(rt; meter.advance(empty, 0, (1 << 48) - 1) == meter.start());
-    assert!(rt; ticks(most - 1, 0, 1) == 999_999_999);
-    assert!(rt; ticks(most - 1, 1, 2) == 1_000_000_000);
-    Ok(())
+fn great_rates_fill_great_buckets(rt: HostRuntime) {
+    assert!(rt; great_buckets_fill() == Some(true));
+    assert!(rt; ticks(MOST - 1, 0, 1) == 999_999_999);
+    assert!(rt; ticks(MOST - 1, 1, 2) == 1_000_000_000);
 }

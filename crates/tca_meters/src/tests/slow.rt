@@ -27,7 +27,7 @@ pub(super) fn count(rate: u64, from: u64, to: u64, most: u64) -> u128 {
 }
 
 /// By which rules tokens come in and packets are judged.
-#[derive(Clone, Copy, Debug)]
+#[derive(Clone, Copy)]
 pub enum Kind {
     Rfc2697,
     Rfc2698,
@@ -36,7 +36,7 @@ pub enum Kind {
 
 /// A meter with what its buckets have. The second bucket is the excess or the peak bucket, and has a
 /// rate but in RFC 2697.
-#[derive(Clone, Copy, Debug)]
+#[derive(Clone, Copy)]
 pub struct Slow {
     pub kind: Kind,
     pub cir: u64,
