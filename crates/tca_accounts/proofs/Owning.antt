@@ -1,5 +1,5 @@
 -- Entering the pairs of accounts one by one.
-use Rattle.std.proofs.Common.{◌≡◌, ℕ, zero, ◌+◌, ◌<◌, ◌⊎◌, inl, inr, Bool, true, false, ◌&&◌, ◌||◌, not, cond, eqb, List, [], ◌∷◌, ◌++◌, length, map, Option, Some, None, IfSome, suc, is_none, is_some, refl, sym, ap, ap₂, drop, get_or, slice_get, add-one, append_assoc, ◌∙◌, arith}
+use Rattle.std.proofs.Common.{◌≡◌, ℕ, zero, ◌+◌, ◌<◌, ◌⊎◌, inl, inr, Bool, true, false, ◌&&◌, ◌||◌, not, cond, eqb, List, [], ◌∷◌, ◌++◌, length, map, Option, Some, None, IfSome, suc, is_none, refl, sym, ap, ap₂, drop, get_or, slice_get, add-one, append_assoc, ◌∙◌, arith}
 use Rattle.std.proofs.lemmas.Bool.Decides.{nat_tests}
 use Rattle.std.proofs.lemmas.Bool.{cases_eq, cases_Bool, eq-eqb, false≢true, ne_eqb}
 use Rattle.std.proofs.Math.ListN.{length-set, set}
@@ -110,9 +110,6 @@ goes_on a xs b ys c zs h g = record {
   owner = λ more q. h.owner more q ∙ g.owner more q;
   are_new = λ more. h.are_new more ∙ g.are_new more;
 }
-
-pub from_start : (a xs : Owned) → GoesOn a xs a xs
-from_start a xs = record { owner = λ more q. refl; are_new = λ more. refl }
 
 -- what the map says of an entry more
 pub gains_of : (old : Owned) (k : Pair) (n : ℕ) (new : Owned) → ((q : Pair) → owner_in new q ≡ cond (is_at (pair_cmp k) q) (Some n) (owner_in old q)) → Gains old k n new

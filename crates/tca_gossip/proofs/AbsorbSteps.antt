@@ -1,18 +1,18 @@
 -- Going through runs: the first fault, and what is new in them.
-use Rattle.std.proofs.Common.{◌≡◌, ◌≢◌, ℕ, suc, zero, ◌+◌, ◌-◌, ◌<◌, ◌≤◌, ◌*◌, Bool, true, false, cond, ◌&&◌, nat_lt, ◌==◌, Option, None, Some, Result, Ok, Err, IfOk, IfErr, OnOk, List, [], ◌∷◌, ◌++◌, length, take, drop, get_or, slice_get, refl, sym, ap, ◌∙◌, subst, arith, add-one, append_assoc, length-append}
+use Rattle.std.proofs.Common.{◌≡◌, ℕ, suc, zero, ◌+◌, ◌-◌, ◌<◌, ◌≤◌, ◌*◌, true, false, cond, ◌&&◌, nat_lt, ◌==◌, Option, None, Some, Err, List, [], ◌∷◌, ◌++◌, length, take, drop, get_or, slice_get, refl, sym, ap, ◌∙◌, subst, arith, add-one, append_assoc, length-append}
 use Rattle.std.proofs.Math.Seq.{drop-cons}
 use Rattle.std.proofs.Math.ListN.{drop_of_length-le}
 use Rattle.std.proofs.lemmas.List.{append-nil, take_all}
-use Rattle.std.proofs.lemmas.Bool.{eq-eqb, eqb-true, eqb-false, lt-ltb, ltb-false}
+use Rattle.std.proofs.lemmas.Bool.{eq-eqb, eqb-true, eqb-false, ltb-false}
 use Rattle.std.specs.List.{AllByRecursion}
 use Rattle.tca_report.specs.report.Reports.{PacketReport}
 use Rattle.tca_join.specs.Maps.{Rises}
 use Rattle.tca_join.proofs.Sets.{all_more}
 use Rattle.tca_log.specs.declared.fault.LogFault.{LogFault}
-use Rattle.tca_gossip.specs.Replicas.{ReplicaView, IsReplica, with_origin, of, appended, append_one, chain_of}
+use Rattle.tca_gossip.specs.Replicas.{ReplicaView, with_origin, of, appended, append_one, chain_of}
 use Rattle.tca_join.specs.Chains.{differ_at}
-use Rattle.tca_gossip.specs.Runs.{RunView, AreRuns, Fault, OwnAhead, Gap, forked, same_report, fault_of, first_fault, or_else, rests, rest_of, absorbed, IsOutcome, Outcome, Stopped}
-use Rattle.tca_gossip.specs.Answers.{outcome_of, fault_view, IsRefusal, IsStop, IsStopOf, IsRefusedFor}
+use Rattle.tca_gossip.specs.Runs.{RunView, AreRuns, Fault, OwnAhead, Gap, forked, same_report, fault_of, first_fault, or_else, rests, rest_of, absorbed}
+use Rattle.tca_gossip.specs.Answers.{outcome_of, fault_view, IsRefusal, IsStop, IsRefusedFor}
 use Rattle.tca_gossip.specs.declared.fault.AbsorbFault.{AbsorbFault}
 use Rattle.tca_gossip.specs.declared.fault.AbsorbFault.TheVariants.{Gap as gap, Forked as forked_at, OwnAhead as own_ahead, Stopped as stopped_at}
 use Rattle.tca_gossip.proofs.Appends.{appended_more, appended_name, chain_appended, of_append, of_tagged, of_other}
@@ -42,10 +42,6 @@ module _ (name : ℕ) (held : ℕ → List PacketReport) (runs : List RunView) (
 pub fault_ends : (name : ℕ) (held : ℕ → List PacketReport) (runs : List RunView) (i : ℕ) → length runs ≤ i → first_fault name held runs ≡ first_fault name held (drop i runs) → None ≡ first_fault name held runs
 unfolding first_fault
 fault_ends name held runs i h so_far = sym (so_far ∙ ap (first_fault name held) (drop_of_length-le runs h))
-
-pub all_start : (v : ReplicaView) → v ≡ appended v []
-unfolding appended
-all_start v = refl
 
 one_of : (v : ReplicaView) (p : ℕ × PacketReport) → append_one v p ≡ appended v (p ∷ [])
 unfolding appended
@@ -278,12 +274,6 @@ refused_state v runs (gap origin have from) ok = refl
 refused_state v runs (forked_at origin at) ok = refl
 refused_state v runs (own_ahead have said) ok = refl
 refused_state v runs (stopped_at taken cause) ok = absurd ok
-
-pub refused_outcome : (name : ℕ) (held : ℕ → List PacketReport) (runs : List RunView) (f : AbsorbFault) → IsRefusal f → fault_view (Some f) ≡ first_fault name held runs → IsOutcome name held runs (outcome_of (Err f))
-refused_outcome name held runs (gap origin have from) ok e = sym e
-refused_outcome name held runs (forked_at origin at) ok e = sym e
-refused_outcome name held runs (own_ahead have said) ok e = sym e
-refused_outcome name held runs (stopped_at taken cause) ok e = absurd ok
 
 -- what runs have that were gone through, with what the next one has
 pub rests_next : (held : ℕ → List PacketReport) (runs : List RunView) (i : ℕ) (r : RunView) → i < length runs → r ≡ get_or runs i r → rests held (take (i + 1) runs) ≡ rests held (take i runs) ++ with_origin r.origin (rest_of held r)

@@ -11,7 +11,7 @@ use Rattle.tca_join.proofs.Differ.{longer_covers}
 use Rattle.tca_join.proofs.Unions.{union_longer}
 use Rattle.tca_report.proofs.lemmas.report.Order.{report_total, report_exact}
 use Rattle.tca_accounts.specs.Plans.{AccountPlan}
-use Rattle.tca_gossip.specs.Replicas.{ReplicaView, IsReplica, append_one, chain_of, least_of, merge_clash, merged_with, new_replica, or_empty}
+use Rattle.tca_gossip.specs.Replicas.{ReplicaView, IsReplica, append_one, chain_of, least_of, merge_clash, merged_with, or_empty}
 use Rattle.tca_gossip.specs.Kept.{AreContents, IsOwnWithin, held_in, replica_of, BillingView, Bills}
 use Rattle.tca_gossip.proofs.Takes.{replica_append, replica_opened}
 use Rattle.tca_gossip.proofs.Sizes.{own_within}

@@ -55,11 +55,6 @@ chain_appended v (p ∷ ps) origin h =
     ∙ append_assoc (chain_of v origin) (cond (origin == p.0) (p.1 ∷ []) []) (of origin ps)
     ∙ ap (λ (l : List PacketReport). chain_of v origin ++ l) (elim (origin == p.0) as (λ b. cond b (p.1 ∷ []) [] ++ of origin ps ≡ cond b (p.1 ∷ of origin ps) (of origin ps)) [ true ↦ refl | false ↦ refl ])
 
-pub rises_appended : (v : ReplicaView) (ps : List (ℕ × PacketReport)) → IsStrictlySortedBy report_cmp v.log → IsStrictlySortedBy report_cmp (appended v ps).log
-unfolding appended
-rises_appended v [] h = h
-rises_appended v (p ∷ ps) h = rises_appended (append_one v p) ps (rises_put report_cmp report_total p.1 v.log h)
-
 pub log_appended : (v : ReplicaView) (ps : List (ℕ × PacketReport)) → IsStrictlySortedBy report_cmp v.log → (appended v ps).log ≡ in_order report_cmp (v.log ++ reports_in ps)
 unfolding appended reports_in has
 log_appended v [] h = sym (ap (in_order report_cmp) (append-nil v.log) ∙ in_order_of_rising report_cmp report_total report_exact v.log h)

@@ -1,5 +1,5 @@
 -- Where a merge clashes, and what else it may be refused for.
-use Rattle.std.proofs.Common.{◌≡◌, ℕ, Bool, true, false, ◌||◌, Option, None, Some, List, [], ◌∷◌, refl, sym, ap, ◌∙◌, subst}
+use Rattle.std.proofs.Common.{◌≡◌, ℕ, Bool, true, false, ◌||◌, Option, None, Some, List, [], ◌∷◌, refl, sym, ap, ◌∙◌}
 use Rattle.tca_report.specs.report.Reports.{PacketReport}
 use Rattle.tca_join.specs.Chains.{ChainView, chain_clash, chain_full, differ_at}
 use Rattle.tca_join.specs.Faults.{IsJoinFault, refusal}

@@ -1,19 +1,17 @@
 -- Going through chains for a delta and for a summary.
-use Rattle.std.proofs.Common.{◌≡◌, ℕ, suc, zero, ◌+◌, ◌-◌, ◌<◌, ◌≤◌, true, false, cond, List, [], ◌∷◌, ◌++◌, length, take, drop, get_or, nat_lt, refl, sym, ap, ◌∙◌, subst, arith, append_assoc}
+use Rattle.std.proofs.Common.{◌≡◌, ℕ, ◌+◌, ◌<◌, ◌≤◌, cond, List, [], ◌∷◌, ◌++◌, length, drop, get_or, nat_lt, refl, sym, ap, ◌∙◌, arith, append_assoc}
 use Rattle.std.proofs.Math.ListN.{drop_of_length-le}
 use Rattle.std.proofs.lemmas.List.{append-nil}
 use Rattle.std.proofs.lemmas.Bool.{lt-ltb, le-ltb}
 use Rattle.std.specs.List.{AllByRecursion}
 use Rattle.tca_report.specs.report.Reports.{PacketReport}
 use Rattle.tca_join.specs.Chains.{ChainView, IsChain}
-use Rattle.tca_join.specs.Maps.{Rises, MapProper, with_value}
+use Rattle.tca_join.specs.Maps.{MapProper}
 use Rattle.tca_gossip.specs.Runs.{RunView, AreRuns, delta_of}
-use Rattle.tca_gossip.specs.Coupling.{counts_of}
 use Rattle.tca_gossip.specs.Kept.{before_others, held_in}
 use Rattle.tca_gossip.proofs.AbsorbSteps.{cut}
 use Rattle.tca_gossip.proofs.Deltas.{delta_runs}
 use Rattle.tca_gossip.proofs.Plains.{rises_held}
-use Rattle.tca_gossip.proofs.Worlds.{length_drop}
 
 -- chains within the limit give a delta
 all_within : (es : List (ℕ × ChainView PacketReport)) → AllByRecursion (λ e. IsChain e.1) es → AllByRecursion (λ (e : ℕ × List PacketReport). length e.1 ≤ 4194304) (held_in es)

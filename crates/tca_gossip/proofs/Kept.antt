@@ -1,11 +1,11 @@
 -- What stays true of a world.
-use Rattle.std.proofs.Common.{◌≡◌, ℕ, ◌+◌, ◌-◌, ◌<◌, ◌≤◌, max, true, false, cond, List, [], ◌∷◌, ◌++◌, length, take, drop, nat_lt, ◌==◌, refl, sym, ap, ◌∙◌, subst, arith, length-append}
+use Rattle.std.proofs.Common.{◌≡◌, ℕ, ◌+◌, ◌≤◌, max, true, false, cond, List, [], ◌∷◌, ◌++◌, length, take, drop, ◌==◌, refl, sym, ap, ◌∙◌, subst, arith, length-append}
 use Rattle.std.specs.List.{AllByRecursion}
-use Rattle.std.proofs.lemmas.Bool.{eqb-true, eqb-false, ltb-true, true≢false}
+use Rattle.std.proofs.lemmas.Bool.{eqb-true, eqb-false, true≢false}
 use Rattle.tca_report.specs.report.Reports.{PacketReport}
 use Rattle.tca_gossip.specs.Runs.{RunView}
-use Rattle.tca_gossip.specs.Machines.{Message, Counts, Parts, Machine, held_prefix, at_name, took, raised, joined, sends, answer_of, run_between, is_name, IsPart, IsSound, IsWorld, new_machine}
-use Rattle.tca_gossip.proofs.Worlds.{take_within, drop_within, length_take, length_drop, drop_front, at_same, at_other}
+use Rattle.tca_gossip.specs.Machines.{Message, Counts, Parts, Machine, held_prefix, at_name, took, raised, joined, sends, is_name, IsPart, IsSound, IsWorld, new_machine}
+use Rattle.tca_gossip.proofs.Worlds.{take_within, drop_within, length_drop, at_same, at_other}
 
 all_parts : {A : Type 0} (P Q : A → Type 0) → ((x : A) → P x → Q x) → (xs : List A) → AllByRecursion P xs → AllByRecursion Q xs
 all_parts P Q f [] h = tt
@@ -75,19 +75,6 @@ world_joined m n k world = record {
   strangers = world.strangers;
   sound = world.sound;
 }
-
-pub answer_parts : (m : Machine) (n : ℕ) (since : ℕ → ℕ) (os : List ℕ) → IsWorld m → AllByRecursion (IsPart m) (answer_of m n since os)
-unfolding answer_of
-answer_parts m n since [] world = tt
-answer_parts m n since (o ∷ os) world =
-    elim (nat_lt (since o) (m.held n o)) as (λ b. nat_lt (since o) (m.held n o) ≡ b → AllByRecursion (IsPart m) (cond b (run_between m n (since o) o ∷ answer_of m n since os) (answer_of m n since os))) [
-      | true ↦ λ is. (between (since o) (m.held n o) (m.arrivals o) (ltb-true (since o) (m.held n o) is) (world.within n o), answer_parts m n since os world)
-      | false ↦ λ is. answer_parts m n since os world
-    ] refl where
-      between : (s h : ℕ) (xs : List PacketReport) → s < h → h ≤ length xs → (s + length (drop s (take h xs)) ≤ length xs) × (drop s (take h xs) ≡ take (length (drop s (take h xs))) (drop s xs))
-      between s h xs l w =
-          let len : length (drop s (take h xs)) ≡ h - s = length_drop s (take h xs) ∙ ap (λ z. z - s) (length_take h xs w) in
-          (omega (arith, len), drop_front h s xs ∙ ap (λ z. take z (drop s xs)) (sym len))
 
 pub world_sends : (m : Machine) (message : Message) → IsWorld m → IsSound m message → IsWorld (sends m message)
 world_sends m message world sound = record { within = world.within; own = world.own; strangers = world.strangers; sound = all_more (IsSound m) m.sent message world.sound sound }

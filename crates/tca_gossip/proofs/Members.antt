@@ -36,7 +36,7 @@ any_at p (x ∷ xs) n e h = elim (or_cases (x == n) (list_any (λ k. k == n) xs)
   | inr more ↦ or_right (p x) (list_any p xs) (any_at p xs n more h)
 ]
 
--- a replica's log holds just what is in some held_prefix
+-- a replica's log holds just the arrivals that it holds of the replicas
 pub log_is : (m : Machine) (n : ℕ) (v : ReplicaView) → IsWorld m → IsReplica v → Shows m n v → (q : PacketReport) → has report_cmp v.log q ≡ in_log m n q
 log_is m n v world replica shows q =
     replica.same q

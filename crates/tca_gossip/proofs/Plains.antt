@@ -1,7 +1,7 @@
 -- What is kept of chains, and the chains that hold something.
-use Rattle.std.proofs.Common.{◌≡◌, ℕ, ◌<◌, Bool, true, false, cond, Option, None, Some, List, [], ◌∷◌, ◌++◌, ◌==◌, refl, sym, ap, ◌∙◌, subst, arith}
+use Rattle.std.proofs.Common.{◌≡◌, ℕ, ◌<◌, Bool, true, false, cond, Option, None, Some, List, [], ◌∷◌, ◌++◌, ◌==◌, refl, sym, ap, ◌∙◌, subst}
 use Rattle.std.specs.List.{AllByRecursion}
-use Rattle.std.proofs.lemmas.Bool.{eq-eqb, eqb-true}
+use Rattle.std.proofs.lemmas.Bool.{eqb-true}
 use Rattle.tca_report.specs.report.Reports.{PacketReport}
 use Rattle.tca_join.specs.Chains.{ChainView, chain, differ_at, longer, chain_clash, chain_joined}
 use Rattle.tca_join.specs.Maps.{get, put, Rises, with_value, join_with, merged, clash_key, clash_with, first_of}

@@ -1,6 +1,5 @@
 -- Going through runs to see whether they make a delta.
-use Rattle.std.proofs.Common.{◌≡◌, ℕ, ◌+◌, ◌<◌, ◌≤◌, List, [], ◌∷◌, length, drop, get_or, sym, subst, arith}
-use Rattle.std.proofs.Math.ListN.{drop_of_length-le}
+use Rattle.std.proofs.Common.{◌≡◌, ℕ, ◌+◌, ◌<◌, ◌≤◌, List, ◌∷◌, length, drop, get_or, sym, subst, arith}
 use Rattle.std.specs.List.{AllByRecursion}
 use Rattle.tca_join.proofs.Sets.{all_more}
 use Rattle.tca_gossip.specs.Runs.{RunView, AreRuns}
@@ -34,12 +33,6 @@ pub record AreSoFar (runs : List RunView) (least i : ℕ) : Type 0 where
   pub left : AreRuns runs → AreRunsFrom least (drop i runs)
   pub all : AreRunsFrom least (drop i runs) → AreRuns runs
 
-pub none_so_far : (runs : List RunView) → AreSoFar runs 0 0
-none_so_far runs = record { left = λ all. (from_none runs, all); all = λ rest. rest.1 } where
-  from_none : (rs : List RunView) → AllByRecursion (λ next. 0 ≤ next.origin) rs
-  from_none [] = tt
-  from_none (r ∷ rs) = (omega arith, from_none rs)
-
 module _ (runs : List RunView) (least i : ℕ) (r : RunView) (h : i < length runs) (is : r ≡ get_or runs i r) (so_far : AreSoFar runs least i) where
   pub next_run : AreRuns runs → Follows least r (drop (i + 1) runs)
   next_run all = first_run least r (drop (i + 1) runs) (subst (AreRunsFrom least) (cut runs i r h is) (so_far.left all))
@@ -49,6 +42,3 @@ module _ (runs : List RunView) (least i : ℕ) (r : RunView) (h : i < length run
     left = λ all. (next_run all).rest;
     all = λ rest. so_far.all (subst (AreRunsFrom least) (sym (cut runs i r h is)) (further least r (drop (i + 1) runs) (record { within = within; from = from; rest = rest })));
   }
-
-pub no_more_runs : (runs : List RunView) (least i : ℕ) → length runs ≤ i → AreSoFar runs least i → AreRuns runs
-no_more_runs runs least i h so_far = so_far.all (subst (AreRunsFrom least) (sym (drop_of_length-le runs h)) (tt, tt))

@@ -78,7 +78,7 @@ drop_drop a (suc b) (x ∷ xs) = drop_drop a b xs ∙ ap (λ n. drop n (x ∷ xs
   more : (a b : ℕ) → suc (b + a) ≡ suc b + a
   more a b = omega arith
 
--- the rest of a part goes on where the held_prefix ends
+-- the rest of a part goes on where the chain that is held ends
 rest_goes_on : (xs reports : List PacketReport) (h s : ℕ) → s ≤ h → reports ≡ take (length reports) (drop s xs) → IsFront (drop (h - s) reports) (drop h xs)
 rest_goes_on xs reports h s within part =
     let is : drop (h - s) reports ≡ take (length reports - (h - s)) (drop h xs) =

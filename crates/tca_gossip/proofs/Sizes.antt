@@ -1,16 +1,15 @@
 -- How logs and chains grow: the own chain stays within the log, and chains within their limit.
-use Rattle.std.proofs.Common.{◌≡◌, ◌≢◌, ◌≤◌, ◌<◌, ◌-◌, ℕ, suc, zero, ◌+◌, true, false, ◌||◌, cond, nat_lt, List, [], ◌∷◌, ◌++◌, ◌==◌, length, take, drop, None, refl, sym, ap, ◌∙◌, subst, arith, length-append}
-use Rattle.std.proofs.lemmas.Bool.{false≢true, eq-eqb, ne_eqb, eqb-true, eqb-false}
+use Rattle.std.proofs.Common.{◌≡◌, ◌≤◌, ◌<◌, ℕ, suc, ◌+◌, true, false, ◌||◌, List, [], ◌∷◌, ◌++◌, ◌==◌, length, refl, sym, ap, ◌∙◌, arith, length-append}
+use Rattle.std.proofs.lemmas.Bool.{false≢true, eqb-true}
 use Rattle.std.specs.List.{AllByRecursion, list_any}
 use Rattle.std.specs.Ordering.{eq_by_cmp, is_eq}
 use Rattle.std.specs.declared.cmp.Ordering.TheVariants.{Less, Equal, Greater}
 use Rattle.tca_report.specs.report.Reports.{PacketReport, report_cmp}
 use Rattle.tca_join.specs.Sets.{by_order, has, put}
-use Rattle.tca_gossip.specs.Replicas.{ReplicaView, IsReplica, append_one, appended, taken, with_origin, fresh_of, chain_of, of}
-use Rattle.tca_gossip.specs.Runs.{RunView, AreRuns, rests, rest_of}
+use Rattle.tca_gossip.specs.Replicas.{ReplicaView, IsReplica, append_one, appended, with_origin, chain_of, of}
+use Rattle.tca_gossip.specs.Runs.{RunView, rests, rest_of}
 use Rattle.tca_gossip.specs.Kept.{IsOwnWithin}
-use Rattle.tca_gossip.proofs.Appends.{appended_name, chain_appended, of_append, of_tagged, of_other}
-use Rattle.tca_gossip.proofs.Worlds.{length_drop}
+use Rattle.tca_gossip.proofs.Appends.{chain_appended, of_append, of_other}
 
 pub put_new : (k : PacketReport) (xs : List PacketReport) → has report_cmp xs k ≡ false → length (put report_cmp k xs) ≡ suc (length xs)
 unfolding put has
@@ -67,25 +66,3 @@ none_above held low [] o h le = refl
 none_above held low (r ∷ rs) o h le =
     of_append o (with_origin r.origin (rest_of held r)) (rests held rs)
     ∙ (λ i. of_other o r.origin (rest_of held r) (λ same. omega (arith, h.0, le, same)) i ++ none_above held low rs o h.1 le i)
-
-rest_within : (a b n : ℕ) → n ≤ 4194304 → b + a ≤ 4194304 → n + (a - (n - b)) ≤ 4194304
-rest_within a b n p q = omega (arith, p, q)
-
-pub rests_within : (held : ℕ → List PacketReport) (runs : List RunView) (o : ℕ) → AreRuns runs → length (held o) ≤ 4194304 → length (held o) + length (of o (rests held runs)) ≤ 4194304
-unfolding rests of
-rests_within held [] o are few = omega (arith, few)
-rests_within held (r ∷ rs) o are few =
-    let split : of o (rests held (r ∷ rs)) ≡ of o (with_origin r.origin (rest_of held r)) ++ of o (rests held rs) = of_append o (with_origin r.origin (rest_of held r)) (rests held rs) in
-    elim (o == r.origin) as (λ b. o == r.origin ≡ b → length (held o) + length (of o (rests held (r ∷ rs))) ≤ 4194304) [
-      | true ↦ λ at.
-          let same : o ≡ r.origin = eqb-true o r.origin at in
-          let mine : of o (rests held (r ∷ rs)) ≡ rest_of held r ++ [] = split ∙ (λ i. (ap (λ z. of z (with_origin r.origin (rest_of held r))) same ∙ of_tagged r.origin (rest_of held r)) i ++ none_above held r.origin rs o are.1 (omega (arith, same)) i) in
-          let count : length (of o (rests held (r ∷ rs))) ≡ length r.reports - (length (held o) - r.start) =
-          ap length mine ∙ length-append (rest_of held r) [] ∙ plus (length (rest_of held r)) ∙ length_drop (length (held r.origin) - r.start) r.reports ∙ ap (λ z. length r.reports - (length (held z) - r.start)) (sym same) in
-          subst (λ n. length (held o) + n ≤ 4194304) (sym count) (rest_within (length r.reports) r.start (length (held o)) few are.0)
-      | false ↦ λ at.
-          let others : of o (rests held (r ∷ rs)) ≡ of o (rests held rs) = split ∙ ap (λ (l : List PacketReport). l ++ of o (rests held rs)) (of_other o r.origin (rest_of held r) (eqb-false o r.origin at)) in
-          subst (λ (l : List PacketReport). length (held o) + length l ≤ 4194304) (sym others) (rests_within held rs o are.2 few)
-    ] refl where
-      plus : (n : ℕ) → n + 0 ≡ n
-      plus n = omega arith

@@ -13,11 +13,6 @@ use Rattle.tca_join.specs.Maps.{put as put_key}
 use Rattle.tca_accounts.specs.Plans.{AccountPlan}
 use Rattle.tca_gossip.specs.Replicas.{ReplicaView, append_one, appended, fresh_of, with_origin, taken, take_one, take_all, all_of, IsReplica, new_replica}
 
-pub take_all_name : (v : ReplicaView) (rs : List PacketReport) → (take_all v rs).name ≡ v.name
-unfolding take_all
-take_all_name v [] = refl
-take_all_name v (r ∷ rs) = take_all_name (take_one v r) rs ∙ elim (has report_cmp v.log r) as (λ b. (cond b v (append_one v (v.name, r))).name ≡ v.name) [ true ↦ refl | false ↦ refl ]
-
 -- one by one, or the new ones all at once
 pub take_all_is : (v : ReplicaView) (rs : List PacketReport) → take_all v rs ≡ taken v rs
 unfolding take_all fresh_of with_origin appended

@@ -35,7 +35,7 @@ length_drop zero xs = omega arith
 length_drop (suc n) [] = omega arith
 length_drop (suc n) (x ∷ xs) = omega (arith, length_drop n xs)
 
--- a held_prefix, and what follows it, is a longer held_prefix
+-- the first items of a list, and those that follow them, are the first of a greater number
 pub take_further : (n k : ℕ) (xs : List PacketReport) → n ≤ length xs → take n xs ++ take k (drop n xs) ≡ take (n + k) xs
 take_further zero k xs h = ap (λ m. take m xs) (zero_plus k) where
   zero_plus : (k : ℕ) → k ≡ 0 + k

@@ -1,5 +1,5 @@
 -- A world of replicas: what each took for itself, how much of that each holds, and all that was ever sent.
-use Rattle.std.specs.Prelude.{◌≡◌, ℕ, ◌+◌, ◌≤◌, max, Bool, false, cond, nat_lt, ◌==◌, Option, None, Some, List, [], ◌∷◌, ◌++◌, length, take, drop}
+use Rattle.std.specs.Prelude.{◌≡◌, ℕ, ◌+◌, ◌≤◌, max, Bool, false, cond, ◌==◌, Option, None, Some, List, [], ◌∷◌, ◌++◌, length, take, drop}
 use Rattle.std.specs.List.{AllByRecursion, list_any}
 use Rattle.tca_report.specs.report.Reports.{PacketReport}
 use Rattle.tca_gossip.specs.Replicas.{ReplicaView, chain_of}
@@ -24,7 +24,7 @@ new_machine names = record { names = names; arrivals = λ _. []; held = λ _ _. 
 abbrev pub is_name : Machine → ℕ → Bool
 is_name m n = list_any (λ k. k == n) m.names
 
--- the chain of o at n: the held_prefix of its arrivals
+-- the chain of o at n: as many of its arrivals as n holds, from the first on
 abbrev pub held_prefix : Machine → ℕ → ℕ → List PacketReport
 held_prefix m n o = take (m.held n o) (m.arrivals o)
 
@@ -43,11 +43,6 @@ took m n fresh = record {
 -- a run between two counts of what n holds
 abbrev pub run_between : Machine → ℕ → ℕ → ℕ → RunView
 run_between m n since o = record { origin = o; start = since; reports = drop since (held_prefix m n o) }
-
--- for each origin of which more is held than was said, the rest
-unfoldable pub answer_of : Machine → ℕ → (ℕ → ℕ) → List ℕ → List RunView
-answer_of m n since [] = []
-answer_of m n since (o ∷ os) = cond (nat_lt (since o) (m.held n o)) (run_between m n (since o) o ∷ answer_of m n since os) (answer_of m n since os)
 
 abbrev pub sends : Machine → Message → Machine
 sends m message = record { names = m.names; arrivals = m.arrivals; held = m.held; sent = m.sent ++ message ∷ [] }

@@ -36,7 +36,7 @@ pub data Reply : Type 0 where
   Nothing : Reply
   NoMemory : Reply
 
--- whether n holds a report: it is in the held_prefix of some arrivals
+-- whether n holds a report: it is among the arrivals that n holds of some replica
 abbrev pub in_log : Machine → ℕ → PacketReport → Bool
 in_log m n q = list_any (λ o. has report_cmp (held_prefix m n o) q) m.names
 

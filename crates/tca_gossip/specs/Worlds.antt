@@ -1,5 +1,5 @@
 -- What the calls of a world are given and answer, as the machine has it.
-use Rattle.std.specs.Prelude.{◌≡◌, ℕ, Bool, true, false, ◌++◌, ◌==◌, ◌<◌, Option, None, Some, Result, Ok, Err, List, [], ◌∷◌, length, map, slice_get}
+use Rattle.std.specs.Prelude.{◌≡◌, ℕ, Bool, false, ◌++◌, ◌==◌, ◌<◌, Option, None, Some, Result, Ok, Err, List, [], ◌∷◌, length, map, slice_get}
 use Rattle.std.specs.List.{list_any}
 use Rattle.tca_join.specs.declared.fault.JoinFault.{JoinFault}
 use Rattle.tca_gossip.specs.declared.step.Step.{Step}

@@ -19,7 +19,7 @@ use Rattle.tca_log.proofs.OrderedRows.Each.{beyond_new, beyond_held, beyond_none
 use Rattle.tca_report.specs.report.Reports.{PacketReport, report_cmp}
 use Rattle.tca_report.proofs.lemmas.report.Order.{report_total, report_exact}
 
--- a sorted list without what stands newly_disputed is the set of its members
+-- a sorted list of which each repeat is left out is the set of its members
 module _ {K : Type 0} (R : K → K → Ordering) (o : IsTotalOrder R) (exact : CmpEqualImpliesEq R) (E : K → K → Bool) (ties : (x y : K) → E x y ≡ eq_by_cmp R x y) where
   kept_alike : (k : K) (xs : List K) (q : K) → has R (dedup_from E k xs) q ≡ has R (k ∷ xs) q
   unfolding has

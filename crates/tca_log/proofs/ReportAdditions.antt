@@ -57,7 +57,7 @@ disputed_grows index disputed_identities key n =
       | false ↦ omega arith
     ]
 
--- one more report was with_report
+-- one more report
 pub reports_more : (index : List ByIdentity) (disputed_identities : List Identity) (keys : List ByIdentity) (i : ℕ) (key : ByIdentity) (n : AddedRows) → i < length keys → key ≡ get_or keys i key → with_reports index disputed_identities (drop (i + 1) keys) (with_report index disputed_identities key n) ≡ with_reports index disputed_identities (drop i keys) n
 unfolding with_reports
 reports_more index disputed_identities keys i key n h is =
@@ -82,7 +82,7 @@ count_snoc rs r i =
     one true = refl
     one false = refl
 
--- nothing was with_report yet
+-- before the first report
 notes_none : (rs : List PacketReport) (index : List ByIdentity) (disputed_identities : List Identity) → IsLog rs index disputed_identities → AreAdditions rs index disputed_identities [] [] []
 unfolding has contents
 notes_none rs index disputed_identities log = record {

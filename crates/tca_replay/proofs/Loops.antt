@@ -1,5 +1,5 @@
 -- Lists that are gone through from the front.
-use Rattle.std.proofs.Common.{◌≡◌, ℕ, zero, suc, ◌+◌, ◌<◌, ◌≤◌, false, List, [], ◌∷◌, ◌++◌, length, get_or, set, take, Option, Some, None, refl, sym, ap, ◌∙◌, arith, add-one, inl, inr}
+use Rattle.std.proofs.Common.{◌≡◌, ℕ, zero, suc, ◌+◌, ◌<◌, ◌≤◌, false, List, [], ◌∷◌, ◌++◌, length, get_or, set, take, Option, Some, None, refl, ap, ◌∙◌, arith, add-one, inl, inr}
 use Rattle.std.specs.Prelude.{map, sum_by, IfSome, slice_get}
 use Rattle.std.specs.List.{AllByRecursion}
 use Rattle.std.proofs.lemmas.Bool.{cases_lt}
@@ -11,7 +11,7 @@ use Rattle.tca_accounts.specs.Plans.{AccountPlan, PlannedAccount}
 use Rattle.tca_replay.specs.Lanes.{LaneView, lane_resumed}
 use Rattle.tca_accounts.proofs.Bills.{field_at}
 use Rattle.tca_accounts.proofs.Periods.{all_push}
-use Rattle.tca_replay.specs.Books.{all_steps, changed_rows, most_steps, steps_of, AreLanes, IsLaneOf, AreEmpty}
+use Rattle.tca_replay.specs.Books.{all_steps, changed_rows, most_steps, steps_of, IsLaneOf, AreEmpty}
 
 module _ {A : Type 0} (f : A → A) where
   -- the list with its first members changed
@@ -124,9 +124,6 @@ first_more plan marks n lanes meter other b inside meter-is other-is =
       ];
       empty = all_push (λ l. (l.rows ≡ []) × (l.changed ≡ None)) lanes new b.empty (refl, refl);
     }
-
-pub all_first : (plan : AccountPlan) (marks n : ℕ) (lanes : List (LaneView AnyMeter)) → AreFirst plan marks n lanes → n ≡ length plan.accounts → AreLanes plan marks lanes
-all_first plan marks n lanes b whole = record { count = b.count ∙ whole; each = λ k a l h. b.each k a l (omega arith) }
 
 -- lanes that are resumed keep their rows
 pub resumed_steps : (lanes : List (LaneView AnyMeter)) → most_steps lanes ≤ all_steps (map lane_resumed lanes)

@@ -92,12 +92,6 @@ fields_holds fields used (s ∷ ss) octets x e = go (λ more u rest h. fields_ho
 abbrev pub blank : FieldSpec
 blank = record { element = 0; enterprise = None; length = 0 }
 
-pub shortest_more : (specs : List FieldSpec) (i : ℕ) → i < length specs → shortest_of (drop i specs) ≡ least_of (get_or specs i blank) + shortest_of (drop (i + 1) specs)
-shortest_more specs i lt = rw (add-one) (ap shortest_of (drop-cons specs i blank lt))
-
-pub all_shortest : (specs : List FieldSpec) (i : ℕ) → length specs ≤ i → shortest_of (drop i specs) ≡ 0
-all_shortest specs i le = ap shortest_of (nil_from_length (drop i specs) (omega (arith, length-drop i specs)))
-
 -- one more field of a record
 pub fields_step : (fields : List FieldView) (used : ℕ) (specs : List FieldSpec) (i : ℕ) (octets : List ℕ) (x : ℕ × ℕ) → i < length specs
     → field_at (get_or specs i blank).length octets ≡ Some x

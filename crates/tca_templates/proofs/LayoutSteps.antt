@@ -11,7 +11,7 @@ use Rattle.tca_templates.specs.declared.layout.Spots.{Spots}
 use Rattle.tca_templates.specs.declared.layout.Choice.{Choice}
 use Rattle.tca_templates.specs.Records.{field_at}
 use Rattle.tca_templates.specs.Chosen.{is_field_of, chosen_of}
-use Rattle.tca_templates.specs.Layouts.{spot_in, fixed_spot, are_fixed, spot_of, spot_if, spots_of, spots_with, layout_of, IsLaidOut}
+use Rattle.tca_templates.specs.Layouts.{spot_in, fixed_spot, are_fixed, spot_of, spot_if, spots_of, spots_with, layout_of}
 use Rattle.tca_templates.proofs.Fields.{blank}
 
 -- choosing an element
@@ -140,14 +140,6 @@ fixed_next specs i lt ne =
 pub fixed_all : (specs : List FieldSpec) (i : ℕ) → length specs ≤ i → are_fixed (drop i specs) ≡ true
 unfolding are_fixed
 fixed_all specs i le = ap are_fixed (nil_from_length (drop i specs) (omega (arith, length-drop i specs)))
-
--- what is laid out
-pub laid_out : (c : Choice) (specs : List FieldSpec) (spots : Spots) → layout_of c specs ≡ Some spots → IsLaidOut c specs spots
-laid_out c specs spots h = go (are_fixed specs) refl h
-  where
-    go : (b : Bool) → are_fixed specs ≡ b → cond b (Some (spots_of c (λ e. fixed_spot e 0 specs))) None ≡ Some spots → IsLaidOut c specs spots
-    go true e h = let same : spots_of c (λ e. fixed_spot e 0 specs) ≡ spots = cc in record { fixed = e; spots_are = sym same }
-    go false e h = absurd cc
 
 pub laid_so : (c : Choice) (specs : List FieldSpec) → are_fixed specs ≡ true → layout_of c specs ≡ Some (spots_of c (λ e. fixed_spot e 0 specs))
 laid_so c specs e = ap (λ b. cond b (Some (spots_of c (λ e. fixed_spot e 0 specs))) None) e

@@ -1,6 +1,6 @@
 -- What each kind of set does.
 use Rattle.std.proofs.Common.{◌≡◌, ◌≢◌, ℕ, zero, suc, ◌+◌, [], ◌∷◌, length, get_or, add-one, drop-cons, ◌<◌, ◌≤◌, Bool, true, false, cond, List, drop, Option, Some, None, Result, Ok, refl, sym, ap, ◌∙◌, arith}
-use Rattle.std.specs.Prelude.{nat_lt, nat_le, ◌==◌, is_some}
+use Rattle.std.specs.Prelude.{nat_lt, ◌==◌, is_some}
 use Rattle.std.proofs.lemmas.Bool.Decides.{nat_tests}
 use Rattle.std.specs.Prelude.{◌||◌}
 use Rattle.std.specs.List.{list_any}
@@ -15,7 +15,6 @@ use Rattle.tca_templates.specs.Templates.{TemplateView, known}
 use Rattle.tca_templates.specs.Specifiers.{template_front}
 use Rattle.tca_templates.specs.Records.{data_front}
 use Rattle.tca_templates.specs.Reading.{ReadMessage, with_templates, with_records, body_of, data_of, set_of, sets_on}
-use Rattle.tca_templates.specs.Fields.{is_template_set, is_read}
 
 is_number : (m n : ℕ) → m ≡ n → (m == n) ≡ true
 is_number m n h = grind (arith, nat_tests, h)
@@ -101,17 +100,6 @@ none_at f [] i h lt = absurd (omega arith)
 none_at f (s ∷ ss) zero h lt = (neither (f s) (list_any f ss) h).0
 none_at f (s ∷ ss) (suc i) h lt = none_at f ss i (neither (f s) (list_any f ss) h).1 (omega arith)
 
-pub read_2 : (s : SetSpan) → s.id ≡ 2 → is_read s ≡ true
-read_2 s e = rw (is_number s.id 2 e) refl
-
-pub read_3 : (s : SetSpan) → s.id ≢ 2 → s.id ≡ 3 → is_read s ≡ true
-read_3 s n e = rw (no_number s.id 2 n, is_number s.id 3 e) refl
-
-pub read_data : (s : SetSpan) → s.id ≢ 2 → s.id ≢ 3 → 256 ≤ s.id → is_read s ≡ true
-read_data s n m l =
-    let t : nat_le 256 s.id ≡ true = grind (arith, nat_tests, l) in
-    rw (no_number s.id 2 n, no_number s.id 3 m) t
-
 or_else : (a b : Bool) → (a ≡ false → b ≡ true) → (a || b) ≡ true
 or_else true b h = refl
 or_else false b h = h refl
@@ -122,12 +110,3 @@ not_false false h = absurd (h refl)
 
 pub any_at : (f : SetSpan → Bool) (ss : List SetSpan) (i : ℕ) → i < length ss → f (get_or ss i blank_set) ≡ true → list_any f ss ≡ true
 any_at f ss i lt e = not_false (list_any f ss) (λ none. let no : f (get_or ss i blank_set) ≡ false = none_at f ss i none lt in let bad : true ≡ false = sym e ∙ no in absurd cc)
-
--- a template set is read
-pub templates_read : (ss : List SetSpan) → list_any is_template_set ss ≡ true → list_any is_read ss ≡ true
-templates_read [] e = absurd cc
-templates_read (s ∷ ss) e = go (is_template_set s) (list_any is_template_set ss) e (λ k. templates_read ss k)
-  where
-    go : (a b : Bool) → (a || b) ≡ true → (b ≡ true → list_any is_read ss ≡ true) → ((a || nat_le 256 s.id) || list_any is_read ss) ≡ true
-    go true b e k = refl
-    go false b e k = or_else (nat_le 256 s.id) (list_any is_read ss) (λ _. k e)

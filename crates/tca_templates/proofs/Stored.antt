@@ -1,10 +1,9 @@
 -- The templates with their keys, and what they stand for.
-use Rattle.std.proofs.Common.{◌≡◌, Bool, ℕ, List, [], ◌∷◌, length, true, false, cond, not, ◌&&◌, ◌==◌, refl, ap, ◌∙◌, arith, suc, Option, Some, None}
+use Rattle.std.proofs.Common.{◌≡◌, Bool, ℕ, List, [], ◌∷◌, length, true, false, cond, not, ◌&&◌, ◌==◌, refl, ap, ◌∙◌, arith, suc, Some}
 use Rattle.std.proofs.lemmas.Bool.Decides.{nat_tests}
 use Rattle.std.specs.Prelude.{filter, ◌≢◌}
-use Rattle.std.specs.Option.{option_map, option_copied}
+use Rattle.std.specs.Option.{option_map}
 use Rattle.std.specs.Map.{lookup}
-use Rattle.std.proofs.Common.{Bor}
 use Rattle.indexmap.specs.IndexMap.{insert_entry, shift_remove_entry}
 use Rattle.tca_templates.specs.Templates.{Key, Templates, listed, define, same_key, withdraw, known, stays}
 use Rattle.tca_templates.specs.Fields.{template_of, entries_of}
@@ -81,7 +80,3 @@ length-templates (e ∷ es) = ap suc (length-templates es)
 pub length-listed : (ts : Templates) → length (listed ts) ≡ length ts
 length-listed [] = refl
 length-listed (t ∷ ts) = ap suc (length-listed ts)
-
-pub seen_copied : (r : Option (Bor Template)) → option_map (λ t. template_of t.now) r ≡ option_map template_of (option_copied r)
-seen_copied None = refl
-seen_copied (Some t) = refl

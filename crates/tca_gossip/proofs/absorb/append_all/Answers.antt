@@ -1,5 +1,4 @@
 use Rattle.std.proofs.Common.{◌∙◌, ap, arith, length}
-use Rattle.tca_report.specs.report.Reports.{PacketReport}
 use Rattle.tca_gossip.specs.Replicas.{ReplicaView, with_origin}
 use Rattle.std.proofs.Common.{take}
 use Rattle.tca_gossip.proofs.Appends.{appended_name}

@@ -1,4 +1,4 @@
-use Rattle.std.proofs.Common.{◌≡◌, ◌≤◌, ◌∙◌, ap, subst, arith, length, List}
+use Rattle.std.proofs.Common.{◌≤◌, subst, arith, length, List}
 use Rattle.tca_report.specs.report.Reports.{PacketReport}
 use Rattle.tca_gossip.specs.Replicas.{chain_of}
 use Rattle.tca_gossip.specs.Runs.{rest_of}

@@ -1,4 +1,4 @@
-use Rattle.std.proofs.Common.{◌≡◌, ◌∙◌, ap, arith, length, List}
+use Rattle.std.proofs.Common.{◌∙◌, ap, arith, length}
 use Rattle.tca_gossip.specs.Replicas.{chain_of}
 use Rattle.tca_gossip.proofs.AbsorbSteps.{rests_start, rests_bound, rests_counted, count_end, limit_at}
 use Rattle.tca_gossip.proofs.absorb.count_rests.Goals as goal

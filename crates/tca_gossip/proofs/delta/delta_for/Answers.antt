@@ -1,6 +1,6 @@
-use Rattle.std.proofs.Common.{◌≡◌, ◌-◌, ◌∙◌, ap, subst, sym, take, drop, length}
+use Rattle.std.proofs.Common.{◌∙◌, ap, subst, sym, drop}
 use Rattle.tca_join.proofs.Differ.{rest_is}
-use Rattle.tca_gossip.specs.Runs.{AreRuns, delta_of, summary_count}
+use Rattle.tca_gossip.specs.Runs.{AreRuns, summary_count}
 use Rattle.tca_gossip.proofs.DeltaSteps.{delta_skip, delta_add, delta_ends, right_delta}
 use Rattle.tca_gossip.proofs.delta.delta_for.Goals as goal
 use Rattle.tca_gossip.proofs.delta.delta_for.Goals.{then-from-items+in_ok-reports+in_ok-push, else-from-items}

@@ -1,7 +1,7 @@
 use Rattle.std.proofs.Common.{◌≡◌, ◌∙◌, ap, sym, take, false, arith}
-use Rattle.tca_report.specs.report.Reports.{PacketReport, report_cmp}
+use Rattle.tca_report.specs.report.Reports.{report_cmp}
 use Rattle.tca_join.specs.Sets.{has}
-use Rattle.tca_gossip.specs.Replicas.{ReplicaView, take_all}
+use Rattle.tca_gossip.specs.Replicas.{take_all}
 use Rattle.tca_gossip.specs.Answers.{IsRefusedFor}
 use Rattle.tca_gossip.proofs.Takes.{take_all_is}
 use Rattle.tca_gossip.proofs.TakeSteps.{at_start, none_at_start, state_step, fresh_step, stale_step, at_stop}

@@ -1,4 +1,4 @@
-use Rattle.std.proofs.Common.{◌≡◌, ◌∷◌, List, ℕ, sym, ◌∙◌}
+use Rattle.std.proofs.Common.{◌≡◌, ◌∷◌, sym, ◌∙◌}
 use Rattle.tca_gossip.proofs.Naming.{apart_there, apart_back, twice}
 use Rattle.tca_gossip.proofs.world.are_distinct.Goals as goal
 

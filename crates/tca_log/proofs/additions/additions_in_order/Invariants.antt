@@ -2,7 +2,7 @@ use Rattle.std.proofs.Common.{◌≡◌, ◌≤◌, [], length, drop}
 use Rattle.tca_log.specs.Additions.{with_reports}
 use Rattle.tca_log.proofs.additions.additions_in_order.Given as goal
 
--- what was with_report so far, and then what is left
+-- what the reports so far made of the additions, and then what is left
 abbrev pub invariant-loop-key : goal.invariant-loop-key
 invariant-loop-key g l = record {
   so_far : with_reports l.index.rows l.disputed.rows (drop l.key-index l.keys) l.additions ≡ with_reports l.index.rows l.disputed.rows l.keys (record { fresh = []; newly_disputed = [] });

@@ -356,7 +356,7 @@ input_no_other octets fault (AnExport k f wrong is) =
     ∙ ap (λ (x : InputFault). Err x) (sym is)
 input_no_other octets fault (ACapture k p) = ap (λ z. cond z (exported (reading octets)) (capture_of octets)) k ∙ capture_no_other octets fault p
 
--- what a call answered, where it gives what is gathered_of
+-- a fault of what was gathered is the fault of the reading
 gathered_holds : (r : Result CaptureSoFar InputFault) (fault : InputFault) → gathered_of r ≡ Err fault → r ≡ Err fault
 gathered_holds (Ok h) fault e = absurd cc
 gathered_holds (Err f) fault e = let same : f ≡ fault = cc in ap (λ (x : InputFault). Err x) same

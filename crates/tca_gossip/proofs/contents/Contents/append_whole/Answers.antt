@@ -1,4 +1,4 @@
-use Rattle.std.proofs.Common.{◌≡◌, ◌∙◌, ℕ, ap}
+use Rattle.std.proofs.Common.{◌∙◌, ℕ, ap}
 use Rattle.tca_accounts.specs.Plans.{AccountPlan}
 use Rattle.tca_gossip.specs.Kept.{replica_of}
 use Rattle.tca_gossip.proofs.Agreeing.{without_book}

@@ -1,6 +1,5 @@
-use Rattle.std.proofs.Common.{◌≡◌, ℕ, ◌∙◌, Option, Some, None, Bool, true, false, List, cond, nat_lt, length, refl}
+use Rattle.std.proofs.Common.{◌≡◌, ℕ, ◌∙◌, Some, None, Bool, true, false, cond, nat_lt, length, refl}
 use Rattle.std.specs.Bool.{then_some}
-use Rattle.tca_report.specs.report.Reports.{PacketReport}
 use Rattle.tca_report.specs.contracts.report.ReportPartialEq.TheImpl as report_eq
 use Rattle.tca_gossip.specs.Replicas.{chain_of, least_of}
 use Rattle.tca_gossip.specs.Kept.{replica_of}

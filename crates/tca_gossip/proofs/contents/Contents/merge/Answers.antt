@@ -1,13 +1,12 @@
-use Rattle.std.proofs.Common.{◌≡◌, ℕ, ◌∙◌, ◌++◌, Option, Some, None, Bool, true, false, List, cond, nat_lt, length, refl, sym, ap, subst}
-use Rattle.tca_report.specs.report.Reports.{PacketReport, report_cmp}
+use Rattle.std.proofs.Common.{◌≡◌, ◌∙◌, ◌++◌, Some, None, false, cond, nat_lt, length, sym, ap}
+use Rattle.tca_report.specs.report.Reports.{report_cmp}
 use Rattle.tca_report.specs.contracts.report.ReportPartialEq.TheImpl as report_eq
 use Rattle.tca_join.specs.Sets.{in_order}
-use Rattle.tca_join.specs.Chains.{ChainView, chain_clash, chain_full, chain_joined, differ_at, longer}
-use Rattle.tca_join.specs.Faults.{IsJoinFault, refusal}
+use Rattle.tca_join.specs.Chains.{chain_clash, chain_full, chain_joined, differ_at, longer}
+use Rattle.tca_join.specs.Faults.{IsJoinFault}
 use Rattle.tca_join.specs.Maps.{clash_key, map_full, merged}
-use Rattle.tca_join.specs.declared.fault.JoinFault.TheVariants.{Memory}
 use Rattle.tca_log.specs.LogJoin.{log_full}
-use Rattle.tca_gossip.specs.Replicas.{ReplicaView, chain_of, merge_clash, merged_with}
+use Rattle.tca_gossip.specs.Replicas.{ReplicaView, chain_of, merge_clash}
 use Rattle.tca_gossip.specs.Kept.{held_in, replica_of}
 use Rattle.tca_gossip.proofs.Agreeing.{merged_agrees, neither, without_book}
 use Rattle.tca_gossip.proofs.Clashing.{memory_alone, within_limit}

@@ -1,9 +1,6 @@
-use Rattle.std.proofs.Common.{◌≡◌, ◌∙◌, Bool}
-use Rattle.tca_report.specs.report.Reports.{PacketReport}
-use Rattle.tca_report.specs.contracts.report.ReportPartialEq.TheImpl as report_eq
+use Rattle.std.proofs.Common.{◌∙◌}
 use Rattle.tca_join.specs.Chains.{differ_at}
 use Rattle.tca_join.specs.Maps.{clash_key}
-use Rattle.tca_gossip.specs.Runs.{same_report}
 use Rattle.tca_gossip.proofs.Exact.{report_eq_same}
 use Rattle.tca_gossip.proofs.replica.Replica.fork.Goals as goal
 
