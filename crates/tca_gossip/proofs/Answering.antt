@@ -1,5 +1,5 @@
 -- What a replica sends: its counts, and its answer to counts.
-use Rattle.std.proofs.Common.{◌≡◌, ℕ, ◌+◌, ◌-◌, ◌<◌, ◌≤◌, true, false, cond, nat_lt, Option, None, Some, List, [], ◌∷◌, ◌==◌, length, take, drop, slice_get, refl, sym, ap, ◌∙◌, subst, arith}
+use Rattle.std.proofs.Common.{◌≡◌, ℕ, ◌+◌, ◌-◌, ◌<◌, ◌≤◌, true, false, cond, nat_lt, Option, None, Some, Result, Ok, Err, IfOk, List, [], ◌∷◌, ◌==◌, length, take, drop, slice_get, refl, sym, ap, ◌∙◌, subst, arith}
 use Rattle.std.specs.List.{AllByRecursion}
 use Rattle.std.proofs.lemmas.Bool.{eq-eqb, eqb-true, ltb-true, le-ltb}
 use Rattle.tca_report.specs.report.Reports.{PacketReport}
@@ -48,6 +48,11 @@ counts_are (c ∷ cs) o rises = elim (o == c.0) as (λ b. o == c.0 ≡ b → sum
   | true ↦ λ is. count_here c.0 c.1 cs o is (counts_are cs o rises.1 ∙ ap (λ z. length (or_empty z)) (ap (get cs) (eqb-true o c.0 is) ∙ not_there cs c.0 rises.0))
   | false ↦ λ is. count_past c.0 c.1 cs o is ∙ counts_are cs o rises.1
 ] refl
+
+-- so counts of the chains count each of them
+pub counts_each : {E : Type 0} (cs : List (ℕ × List PacketReport)) (r : Result (List (ℕ × ℕ)) E) → Rises cs → IfOk r (λ s. s ≡ counts_of cs) → IfOk r (λ s. (o : ℕ) → summary_count s o ≡ length (or_empty (get cs o)))
+counts_each cs (Ok s) rises is = λ o. ap (λ l. summary_count l o) is ∙ counts_are cs o rises
+counts_each cs (Err e) rises is = tt
 
 -- an ask is a step
 pub ask_step : (m : Machine) (w : WorldView) (i : ℕ) (v : ReplicaView) (said : List (ℕ × ℕ)) → IsCoupled m w → slice_get w.replicas i ≡ Some v → can_send m v.name ≡ true → ((o : ℕ) → summary_count said o ≡ length (chain_of v o))

@@ -1,5 +1,5 @@
 //! Log, chains and bill of a replica, which agree after each call.
-ghost use Rattle.std.specs.Prelude.{◌≡◌, ◌≢◌, ◌⊎◌, ◌<◌, ◌≤◌, [], length, true, false, not, OnOk, OnErr, IfOk, IfErr, IfSome, None};
+ghost use Rattle.std.specs.Prelude.{◌≡◌, ◌≢◌, ℕ, ◌⊎◌, ◌<◌, ◌≤◌, [], length, true, false, not, OnOk, OnErr, IfOk, IfErr, IfSome, None};
 ghost use Rattle.tca_report.specs.report.Reports.{report_cmp};
 ghost use Rattle.tca_join.specs.Sets.{has};
 ghost use Rattle.tca_accounts.specs.Bills.{bill_of};
@@ -181,7 +181,8 @@ impl Contents {
 
     /// How long each chain is, without empty ones.
     pub(crate) fn summary(&self) -> Result<Summary, AllocError>
-        ensures { IfOk result (λ s. s ≡ counts_of self.now.replica.chains) }
+        ensures exact { IfOk result (λ s. s ≡ counts_of self.now.replica.chains) }
+        ensures each { IfOk result (λ s. (o : ℕ) → summary_count s o ≡ length (chain_of self.now.replica o)) }
     {
         summary_of(self.alloc, &self.chains)
     }

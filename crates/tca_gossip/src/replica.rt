@@ -1,5 +1,5 @@
 //! A replica.
-ghost use Rattle.std.specs.Prelude.{◌≡◌, ◌≤◌, None, false, length, take, OnOk, OnErr, IfOk, IfErr};
+ghost use Rattle.std.specs.Prelude.{◌≡◌, ◌≤◌, ℕ, None, false, length, take, OnOk, OnErr, IfOk, IfErr};
 ghost use Rattle.tca_accounts.specs.Bills.{bill_of};
 ghost use Rattle.tca_join.specs.Chains.{differ_at, most_items};
 ghost use Rattle.tca_join.specs.Faults.{IsJoinFault};
@@ -110,7 +110,8 @@ impl Replica {
 
     /// How long each chain is that holds something, by origin.
     pub fn summary(&self) -> Result<Summary, AllocError>
-        ensures { IfOk result (λ s. s ≡ counts_of self.now.chains) }
+        ensures exact { IfOk result (λ s. s ≡ counts_of self.now.chains) }
+        ensures each { IfOk result (λ s. (o : ℕ) → summary_count s o ≡ length (chain_of self.now o)) }
     {
         self.contents.summary()
     }

@@ -8,7 +8,7 @@ returns-then-len-ge-MESSAGES c m coupled = ask_full c.args.self.now m coupled c.
 pub returns-in-Some-send : goal.returns-in-Some-send
 returns-in-Some-send c m coupled =
     let room : length c.args.self.now.sent < 4294967295 = omega (arith, sent_length c.args.self.now c.self.inside.plan c.self.inside.replicas.items c.self.inside.sent.items c.self.view_is, c.if-len-ge-MESSAGES.false, c.len.ensures) in
-    ask_sent c.args.self.now m coupled c.in-Some.i c.args.at c.index.result.now c.in-Some.ensures (replica_seen c.args.self.now c.self.inside.plan c.self.inside.replicas.items c.self.inside.sent.items c.self.view_is c.in-Some.i c.index.result.now c.index.ensures) c.in-Ok.counts c.in-Some-send.number c.send.new.self room c.in-Ok.ensures c.in-Some-send.ensures
+    ask_sent c.args.self.now m coupled c.in-Some.i c.args.at c.index.result.now c.in-Some.ensures (replica_seen c.args.self.now c.self.inside.plan c.self.inside.replicas.items c.self.inside.sent.items c.self.view_is c.in-Some.i c.index.result.now c.index.ensures) c.in-Ok.counts c.in-Some-send.number c.send.new.self room c.in-Ok.ensures.exact c.in-Some-send.ensures
 
 pub returns-in-None-send : goal.returns-in-None-send
 returns-in-None-send c m coupled =

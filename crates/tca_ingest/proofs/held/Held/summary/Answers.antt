@@ -11,4 +11,4 @@ append-requires-clause-right g c =
     let name = g.L.Side.called in
     let now = c.args.self.now in
     let history = subst (λ (h : HeldView). IsHistory plan name h.replica h.journal) c.self.view_is c.self.invariant.0 in
-    push_asked plan name now.replica now.journal history c.append.inside.number c.in_ok-summary.summary (c.in_ok-summary.ensures ∙ (λ i. counts_of (c.self.view_is i).replica.chains))
+    push_asked plan name now.replica now.journal history c.append.inside.number c.in_ok-summary.summary (c.in_ok-summary.ensures.exact ∙ (λ i. counts_of (c.self.view_is i).replica.chains))
