@@ -155,10 +155,7 @@ impl<K: Ord + Copy, A: Allocator + Copy> Rows<K, A> {
         ensures refused { OnErr result (self.old.ready ≡ false) }
     {
         if self.spare.is_none() {
-            cut_list(&mut self.chunks)?;
-            self.chunks.reserve(1)?;
-            let alloc = *self.chunks.allocator();
-            self.spare = Some(Chunk::new(alloc)?);
+            self.spare = Some(spare_for(&mut self.chunks)?);
         }
         Ok(())
     }
@@ -291,6 +288,24 @@ impl<K: Ord + Copy, A: Allocator + Copy> Rows<K, A> {
             None => Ok(Vec::new(alloc)),
         }
     }
+}
+
+// A chunk without rows, and a place for it among the chunks, of which a long list is cut first. An error leaves the same rows.
+fn spare_for<K: Ord + Copy, A: Allocator + Copy>(
+    chunks: &mut Vec<Chunk<K, A>, A>,
+) -> Result<Chunk<K, A>, AllocError>
+    requires some { All (λ c. 0 < length c) chunks.old.items }
+    requires small { 1 < vec_len chunks.old → All (λ c. length c ≤ 256) chunks.old.items }
+    ensures joined { joined chunks.new.items ≡ joined chunks.old.items }
+    ensures some { All (λ c. 0 < length c) chunks.new.items }
+    ensures small { OnOk result (All (λ c. length c ≤ 256) chunks.new.items) }
+    ensures small_if_many { 1 < vec_len chunks.new → All (λ c. length c ≤ 256) chunks.new.items }
+    ensures room { OnOk result (vec_len chunks.new < vec_capacity chunks.new) }
+    ensures spare { IfOk result (λ c. c ≡ []) }
+{
+    cut_list(chunks)?;
+    chunks.reserve(1)?;
+    Chunk::new(*chunks.allocator())
 }
 
 // Cuts a list that is the only chunk, where it is longer than a chunk may be. An error leaves it as it was.

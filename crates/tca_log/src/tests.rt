@@ -221,12 +221,19 @@ fn every_order_and_repeats_give_one_log(rt: HostRuntime) -> Result<(), Fail> {
     Ok(())
 }
 
+// Whether an order agrees with one, two and three contents of the last identity.
+fn agrees_disputed(alloc: Global, code: usize) -> Result<bool, Fail> {
+    Ok(
+        agrees_in_turn(alloc, 4, code, 0)?
+            && agrees_in_turn(alloc, 5, code, 1)?
+            && agrees_in_turn(alloc, 6, code, 1)?,
+    )
+}
+
 #[test]
 fn disputes_do_not_depend_on_the_order(rt: HostRuntime) -> Result<(), Fail> {
     for code in 0..720 {
-        assert!(rt; agrees_in_turn(rt.alloc(), 4, code, 0)?);
-        assert!(rt; agrees_in_turn(rt.alloc(), 5, code, 1)?);
-        assert!(rt; agrees_in_turn(rt.alloc(), 6, code, 1)?);
+        assert!(rt; agrees_disputed(rt.alloc(), code)?);
     }
     Ok(())
 }
@@ -246,7 +253,7 @@ fn answers_late(log: &mut Log, late: Report, second: Report, third: Report) -> b
 }
 
 // A log that gets a list at once, of which so many are new.
-fn log_of(alloc: Global, list: &[Report], new: u32) -> Result<Log, Fail> {
+fn log_of<A: Allocator + Copy>(alloc: A, list: &[Report], new: u32) -> Result<Log<A>, Fail> {
     let given = Vec::from_slice(alloc, list)?;
     let mut log = Log::new(alloc);
     if log.add_all(given) != Ok(new) {
@@ -425,7 +432,7 @@ fn logs_join_to_their_union(rt: HostRuntime) -> Result<(), Fail> {
 const STEP: usize = 96;
 
 // What the sweeps below came to in a heap of some size.
-#[derive(Clone, Copy, Debug, PartialEq, Eq)]
+#[derive(Clone, Copy)]
 enum Step {
     // The log of before was too large.
     Before,
@@ -434,6 +441,20 @@ enum Step {
     // The call was refused otherwise, or was done wrongly.
     Wrong,
     Done,
+}
+
+fn is_done(step: &Step) -> bool {
+    matches!(step, Step::Done)
+}
+
+// Whether the calls end with one that was done, and each before was refused or had no log.
+fn ends_done(steps: &[Step]) -> bool {
+    for step in steps {
+        if matches!(step, Step::Wrong) {
+            return false;
+        }
+    }
+    matches!(steps.last(), Some(Step::Done))
 }
 
 // A log that had just these reports, without disputes, and was refused more.
@@ -467,16 +488,27 @@ fn add_to<A: Allocator + Copy>(log: &mut Log<A>, list: &[Report]) -> Result<(), 
     Ok(())
 }
 
-// A log of these, given a second content of one of their identities. All that it then has are given in order.
+// What a log comes to by a second content of one of its identities. All that it then has are given in order.
+fn disputed_step(
+    log: &mut Log<&LocalHeap>,
+    small: &LocalHeap,
+    before: &[Report],
+    content: Report,
+    after: &[Report],
+) -> Step {
+    match log.add(content) {
+        Ok(_) => done(log, after, 1),
+        Err(fault) => refused(log, fault, before, small.used()),
+    }
+}
+
+// The same of a log that is made here.
 fn dispute_step(small: &LocalHeap, before: &[Report], content: Report, after: &[Report]) -> Step {
     let mut log = Log::new(small);
     if add_to(&mut log, before).is_err() {
         return Step::Before;
     }
-    match log.add(content) {
-        Ok(_) => done(&log, after, 1),
-        Err(fault) => refused(&log, fault, before, small.used()),
-    }
+    disputed_step(&mut log, small, before, content, after)
 }
 
 // What the heap held after each refusal, once for heaps in a row that then held the same.
@@ -490,6 +522,11 @@ fn kept(alloc: Global, steps: &[Step]) -> Result<Vec<usize>, Fail> {
         }
     }
     Ok(kept)
+}
+
+// Whether so many growths were refused in turn, and then none.
+fn refuses_in_turn(alloc: Global, steps: &[Step], growths: usize) -> Result<bool, Fail> {
+    Ok(kept(alloc, steps)?.len() == growths && ends_done(steps))
 }
 
 fn dispute_within(
@@ -513,7 +550,7 @@ fn dispute_steps(
     for size in 1..1024 {
         let step = dispute_within(alloc, STEP * size, before, content, after)?;
         met.push(step)?;
-        if step == Step::Done {
+        if is_done(&step) {
             break;
         }
     }
@@ -525,21 +562,25 @@ fn a_refused_dispute_leaves_the_log_as_it_was(rt: HostRuntime) -> Result<(), Fai
     let (first, content) = (report(3, 50, 600)?, report(3, 60, 601)?);
     let met = dispute_steps(rt.alloc(), &[first], content, &[first, content])?;
     // Refused to the reports, to the disputed identities' list of chunks, and to a chunk of these.
-    assert!(rt; kept(rt.alloc(), &met)?.len() == 3);
-    assert!(rt; met.contains(&Step::Done) && !met.contains(&Step::Wrong));
+    assert!(rt; refuses_in_turn(rt.alloc(), &met, 3)?);
     Ok(())
+}
+
+// The same beside the three other worked rows.
+fn other_steps(alloc: Global, list: &[Report]) -> Result<Vec<Step>, Fail> {
+    let [a, b, c, late, content] = list else {
+        return Err("five rows".into());
+    };
+    let after = [*a, *late, *content, *b, *c];
+    dispute_steps(alloc, &[*a, *late, *b, *c], *content, &after)
 }
 
 #[test]
 fn a_refused_dispute_leaves_other_reports_too(rt: HostRuntime) -> Result<(), Fail> {
-    let (a, late) = (report(0, 0, 1500)?, report(3, 50, 600)?);
-    let (b, c) = (report(1, 100, 1000)?, report(2, 200, 800)?);
-    let content = report(3, 60, 601)?;
-    let after = [a, late, content, b, c];
-    let met = dispute_steps(rt.alloc(), &[a, late, b, c], content, &after)?;
+    let list = rows(rt.alloc(), 5)?;
+    let met = other_steps(rt.alloc(), &list)?;
     // The reports have room for a fifth.
-    assert!(rt; kept(rt.alloc(), &met)?.len() == 2);
-    assert!(rt; met.contains(&Step::Done) && !met.contains(&Step::Wrong));
+    assert!(rt; refuses_in_turn(rt.alloc(), &met, 2)?);
     Ok(())
 }
 
@@ -584,7 +625,7 @@ fn late_content_steps(alloc: Global, all: &[Report]) -> Result<Vec<Step>, Fail> 
     for size in 1..1024 {
         let step = late_content_within(alloc, STEP * size, all)?;
         met.push(step)?;
-        if step == Step::Done {
+        if is_done(&step) {
             break;
         }
     }
@@ -603,8 +644,7 @@ fn a_list_in_order_is_disputed_later(rt: HostRuntime) -> Result<(), Fail> {
     let met = late_content_steps(rt.alloc(), &all)?;
     // Refused to the reports, to the index that is made now, to the disputed identities' list of chunks, and to a chunk of
     // these.
-    assert!(rt; kept(rt.alloc(), &met)?.len() == 4);
-    assert!(rt; met.contains(&Step::Done) && !met.contains(&Step::Wrong));
+    assert!(rt; refuses_in_turn(rt.alloc(), &met, 4)?);
     Ok(())
 }
 
@@ -708,7 +748,7 @@ fn calls_within(
     for size in 320..1024 {
         let step = call_within(alloc, STEP * size, call, parts, list)?;
         met.push(step)?;
-        if step == Step::Done {
+        if is_done(&step) {
             break;
         }
     }
@@ -729,10 +769,8 @@ fn call_steps(alloc: Global, call: Call) -> Result<Vec<Step>, Fail> {
 // and of the index have room. Three new reports are so few that their order, which is freed before, makes no room for any.
 fn refuses_each_growth(alloc: Global, call: Call) -> Result<bool, Fail> {
     let met = call_steps(alloc, call)?;
-    let from_the_first = met.first() == Some(&Step::Before);
-    let to_the_last = met.last() == Some(&Step::Done);
-    let refusals = kept(alloc, &met)?.len();
-    Ok(from_the_first && to_the_last && refusals == 4 && !met.contains(&Step::Wrong))
+    let from_the_first = matches!(met.first(), Some(Step::Before));
+    Ok(from_the_first && refuses_in_turn(alloc, &met, 4)?)
 }
 
 #[test]
@@ -782,16 +820,6 @@ fn repeats_each<A: Allocator + Copy>(log: &mut Log<A>, list: &[Report]) -> bool 
     true
 }
 
-// A log of the six worked rows.
-fn log_of_six<'a>(heap: &'a LocalHeap, list: &[Report]) -> Result<Log<&'a LocalHeap>, Fail> {
-    let given = Vec::from_slice(heap, list)?;
-    let mut log = Log::new(heap);
-    if log.add_all(given) != Ok(6) {
-        return Err("six new reports".into());
-    }
-    Ok(log)
-}
-
 // Whether a log has what it is given already once its heap is exhausted.
 fn has_them_exhausted<'a>(
     (alloc, heap): (Global, &'a LocalHeap),
@@ -807,8 +835,8 @@ fn has_them_exhausted<'a>(
 }
 
 fn has_them_without_memory(alloc: Global, heap: &LocalHeap, list: &[Report]) -> Result<bool, Fail> {
-    let other = log_of_six(heap, list)?;
-    let mut log = log_of_six(heap, list)?;
+    let other = log_of(heap, list, 6)?;
+    let mut log = log_of(heap, list, 6)?;
     has_them_exhausted((alloc, heap), &mut log, list, &other)
 }
 

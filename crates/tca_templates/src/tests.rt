@@ -53,13 +53,18 @@ fn header(length: u16, sequence: u32) -> [u8; 16] {
     ]
 }
 
-// A message of domain 7 with these sets.
-fn message(alloc: Global, sequence: u32, sets: &[&[u8]]) -> Result<Vec<u8>, AllocError> {
-    let mut octets = Vec::from_slice(alloc, &header(length_of(sets), sequence))?;
-    for set in sets {
-        octets.extend_from_slice(*set)?;
+// These octets, and behind them each of those.
+fn joined(alloc: Global, first: &[u8], others: &[&[u8]]) -> Result<Vec<u8>, AllocError> {
+    let mut octets = Vec::from_slice(alloc, first)?;
+    for more in others {
+        octets.extend_from_slice(*more)?;
     }
     Ok(octets)
+}
+
+// A message of domain 7 with these sets.
+fn message(alloc: Global, sequence: u32, sets: &[&[u8]]) -> Result<Vec<u8>, AllocError> {
+    joined(alloc, &header(length_of(sets), sequence), sets)
 }
 
 // What a decoder answers to the octets of a message; `None` where they aren't one.
@@ -334,11 +339,8 @@ fn unknown_templates_end_the_records(rt: HostRuntime) -> Result<(), Fail> {
 
 // Octets with others in place of those that stand at an offset.
 fn changed(alloc: Global, octets: &[u8], at: usize, new: &[u8]) -> Result<Vec<u8>, AllocError> {
-    let mut copy = Vec::new(alloc);
-    copy.extend_from_slice(part(octets, 0, at))?;
-    copy.extend_from_slice(new)?;
-    copy.extend_from_slice(part(octets, at.saturating_add(new.len()), octets.len()))?;
-    Ok(copy)
+    let rest = part(octets, at.saturating_add(new.len()), octets.len());
+    joined(alloc, part(octets, 0, at), &[new, rest])
 }
 
 // Whether a fresh decoder refuses to hand on the records of this message for this fault.

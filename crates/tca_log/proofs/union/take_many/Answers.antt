@@ -6,6 +6,10 @@ use Rattle.tca_log.proofs.OrderedRows.Each.{rises_put_each, length-put_each}
 use Rattle.tca_log.proofs.Repeats.{kept_alone}
 use Rattle.tca_log.proofs.union.take_many.Goals as goal
 
+pub disputes_of-requires : goal.disputes_of-requires
+disputes_of-requires g c =
+    omega (arith, ap length c.in_ok-all.ensures, length-put_each report_cmp report_total c.args.news.now.rows c.args.rows.now.rows c.requires.rises c.requires.apart, c.requires.few)
+
 pub returns-clause-log : goal.returns-clause-log
 returns-clause-log g c =
     let rises = subst (IsStrictlySortedBy report_cmp) (sym c.in_ok-all.ensures) (rises_put_each report_cmp report_total c.args.news.now.rows c.args.rows.now.rows c.requires.log.rises) in

@@ -1,0 +1,13 @@
+use Rattle.std.proofs.Common.{◌≡◌, ℕ, ◌+◌, ◌<◌, List, ◌++◌, length, get_or, drop, append_assoc, sym, ap, ◌∙◌}
+use Rattle.std.proofs.lemmas.List.{drop_more}
+use Rattle.tca_log.specs.Rows.Chunks.{joined}
+use Rattle.tca_log.proofs.rows.Rows.listed.Goals as goal
+
+-- one chunk more
+more : {K : Type 0} (list new part chunk all : List K) (cs : List (List K)) (i : ℕ) → i < length cs → chunk ≡ get_or cs i chunk → part ≡ chunk → new ≡ list ++ part → list ++ joined (drop i cs) ≡ all → new ++ joined (drop (i + 1) cs) ≡ all
+more {K} list new part chunk all cs i inside at same items so_far =
+    rw (items, same) (append_assoc list chunk (joined (drop (i + 1) cs)) ∙ ap (λ (l : List K). list ++ l) (ap (λ (l : List K). l ++ joined (drop (i + 1) cs)) at ∙ ap joined (sym (drop_more cs i chunk inside))) ∙ so_far)
+
+pub loop-chunk-preserved : goal.loop-chunk-preserved
+loop-chunk-preserved g c =
+    more c.loop-chunk.list.items c.extend_from_slice.new.self.items c.rows.result.now c.chunk-item.result c.args.self.now.rows c.deref-chunk-items.result.now c.loop-chunk.chunk-index c.loop-chunk-test.true c.chunk-item.is c.rows.ensures c.in_ok-extend_from_slice.ensures.items c.loop-chunk.invariant
