@@ -1,5 +1,5 @@
 -- Closed replicas gone through from the last to the first.
-use Rattle.std.proofs.Common.{◌≡◌, ℕ, suc, ◌+◌, ◌-◌, ◌<◌, ◌≤◌, Option, None, List, [], ◌∷◌, length, get_or, take, drop, refl, sym, ap, ◌∙◌, subst, arith, drop-cons, length-drop}
+use Rattle.std.proofs.Common.{◌≡◌, ℕ, suc, ◌+◌, ◌-◌, ◌<◌, ◌≤◌, Option, None, List, ◌∷◌, length, get_or, take, drop, sym, ap, ◌∙◌, subst, arith, drop-cons, length-drop}
 use Rattle.std.proofs.lemmas.List.{drop_all, take_all}
 use Rattle.std.specs.List.{AllByRecursion}
 use Rattle.tca_join.specs.Chains.{differ_at}

@@ -1,5 +1,5 @@
 -- Inputs and their results, place by place, and entries that are taken out one by one.
-use Rattle.std.proofs.Common.{◌≡◌, ℕ, zero, suc, ◌+◌, ◌<◌, List, [], ◌∷◌, ◌++◌, length, get_or, set, take, ap, sym, ◌∙◌, subst, arith, map, refl, add-one}
+use Rattle.std.proofs.Common.{◌≡◌, ℕ, zero, suc, ◌+◌, ◌<◌, List, [], ◌∷◌, ◌++◌, length, get_or, set, take, ap, sym, ◌∙◌, subst, arith, map, refl, add-one, Option, Some, None, is_some, false}
 use Rattle.std.specs.List.{AllByRecursion, AllZip, remove}
 use Rattle.std.specs.List.Sorted.{IsPermutation}
 use Rattle.std.proofs.lemmas.List.{take_more, append-nil, append_assoc}
@@ -25,9 +25,12 @@ zip_set R (a ∷ xs) [] i d y all low here = absurd all
 zip_set R (a ∷ xs) (b ∷ ys) zero d y all low here = (here, all.1)
 zip_set R (a ∷ xs) (b ∷ ys) (suc i) d y all low here = (all.0, zip_set R xs ys i d y all.1 (omega (arith, low)) here)
 
--- one more of the first list
-pub zip_more : {A B : Type 0} (R : A → B → Type 0) (xs : List A) (i : ℕ) (d : A) (ys : List B) (y : B) → i < length xs → AllZip R (take i xs) ys → R (get_or xs i d) y → AllZip R (take (i + 1) xs) (ys ++ y ∷ [])
-zip_more R xs i d ys y low all here = subst (λ zs. AllZip R zs (ys ++ y ∷ [])) (sym (take_more xs i d low)) (zip_push R (take i xs) ys (get_or xs i d) y all here)
+-- a place that was seen to be empty
+pub empty_there : {A : Type 0} (places : List (Option A)) (i : ℕ) (x : Option A) → i < length places → x ≡ get_or places i x → is_some x ≡ false → (d : Option A) → get_or places i d ≡ None
+empty_there [] i x low is none d = absurd (omega (arith, low))
+empty_there (p ∷ ps) zero None low is none d = sym is
+empty_there (p ∷ ps) zero (Some y) low is none d = absurd cc
+empty_there (p ∷ ps) (suc i) x low is none d = empty_there ps i x (omega (arith, low)) is none d
 
 zip_next : {A B : Type 0} (R : A → B → Type 0) (xs : List A) (i : ℕ) (ys : List B) (y : B) → ((x : A) → R x y) → i < length xs → AllZip R (take i xs) ys → AllZip R (take (suc i) xs) (ys ++ y ∷ [])
 zip_next R [] i ys y any low all = absurd (omega (arith, low))

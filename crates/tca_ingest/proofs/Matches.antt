@@ -1,5 +1,5 @@
 -- A journal that is compared with the calls of passes, entry by entry and pass by pass.
-use Rattle.std.proofs.Common.{◌≡◌, ℕ, zero, suc, ◌+◌, ◌-◌, ◌<◌, ◌≤◌, ◌↔◌, Some, List, [], ◌∷◌, length, get_or, slice_get, take, drop, refl, ap, sym, subst, ◌∙◌, arith, length-drop}
+use Rattle.std.proofs.Common.{◌≡◌, ℕ, zero, suc, ◌+◌, ◌<◌, ◌≤◌, ◌↔◌, Some, List, [], ◌∷◌, length, get_or, slice_get, take, drop, refl, ap, sym, subst, ◌∙◌, arith, length-drop}
 use Rattle.std.specs.List.{All, AllPairs}
 use Rattle.std.proofs.lemmas.List.{drop_all, get_or-map, take_more}
 use Rattle.std.proofs.lemmas.List.Elements.{All-push}

@@ -1,10 +1,10 @@
 -- What the history of a replica says of it, and how it goes on.
-use Rattle.std.proofs.Common.{◌≡◌, ℕ, List, [], ◌∷◌, ◌++◌, length, refl, sym, ap, ◌∙◌, subst, arith}
+use Rattle.std.proofs.Common.{◌≡◌, ℕ, List, [], ◌∷◌, ◌++◌, sym, ◌∙◌, subst}
 use Rattle.std.specs.List.{AllByRecursion}
 use Rattle.tca_accounts.specs.Plans.{AccountPlan}
 use Rattle.tca_gossip.specs.Replicas.{ReplicaView}
 use Rattle.tca_ingest.specs.Entries.{EntryView, pass_of}
-use Rattle.tca_ingest.specs.EntryViews.{entry_view, entry_views}
+use Rattle.tca_ingest.specs.EntryViews.{entry_views}
 use Rattle.tca_ingest.specs.Journals.{IsHistory}
 use Rattle.tca_ingest.specs.Shares.{HeldView, IsReplayed}
 use Rattle.tca_ingest.specs.declared.entry.Entry.{Entry}

@@ -1,5 +1,5 @@
 -- Why replicas don't close, or don't agree.
-use Rattle.std.specs.Prelude.{ℕ, Some, List}
+use Rattle.std.specs.Prelude.{List}
 use Rattle.tca_gossip.specs.Replicas.{ReplicaView}
 use Rattle.tca_ingest.specs.Entries.{EntryView}
 use Rattle.tca_ingest.specs.Passes.{PassView, AreMissing, IsDiffering}

@@ -1,5 +1,5 @@
 -- An entry as contracts see it.
-use Rattle.std.specs.Prelude.{ℕ, List, map}
+use Rattle.std.specs.Prelude.{List, map}
 use Rattle.tca_ingest.specs.Entries.{EntryView, Took as took, Absorbed as absorbed, Answered as answered, Asked as asked, Sent as sent}
 use Rattle.tca_ingest.specs.declared.entry.Entry.{Entry}
 use Rattle.tca_ingest.specs.declared.entry.Entry.TheVariants.{Took, Absorbed, Answered, Asked, Sent}

@@ -1,8 +1,11 @@
 //! What a run of workers brought: the result of each job, and whether the workers' passes have just these.
-ghost use Rattle.std.specs.Prelude.{◌≡◌, ◌≢◌, ◌<◌, ◌^◌, ◌++◌, IfOk, IfErr, IfSome, OnOk, IsNone, true, [], ◌∷◌, length, slice_index_or};
+ghost use Rattle.std.specs.Prelude.{◌≡◌, ◌≢◌, ◌<◌, ◌^◌, ◌++◌, IfOk, IfErr, IfSome, OnOk, IsNone, None, Option, Result, true, [], ◌∷◌, length, slice_index_or};
 ghost use Rattle.std.specs.List.Sorted.{IsPermutation};
 ghost use denote.Bor.{Bor};
 ghost use Rattle.tca_ingest.specs.declared.entry.Entry.{Entry};
+ghost use Rattle.tca_ingest.specs.declared.entry.Receipt.{Receipt};
+ghost use Rattle.tca_ingest.specs.declared.job.JobFault.{JobFault};
+ghost use Rattle.tca_report.specs.declared.input.Notes.{Notes};
 ghost use Rattle.tca_ingest.specs.EntryViews.{entry_view, entry_views};
 ghost use Rattle.tca_ingest.specs.Works.{AreNumbered, AreOwn, AreResultsAt, AreSliceResults, all_calls, entries_in, entry_in, views_of};
 
@@ -54,7 +57,7 @@ fn empty_places(alloc: Global, inputs: &[&[u8]]) -> Result<Vec<Place>, AllocErro
     Ok(places)
 }
 
-// Puts a result where its job is.
+// Puts a result where its job is, if there is none yet.
 fn fill_place(
     inputs: &[&[u8]],
     places: &mut Vec<Place>,
@@ -62,6 +65,7 @@ fn fill_place(
 ) -> Result<(), WorkFault>
     requires { AreResultsAt inputs.now places.old.items }
     ensures results { AreResultsAt inputs.now places.new.items }
+    ensures empty { OnOk result ((d : Option (Result (Notes × Receipt) JobFault)) → slice_index_or places.old.items of_job.entry.job d ≡ None) }
     ensures fault { IfErr result (λ f. f ≡ WorkFault.Stranger of_job.entry.job) }
 {
     let JobResult { job, input, result } = of_job;

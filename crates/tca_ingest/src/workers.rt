@@ -129,21 +129,53 @@ fn done_by<'a, L: Side + Send + Sync, R: Threads + Wait + Sync, G: Gate>(
     ensures back { IfErr result (λ f. f ≢ WorkFault.PassesOut → f ≢ WorkFault.Memory → vec_len passes.new ≡ workers) }
     ensures few { IfErr result (λ f. f ≡ WorkFault.PassesOut → vec_len passes.new < workers) }
 {
-    let alloc = setting.alloc;
     make_passes(setting.rt, setting.shared, workers, passes)?;
-    let (job_numbers, jobs) = unbounded(alloc)?;
-    let (results, from_workers) = unbounded(alloc)?;
-    send_jobs(setting.rt, job_numbers, setting.inputs.len())?;
-    let ends = ends_of(alloc, jobs, results, passes.len())?;
+    let done = results_of(setting, passes)?;
+    match stranger_of(setting.alloc, &done, passes) {
+        Some(fault) => Err(fault),
+        None => Ok(done),
+    }
+}
+
+// The results of all jobs, which a worker for each pass does.
+fn results_of<'a, L: Side + Send + Sync, R: Threads + Wait + Sync, G: Gate>(
+    setting: &Setting<'a, L, R, G>,
+    passes: &mut Vec<Pass<L>>,
+) -> Result<Vec<Done>, WorkFault>
+    requires { length setting.now.inputs.now < 2 ^ 32 }
+    ensures done { IfOk result (λ done. AreSliceResults setting.now.inputs.now done.items) }
+    ensures jobs { IfOk result (λ done. AreNumbered done.items) }
+    ensures kept { vec_len passes.new ≡ vec_len passes.old }
+    ensures fault { IfErr result (λ f. f ≢ WorkFault.PassesOut) }
+{
+    let jobs = jobs_of(setting.rt, setting.alloc, setting.inputs.len())?;
+    let (ends, results) = ends_for(setting.alloc, jobs, passes.len())?;
     run_all(setting, passes, ends)?;
     if setting.halted.load(Ordering::SeqCst) {
         return Err(WorkFault::Memory);
     }
-    let done = collect(setting.rt, alloc, setting.inputs, from_workers)?;
-    match stranger_of(alloc, &done, passes) {
-        Some(fault) => Err(fault),
-        None => Ok(done),
-    }
+    collect(setting.rt, setting.alloc, setting.inputs, results)
+}
+
+// The numbers of this many jobs, in a channel that is closed.
+fn jobs_of<R: Wait>(rt: &R, alloc: Global, count: usize) -> Result<Receiver<u32>, WorkFault>
+    requires { count < 2 ^ 32 }
+    ensures { IfErr result (λ f. f ≡ WorkFault.Memory) }
+{
+    let (sender, jobs) = unbounded(alloc)?;
+    send_jobs(rt, sender, count)?;
+    Ok(jobs)
+}
+
+// The ends of this many workers, and where their results come.
+fn ends_for<'a>(
+    alloc: Global,
+    jobs: Receiver<u32>,
+    count: usize,
+) -> Result<(Vec<Ends<'a>>, Receiver<JobResult<'a>>), AllocError> {
+    let (results, from_workers) = unbounded(alloc)?;
+    let ends = ends_of(alloc, jobs, results, count)?;
+    Ok((ends, from_workers))
 }
 
 // Makes this many passes.

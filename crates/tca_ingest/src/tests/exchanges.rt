@@ -1,4 +1,4 @@
-//! Two shared replicas that tell each other what they hold, and closed ones that don't agree.
+//! What two shared replicas tell each other, absorbs that are refused, and closed replicas that don't agree.
 ghost use Rattle.std.specs.Prelude.{◌≡◌};
 
 use super::{FIRST, PARTS, SECOND, THIRD, alone, closed_with, plan, reports, states_three, take};
@@ -20,7 +20,7 @@ fn answer(entry: &Entry) -> Option<Result<u64, AbsorbFault>> {
 }
 
 // Whether an exchange appends so many reports, and its absorb is the entry of this front.
-fn tells<I: Side, F: Side, R: Wait>(
+pub(super) fn tells<I: Side, F: Side, R: Wait>(
     rt: &R,
     into: (&Shared<I>, &mut Pass<I>),
     from: (&Shared<F>, &mut Pass<F>),
@@ -31,30 +31,15 @@ fn tells<I: Side, F: Side, R: Wait>(
     Ok(receipt.front == front && answer(&receipt.entry) == Some(Ok(count)))
 }
 
-// Whether the eighth call is the statement of the first three rows.
-fn ends<L: Side, R: Wait>(rt: &R, shared: &Shared<L>, pass: &mut Pass<L>) -> Result<bool, Fail> {
-    let receipt = shared.statement(rt, pass)?;
-    Ok(receipt.front == 8 && states_three(&receipt.entry))
-}
-
-// Two replicas that took two reports each, one of them the same, tell each other twice.
-fn tell_each_other<I: Side, F: Side, R: Wait>(
+// Whether the statement is that of the first three rows, and the entry of this front.
+pub(super) fn ends<L: Side, R: Wait>(
     rt: &R,
-    alloc: Global,
-    one: (&Shared<I>, &mut Pass<I>),
-    two: (&Shared<F>, &mut Pass<F>),
+    shared: &Shared<L>,
+    pass: &mut Pass<L>,
+    front: u64,
 ) -> Result<bool, Fail> {
-    let ((into, mine), (from, theirs)) = (one, two);
-    let first = take(rt, alloc, into, mine, &[FIRST, SECOND])?;
-    let second = take(rt, alloc, from, theirs, &[SECOND, THIRD])?;
-    let agreed = tells(rt, (into, mine), (from, theirs), 3, 2)?;
-    let back = tells(rt, (from, theirs), (into, mine), 4, 2)?;
-    let again = tells(rt, (into, mine), (from, theirs), 6, 0)?;
-    let back_again = tells(rt, (from, theirs), (into, mine), 7, 0)?;
-    let ended = ends(rt, into, mine)?;
-    let other_ended = ends(rt, from, theirs)?;
-    let taken = first == Some(1) && second == Some(1);
-    Ok(taken && agreed && back && again && back_again && ended && other_ended)
+    let receipt = shared.statement(rt, pass)?;
+    Ok(receipt.front == front && states_three(&receipt.entry))
 }
 
 // Closes with one pass.
@@ -77,57 +62,6 @@ pub(super) fn are_of_three(both: &[Closed]) -> bool {
         _ => false,
     };
     are_whole && close_all(both).is_ok()
-}
-
-// A pass of each replica, by which they told each other.
-fn told<I: Side, F: Side, R: Wait>(
-    rt: &R,
-    alloc: Global,
-    into: &Shared<I>,
-    from: &Shared<F>,
-) -> Result<(Pass<I>, Pass<F>), Fail> {
-    let (mut mine, mut theirs) = (into.pass(rt)?, from.pass(rt)?);
-    if !tell_each_other(rt, alloc, (into, &mut mine), (from, &mut theirs))? {
-        return Err("an exchange".into());
-    }
-    Ok((mine, theirs))
-}
-
-// Whether two replicas that tell each other close, with three reports each, and agree.
-fn agree<I: Side, F: Side, R: Wait>(
-    rt: &R,
-    alloc: Global,
-    into: Shared<I>,
-    from: Shared<F>,
-) -> Result<bool, Fail> {
-    let (mine, theirs) = told(rt, alloc, &into, &from)?;
-    let one = closed(alloc, into, mine)?;
-    let two = closed(alloc, from, theirs)?;
-    Ok(are_of_three(&both(alloc, one, two)?))
-}
-
-fn agreed<I: Side, F: Side, R: Wait>(
-    rt: &R,
-    alloc: Global,
-    one: (Blank, u32, Plan),
-    two: (Blank, u32, Plan),
-) -> Result<bool, Fail>
-    requires name { (one.0.name ≡ I.name) × (two.0.name ≡ F.name) }
-    requires parts { (one.0.parts ≡ I.parts) × (I.parts ≡ 65537) × (two.0.parts ≡ F.parts) × (F.parts ≡ 65537) }
-    requires called { (one.1 ≡ I.called) × (two.1 ≡ F.called) }
-    requires plan { (one.2 ≡ I.plan) × (two.2 ≡ F.plan) }
-{
-    let into = Shared::<I>::new(alloc, one.0, one.1, one.2)?;
-    let from = Shared::<F>::new(alloc, two.0, two.1, two.2)?;
-    agree(rt, alloc, into, from)
-}
-
-#[test]
-fn replicas_tell_each_other_what_they_hold(rt: HostRuntime) -> Result<(), Fail> {
-    let one = (Blank::new(PARTS), 1, plan(rt.alloc())?);
-    let two = (Blank::new(PARTS), 2, plan(rt.alloc())?);
-    assert!(rt; agreed::<Brand, Brand, _>(&rt, rt.alloc(), one, two)?);
-    Ok(())
 }
 
 // A delta of one run.

@@ -1,15 +1,10 @@
 //! Workers: two replicas that tell each other what they hold, an input that is refused among good ones, and too few passes.
 ghost use Rattle.std.specs.Prelude.{◌≡◌, ◌≤◌, IfOk, length};
 
-use super::exchanges::{are_of_three, both, is_gap};
+use super::exchanges::{are_of_three, both, ends, is_gap, tells};
 use super::limits::makes;
-use super::{
-    FIRST, PARTS, SECOND, START, THIRD, closed_with, is_of_three, lengths, plan, with_one_more,
-};
-use crate::{
-    Done, Entry, JobFault, NoGate, Pass, Receipt, ShareFault, Shared, Side, WorkFault, exchange,
-    work,
-};
+use super::{FIRST, PARTS, SECOND, START, THIRD, closed_with, lengths, plan, with_one_more};
+use crate::{Done, Entry, JobFault, NoGate, Pass, Shared, Side, WorkFault, work};
 use std::alloc::{AllocError, Global};
 use std::marker::Brand;
 use std::process::Abort;
@@ -18,7 +13,6 @@ use std::sync::ledger::Blank;
 use std::test::Fail;
 use std::thread::Threads;
 use tca_accounts::Plan;
-use tca_gossip::AbsorbFault;
 use tca_report::{InputFault, Notes};
 
 // The octets of the log export of one report, spelled here by hand.
@@ -108,38 +102,7 @@ fn by_two<L: Side + Send + Sync, R: Threads + Wait + Abort + Sync>(
     Ok(worked.passes)
 }
 
-// What the replica answered to an absorb.
-fn absorbed(receipt: Result<Receipt, ShareFault>) -> Result<Result<u64, AbsorbFault>, Fail> {
-    match receipt?.entry {
-        Entry::Absorbed { result, .. } => Ok(result),
-        _ => Err("an absorb".into()),
-    }
-}
-
-// Whether the statement is that of the first three rows.
-fn states_three<L: Side, R: Wait>(
-    rt: &R,
-    shared: &Shared<L>,
-    pass: &mut Pass<L>,
-) -> Result<bool, Fail> {
-    match shared.statement(rt, pass)?.entry {
-        Entry::Answered { bill, .. } => Ok(is_of_three(&bill)),
-        _ => Ok(false),
-    }
-}
-
-// Whether an absorb appends so many reports.
-fn tells<I: Side, F: Side, R: Wait>(
-    rt: &R,
-    into: (&Shared<I>, &mut Pass<I>),
-    from: (&Shared<F>, &mut Pass<F>),
-    new: u64,
-) -> Result<bool, Fail> {
-    let told = absorbed(exchange(rt, into.0, into.1, from.0, from.1))?;
-    Ok(told == Ok(new))
-}
-
-// Each lacks one report of the other's.
+// Each lacks one report of the other's. They tell each other twice.
 fn tell_each_other<I: Side, F: Side, R: Wait>(
     rt: &R,
     alloc: Global,
@@ -147,15 +110,14 @@ fn tell_each_other<I: Side, F: Side, R: Wait>(
     two: (&Shared<F>, &mut Pass<F>),
 ) -> Result<bool, Fail> {
     let ((into, mine), (from, theirs)) = (one, two);
-    let mut agreed = is_gap(rt, alloc, into, mine)?;
-    for new in [2, 0] {
-        let there = tells(rt, (into, mine), (from, theirs), new)?;
-        let back = tells(rt, (from, theirs), (into, mine), new)?;
-        agreed = agreed && there && back;
-    }
-    let ended = states_three(rt, into, mine)?;
-    let other_ended = states_three(rt, from, theirs)?;
-    Ok(agreed && ended && other_ended)
+    let gap = is_gap(rt, alloc, into, mine)?;
+    let there = tells(rt, (into, mine), (from, theirs), 5, 2)?;
+    let back = tells(rt, (from, theirs), (into, mine), 5, 2)?;
+    let again = tells(rt, (into, mine), (from, theirs), 8, 0)?;
+    let back_again = tells(rt, (from, theirs), (into, mine), 8, 0)?;
+    let ended = ends(rt, into, mine, 10)?;
+    let other_ended = ends(rt, from, theirs, 9)?;
+    Ok(gap && there && back && again && back_again && ended && other_ended)
 }
 
 // A pass of each replica, by which they told each other.

@@ -1,4 +1,4 @@
-use Rattle.std.proofs.Common.{◌≡◌, sym, subst, ap}
+use Rattle.std.proofs.Common.{◌≡◌, subst}
 use Rattle.std.specs.List.{AllByRecursion}
 use Rattle.tca_ingest.specs.Entries.{pass_of}
 use Rattle.tca_ingest.specs.Passes.{PassView}

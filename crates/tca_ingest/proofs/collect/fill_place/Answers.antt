@@ -1,7 +1,7 @@
-use Rattle.std.proofs.Common.{◌≡◌, ℕ, List, Some, [], slice_index_or, rules, sym, subst}
+use Rattle.std.proofs.Common.{◌≡◌, ℕ, List, Some, [], slice_index_or, rules, sym, subst, arith}
 use denote.Bor.{Bor}
 use Rattle.tca_ingest.specs.Works.{IsResult, IsResultAt}
-use Rattle.tca_ingest.proofs.Collecting.{zip_set}
+use Rattle.tca_ingest.proofs.Collecting.{empty_there, zip_set}
 use Rattle.tca_ingest.proofs.collect.fill_place.Goals as goal
 
 pub returns-clause-results : goal.returns-clause-results
@@ -11,3 +11,7 @@ returns-clause-results c =
     let same : (slice_index_or c.args.inputs.now given.job none).now ≡ given.input.now = search rules in
     zip_set (λ (input : Bor (List ℕ)) place. IsResultAt input.now place) c.args.inputs.now c.args.places.now.items given.job none (Some given.result) c.requires c.if-at-inputs.false
     (subst (λ octets. IsResult octets given.result) (sym same) c.of_job.invariant)
+
+pub returns-clause-empty : goal.returns-clause-empty
+returns-clause-empty c =
+    rw (← c.of_job.view_is) (λ d. empty_there c.args.places.now.items c.of_job.inside.job c.index.result.now (omega (arith, c.if-at-len.false, c.len.ensures)) c.index.ensures (sym c.if-is_some.ensures) d)

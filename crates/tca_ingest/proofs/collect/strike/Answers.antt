@@ -1,4 +1,4 @@
-use Rattle.std.proofs.Common.{◌≡◌, ◌<◌, List, slice_index_or, ◌∷◌, ◌++◌, [], length, rules, sym, ap, ◌∙◌, subst}
+use Rattle.std.proofs.Common.{◌≡◌, ◌<◌, List, slice_index_or, ◌++◌, length, rules, sym, ap, ◌∙◌, subst}
 use Rattle.std.specs.List.Sorted.{IsPermutation}
 use denote.Bor.{Bor}
 use Rattle.tca_ingest.specs.declared.entry.Entry.{Entry}

@@ -1,4 +1,4 @@
-use Rattle.std.proofs.Common.{◌≡◌, true, false, [], length, take, sym, ◌∙◌, subst}
+use Rattle.std.proofs.Common.{◌≡◌, true, false, [], sym, ◌∙◌, subst}
 use Rattle.std.proofs.lemmas.List.{take_all}
 use Rattle.tca_ingest.specs.EntryViews.{entry_views}
 use Rattle.tca_ingest.specs.Passes.{AllOwned, IsDiffering}

@@ -1,4 +1,4 @@
-use Rattle.std.proofs.Common.{◌≡◌, [], sym, ap, ◌∙◌, subst, rules, arith}
+use Rattle.std.proofs.Common.{◌≡◌, [], sym, ◌∙◌, subst, rules, arith}
 use Rattle.tca_ingest.specs.EntryViews.{entry_views}
 use Rattle.tca_ingest.specs.Journals.{IsHistory}
 use Rattle.tca_gossip.specs.Replicas.{new_replica}
