@@ -9,3 +9,5 @@ pub mod NotedLaws
 pub mod BillLemmas
 pub mod ReadLaws
 pub mod ReplicatedLaws
+pub mod AbsorbLaws
+pub mod ShareLaws

@@ -1,5 +1,6 @@
 -- What the command `bill` is refused for where replicas and workers read the inputs.
-use Rattle.std.specs.Prelude.{◌≡◌, ◌≢◌, ◌≤◌, ◌⊎◌, ℕ, Bool, true, false, List, take, Option, Some, None, Result, Ok, Err, IsOk, slice_get}
+use Rattle.std.specs.Prelude.{◌≡◌, ◌≢◌, ◌≤◌, ◌⊎◌, ℕ, ◌+◌, ◌%◌, ◌==◌, Bool, true, false, cond, List, [], ◌∷◌, take, Option, Some, None, Result, Ok, Err, IsOk, slice_get, slice_set}
+use Rattle.std.specs.Borrow.{Bor}
 use Rattle.std.specs.List.{AllByRecursion}
 use Rattle.tca_report.specs.report.Reports.{PacketReport}
 use Rattle.tca_report.specs.export.Spelling.{export}
@@ -15,6 +16,7 @@ use Rattle.tca_ingest.specs.Entries.{EntryView, Took}
 use Rattle.tca_ingest.specs.EntryViews.{entry_view}
 use Rattle.tca_ingest.specs.Faults.{share_number}
 use Rattle.tca_ingest.specs.declared.entry.Receipt.{Receipt}
+use Rattle.tca_ingest.specs.declared.job.Done.{Done}
 use Rattle.tca_ingest.specs.declared.fault.ShareFault.{ShareFault}
 use Rattle.tca_ingest.specs.declared.fault.ShareFault.TheVariants.{PassesOut}
 use Rattle.tca_ingest.specs.declared.job.JobFault.{JobFault}
@@ -43,6 +45,22 @@ pub record IsWithinLimits (replicas workers inputs : ℕ) : Type 0 where
 pub record AnswerView : Type 0 where
   pub input : List ℕ
   pub result : Result (Notes × Receipt) JobFault
+
+-- of inputs, the first of which has this number, those whose numbers leave this remainder
+unfoldable pub share_from : (number remainder divisor : ℕ) → List (List ℕ) → List (List ℕ)
+share_from n remainder divisor [] = []
+share_from n remainder divisor (input ∷ inputs) = cond (n % divisor == remainder) (input ∷ share_from (n + 1) remainder divisor inputs) (share_from (n + 1) remainder divisor inputs)
+
+-- what came of each input of a share
+unfoldable pub answers_of : List (Bor (List ℕ)) → List Done → List AnswerView
+answers_of [] done = []
+answers_of (input ∷ inputs) [] = []
+answers_of (input ∷ inputs) (d ∷ done) = record { input = input.now; result = d.result } ∷ answers_of inputs done
+
+-- places with answers: the first at a place, each other one so many places after the one before it
+unfoldable pub put_from : (place step : ℕ) → List (Option AnswerView) → List AnswerView → List (Option AnswerView)
+put_from place step places [] = places
+put_from place step places (answer ∷ answers) = put_from (place + step) step (slice_set places place (Some answer)) answers
 
 -- each input was read: these are the inputs' notes, and each holds the reports beside it
 pub record AreRead (inputs : List (List ℕ)) (notes : List Notes) (lists : List (List PacketReport)) : Type 0 where

@@ -1,9 +1,9 @@
 //! What the workers of all replicas answered, put back into the order of the inputs.
 ghost use Rattle.std.specs.List.{flat_map};
-ghost use Rattle.std.specs.Prelude.{◌≡◌, ◌++◌, ◌<◌, ◌^◌, IfOk, IfErr, Some, length, map};
+ghost use Rattle.std.specs.Prelude.{◌≡◌, ◌≢◌, ℕ, ◌++◌, ◌+◌, ◌*◌, ◌<◌, ◌≤◌, ◌^◌, IfOk, IfErr, OnOk, OnErr, Some, length, map, slice_get, slice_set};
 ghost use Rattle.tca_ingest.specs.Works.{AreSliceResults};
 ghost use Rattle.tcacct.specs.Noted.{IsNoted};
-ghost use Rattle.tcacct.specs.Replicated.{AreRead, AreReplicasRefused, IsInputFault, IsReadingRefused, refusal_of};
+ghost use Rattle.tcacct.specs.Replicated.{AnswerView, AreRead, AreReplicasRefused, IsInputFault, IsReadingRefused, answers_of, put_from, refusal_of};
 ghost use Rattle.tcacct.specs.Runs.{HoldsReports, octets_of, union_of};
 
 use crate::fault::RunFault;
@@ -53,14 +53,13 @@ pub(crate) fn put_answers<'a>(
     places: &mut Vec<Option<Answer<'a>>>,
 ) -> Result<(), RunFault>
     requires { AreSliceResults share.now done.items }
-    ensures { IfErr result IsReadingRefused }
+    ensures put { OnOk result (places.new.items ≡ put_from first step places.old.items (answers_of share.now done.items)) }
+    ensures outside { OnErr result ((k : ℕ) × (k < length share.now) × (length places.old.items ≤ first + k * step)) }
+    ensures refused { IfErr result IsReadingRefused }
 {
     let mut left = done;
     let mut at = first;
     for input in share {
-        if left.is_empty() {
-            return Err(RunFault::stranger());
-        }
         let Done { result, .. } = left.remove(0);
         let answer = Answer {
             input: *input,
@@ -78,7 +77,10 @@ fn put_answer<'a>(
     at: usize,
     answer: Answer<'a>,
 ) -> Result<(), RunFault>
-    ensures { IfErr result IsReadingRefused }
+    ensures put { OnOk result (places.new.items ≡ slice_set places.old.items at (Some answer.entry)) }
+    ensures inside { OnOk result (at < length places.old.items) }
+    ensures outside { OnErr result (length places.old.items ≤ at) }
+    ensures refused { IfErr result IsReadingRefused }
 {
     if at >= places.len() {
         return Err(RunFault::stranger());
@@ -93,7 +95,9 @@ fn take_answer<'a>(
     n: usize,
     input: &[u8],
 ) -> Result<Answer<'a>, RunFault>
+    ensures taken { IfOk result (λ a. slice_get places.old.items n ≡ Some (Some a)) }
     ensures same { IfOk result (λ a. a.input ≡ input.now) }
+    ensures stranger { OnErr result ((a : AnswerView) → slice_get places.old.items n ≡ Some (Some a) → a.input ≢ input.now) }
     ensures refused { IfErr result IsReadingRefused }
 {
     if n >= places.len() {

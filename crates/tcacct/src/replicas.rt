@@ -1,6 +1,9 @@
 //! Replicas that read the inputs by workers, and tell each other what they hold.
-ghost use Rattle.std.specs.Prelude.{◌≡◌, ◌≤◌, ◌<◌, ◌+◌, IfOk, IfErr, length, map};
-ghost use Rattle.tcacct.specs.Replicated.{AreRead, AreReplicasRefused, IsReadingRefused, IsRunRefused, IsWithinLimits};
+ghost use Rattle.std.specs.Prelude.{◌≡◌, ◌≤◌, ◌<◌, ◌+◌, IfOk, IfErr, OnOk, length, map};
+ghost use Rattle.tca_ingest.specs.Closed.{replicas_of};
+ghost use Rattle.tca_ingest.specs.Passes.{AreClosing};
+ghost use Rattle.tcacct.specs.Absorbs.{Absorbs, AreAgreed, AreJoined, HasAbsorbed, with_lacking};
+ghost use Rattle.tcacct.specs.Replicated.{AreRead, AreReplicasRefused, IsReadingRefused, IsRunRefused, IsWithinLimits, share_from};
 ghost use Rattle.tcacct.specs.Runs.{octets_of};
 
 use crate::answers::{Answer, Contents, contents_of, empty_places, put_answers};
@@ -36,7 +39,8 @@ fn share_of<'a>(
     step: u32,
 ) -> Result<Vec<&'a [u8]>, AllocError>
     requires { 1 ≤ step }
-    ensures { IfOk result (λ share. length share.items ≤ length inputs.now) }
+    ensures share { IfOk result (λ share. map (λ s. s.now) share.items ≡ share_from 0 first step (octets_of inputs.now)) }
+    ensures within { IfOk result (λ share. length share.items ≤ length inputs.now) }
 {
     let mut share = Vec::new(alloc);
     for (n, input) in inputs.iter().enumerate() {
@@ -79,6 +83,7 @@ fn worked<'a, L: Side + Send + Sync, R: Threads + Wait + Sync, G: Gate>(
 // Closes a replica with all its passes.
 fn closed<L: Side>(shared: Shared<L>, passes: Vec<Pass<L>>) -> Result<Closed, RunFault>
     ensures plan { IfOk result (λ c. c.replica.plan ≡ L.plan) }
+    ensures closing { IfOk result (λ c. AreClosing c.journal passes.items) }
     ensures refused { IfErr result IsReadingRefused }
 {
     match shared.close(passes) {
@@ -115,7 +120,8 @@ fn others_of<'a, R: Threads + Wait + Sync, G: Gate>(
     places: &mut Vec<Option<Answer<'a>>>,
 ) -> Result<Vec<Closed>, RunFault>
     requires { IsWithinLimits setting.now.replicas setting.now.workers (length setting.now.inputs.now) }
-    ensures { IfErr result IsReadingRefused }
+    ensures many { IfOk result (λ others. length others.items + 1 ≡ setting.now.replicas) }
+    ensures refused { IfErr result IsReadingRefused }
 {
     let alloc = setting.alloc;
     let mut others = Vec::new(alloc);
@@ -136,7 +142,8 @@ fn bring<L: Side, R: Wait>(
     mine: &mut Pass<L>,
     from: &Replica,
 ) -> Result<(), RunFault>
-    ensures { IfErr result IsRunRefused }
+    ensures absorbs { OnOk result (Absorbs from.now mine.old mine.new) }
+    ensures refused { IfErr result IsRunRefused }
 {
     let asked = into.summary(rt, mine)?;
     let Entry::Asked { summary, .. } = asked.entry else {
@@ -144,16 +151,14 @@ fn bring<L: Side, R: Wait>(
     };
     let delta = from.delta(&summary)?;
     let receipt = into.absorb(rt, mine, &delta)?;
-    match receipt.entry {
-        Entry::Absorbed {
-            result: Err(fault),
-            ..
-        } => Err(RunFault::from(fault)),
-        _ => Ok(()),
-    }
+    let Entry::Absorbed { result, .. } = receipt.entry else {
+        unreachable!();
+    };
+    result?;
+    Ok(())
 }
 
-// Has a shared replica absorb what it lacks of all others, and closes it.
+// Has a shared replica absorb what it lacks of each other one in order, and closes it.
 fn joined<L: Side, R: Wait>(
     rt: &R,
     shared: Shared<L>,
@@ -161,6 +166,7 @@ fn joined<L: Side, R: Wait>(
     others: &[Closed],
 ) -> Result<Closed, RunFault>
     ensures plan { IfOk result (λ c. c.replica.plan ≡ L.plan) }
+    ensures absorbed { IfOk result (λ c. HasAbsorbed (replicas_of others.now) c.journal) }
     ensures refused { IfErr result IsRunRefused }
 {
     let mut passes = passes;
@@ -176,7 +182,8 @@ fn joined<L: Side, R: Wait>(
 
 // Has a replica absorb what it lacks of another one.
 fn tell(into: &mut Replica, from: &Replica) -> Result<(), RunFault>
-    ensures { IfErr result IsRunRefused }
+    ensures told { OnOk result (into.new ≡ with_lacking into.old from.now) }
+    ensures refused { IfErr result IsRunRefused }
 {
     let summary = into.summary()?;
     let delta = from.delta(&summary)?;
@@ -184,26 +191,23 @@ fn tell(into: &mut Replica, from: &Replica) -> Result<(), RunFault>
     Ok(())
 }
 
-// The first replica, where all others absorbed what they lacked of it and all agree.
-fn agreed(first: Closed, others: Vec<Closed>) -> Result<Closed, RunFault>
-    ensures same { IfOk result (λ c. c ≡ first) }
+// All replicas, the first one last, where each other one absorbed what it lacked of the first and all agree.
+fn agreed(first: Closed, others: Vec<Closed>) -> Result<Vec<Closed>, RunFault>
+    ensures agreed { IfOk result (λ all. AreAgreed first others.items all.items) }
     ensures refused { IfErr result IsRunRefused }
 {
     let mut all = others;
-    for i in 0..all.len() {
-        tell(&mut all[i].replica, &first.replica)?;
+    for other in all.iter_mut() {
+        tell(&mut other.replica, &first.replica)?;
     }
     if all.push(first).is_err() {
         return Err(RunFault::from(AllocError));
     }
     close_all(&all)?;
-    match all.pop() {
-        Some(first) => Ok(first),
-        None => unreachable!(),
-    }
+    Ok(all)
 }
 
-/// The first replica, closed, once it holds what all others do, and what the inputs hold.
+/// All replicas, closed, the first one last, once it holds what all others do, and what the inputs hold.
 ///
 /// The first replica is made and reads its inputs; then each other one is made, reads its inputs and is closed. Then comes the refusal of
 /// the first input in order that has one. Then the first replica, still shared, absorbs what it lacks of each other one and is closed,
@@ -213,13 +217,13 @@ pub(crate) fn run_replicas<'a, L: Side + Send + Sync, R: Threads + Wait + Sync, 
     blank: Blank,
     plan: &Plan,
     mine: Plan,
-) -> Result<(Closed, Contents), RunFault>
+) -> Result<(Vec<Closed>, Contents), RunFault>
     requires name { blank.name ≡ L.name }
     requires parts { (blank.parts ≡ L.parts) × (L.parts ≡ 65537) }
     requires called { 1 ≡ L.called }
     requires plan { mine ≡ L.plan }
     requires limits { IsWithinLimits setting.now.replicas setting.now.workers (length setting.now.inputs.now) }
-    ensures plan { IfOk result (λ x. x.0.replica.plan ≡ mine) }
+    ensures joined { IfOk result (λ x. AreJoined mine setting.now.replicas x.0.items) }
     ensures read { IfOk result (λ x. AreRead (octets_of setting.now.inputs.now) x.1.notes.items (map (λ l. l.items) x.1.lists.items)) }
     ensures refused { IfErr result (AreReplicasRefused (octets_of setting.now.inputs.now)) }
 {
@@ -230,6 +234,6 @@ pub(crate) fn run_replicas<'a, L: Side + Send + Sync, R: Threads + Wait + Sync, 
     let others = others_of(setting, plan, &mut places)?;
     let contents = contents_of(alloc, inputs, places)?;
     let first = joined(rt, shared, passes, &others)?;
-    let first = agreed(first, others)?;
-    Ok((first, contents))
+    let all = agreed(first, others)?;
+    Ok((all, contents))
 }

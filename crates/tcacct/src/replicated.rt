@@ -1,5 +1,5 @@
 //! The command `bill` by replicas and workers.
-ghost use Rattle.std.specs.Prelude.{◌≡◌, ◌≤◌, IfOk, IfErr, None, Some, length, map, true};
+ghost use Rattle.std.specs.Prelude.{◌≡◌, ◌≢◌, ◌≤◌, ◌↔◌, IfOk, IfErr, IsTrue, None, Some, length, map, true};
 ghost use Rattle.std.specs.List.Sorted.{IsStrictlySortedBy};
 ghost use Rattle.tca_accounts.specs.Plans.{AccountPlan};
 ghost use Rattle.tca_report.specs.export.Spelling.{most_reports};
@@ -8,7 +8,8 @@ ghost use Rattle.tcacct.specs.Billed.{IsBillDone, IsPlanOf, statement_under};
 ghost use Rattle.tcacct.specs.Devices.{after, before, device};
 ghost use Rattle.tcacct.specs.Noted.{AreNotes};
 ghost use Rattle.tcacct.specs.Replicated.{IsReplicatedRefused, IsReplicatedUnmade, IsRunRefused, IsWithinLimits};
-ghost use Rattle.tcacct.specs.Runs.{IsUnion, octets_of, union_of};
+ghost use Rattle.tcacct.specs.Runs.{IsUnion, is_family, octets_of, union_of};
+ghost use Rattle.tcacct.specs.declared.fault.Family.TheVariants as family;
 
 use crate::answers::union_of;
 use crate::fault::RunFault;
@@ -43,6 +44,7 @@ fn compared(
     ensures held { IfOk result (λ list. list.items ≡ replica.now.log) }
     ensures rises { IfOk result (λ list. IsStrictlySortedBy report_cmp list.items) }
     ensures limit { IfOk result (λ list. length list.items ≤ most_reports) }
+    ensures differs { IfErr result (λ e. is_family e.family family.Close ≡ true → union_of (map (λ l. l.items) lists.items) ≢ replica.now.log) }
     ensures refused { IfErr result IsRunRefused }
 {
     let reports = union_of(alloc, lists)?;
@@ -54,7 +56,7 @@ fn compared(
 
 // Whether these are the reports of a log, in their order.
 fn are_all_of(reports: &[Report], log: &Log) -> bool
-    ensures same { result ≡ true → reports.now ≡ log.now }
+    ensures same { IsTrue result ↔ (reports.now ≡ log.now) }
     ensures limit { length log.now ≤ most_reports }
 {
     let mut left = log.reports();
@@ -94,7 +96,10 @@ fn made<R: Threads + Wait + Sync, G: Gate>(
 {
     let plan = Plan::from_text(setting.alloc, plan)?;
     let mine = plan.copy(setting.alloc)?;
-    let (first, contents) = run_replicas::<Brand, R, G>(setting, Blank::new(PARTS), &plan, mine)?;
+    let (all, contents) = run_replicas::<Brand, R, G>(setting, Blank::new(PARTS), &plan, mine)?;
+    let Some(first) = all.last() else {
+        unreachable!();
+    };
     let reports = compared(setting.alloc, &first.replica, contents.lists)?;
     let statement = stated(setting.alloc, &plan, &first.replica)?;
     Ok(Prepared {

@@ -1,4 +1,9 @@
+use Rattle.std.proofs.Common.{◌≡◌, ◌+◌, length}
 use Rattle.tcacct.proofs.replicas.others_of.Given as goal
+
+-- those made so far
+abbrev pub invariant-loop-name : goal.invariant-loop-name
+invariant-loop-name g l = length l.others.items + 2 ≡ l.name
 
 abbrev pub ghosts-read_by-L-Ledger : goal.ghosts-read_by-L-Ledger
 ghosts-read_by-L-Ledger g a = record { name = a.blank.name; parts = a.blank.parts }

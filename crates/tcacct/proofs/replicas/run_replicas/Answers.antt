@@ -7,7 +7,7 @@ returns-in_err-first-clause-refused g c =
     let is : c.from_residual-in_err-first.result ≡ Err c.in_err-first.field-0.0 = search rules in
     rw is (inr (inr (all_sound _ _ c.in_ok-contents.ensures.read.noted, c.in_err-first.ensures.refused)))
 
-pub returns-in_err-first-2-clause-refused : goal.returns-in_err-first-2-clause-refused
-returns-in_err-first-2-clause-refused g c =
-    let is : c.from_residual-in_err-first-2.result ≡ Err c.in_err-first-2.field-0.0 = search rules in
-    rw is (inr (inr (all_sound _ _ c.in_ok-contents.ensures.read.noted, c.in_err-first-2.ensures.refused)))
+pub returns-in_err-all-clause-refused : goal.returns-in_err-all-clause-refused
+returns-in_err-all-clause-refused g c =
+    let is : c.from_residual-in_err-all.result ≡ Err c.in_err-all.field-0.0 = search rules in
+    rw is (inr (inr (all_sound _ _ c.in_ok-contents.ensures.read.noted, c.in_err-all.ensures.refused)))

@@ -1,0 +1,62 @@
+use Rattle.std.proofs.Common.{◌≡◌, ◌∙◌, ◌≤◌, ◌+◌, ◌*◌, ℕ, suc, [], get_or, Err, Some, List, length, drop, length-set, ap, ap₂, sym, subst, rules, arith}
+use Rattle.std.specs.Borrow.{Bor}
+use Rattle.std.specs.Prelude.{slice_set}
+use Rattle.std.specs.List.{remove}
+use Rattle.std.proofs.Math.ListN.{drop_of_length-le}
+use Rattle.std.proofs.lemmas.List.{get_or_default}
+use Rattle.tca_ingest.specs.Works.{AreSliceResults, IsResult}
+use Rattle.tca_ingest.specs.declared.job.Done.{Done}
+use Rattle.tcacct.specs.Replicated.{answers_of, put_from}
+use Rattle.tcacct.proofs.ShareLaws.{next_place, next_result, one_more_put, no_answer, none_put, same_place}
+use Rattle.tcacct.proofs.answers.put_answers.Goals as goal
+
+pub remove-result-requires : goal.remove-result-requires
+remove-result-requires c =
+    let l = c.loop-input in
+    let next = next_result (λ (input : Bor (List ℕ)) (d : Done). IsResult input.now d.result) c.args.share.now l.left.items l.input-index c.loop-input-test.true l.invariant.results in
+    let some : length l.left.items ≡ suc (length next.more) = ap length next.first in
+    search (arith, rules)
+
+pub returns-in_err-put_answer-clause-outside : goal.returns-in_err-put_answer-clause-outside
+returns-in_err-put_answer-clause-outside c =
+    let l = c.loop-input in
+    let is : c.from_residual.result ≡ Err c.in_err-put_answer.field-0.0 = search rules in
+    let outside : length c.args.places.now.items ≤ l.at = subst (λ n. n ≤ l.at) l.invariant.many c.in_err-put_answer.ensures.outside in
+    let at = l.invariant.at in
+    rw is (l.input-index, c.loop-input-test.true, omega arith)
+
+pub loop-input-preserved : goal.loop-input-preserved
+loop-input-preserved c =
+    let l = c.loop-input in
+    let share = c.args.share.now in
+    let place = c.args.first + l.input-index * c.args.step in
+    let next = next_result (λ (input : Bor (List ℕ)) (d : Done). IsResult input.now d.result) share l.left.items l.input-index c.loop-input-test.true l.invariant.results in
+    let input = next.input in
+    let d = next.result in
+    let more : c.remove-result.new.self.items ≡ next.more = c.remove-result.ensures.items ∙ ap (λ (ds : List Done). remove ds 0) next.first in
+    let inside = c.in_ok-put_answer.ensures.inside in
+    let few : length l.places.items ≤ 18446744073709551615 = search (arith, rules) in
+    let at : l.at ≡ place = same_place l.at place 18446744073709551615 (length l.places.items) l.invariant.at inside few in
+    let done : c.remove-result.result ≡ d = c.remove-result.ensures.value ∙ ap (λ (ds : List Done). get_or ds 0 c.remove-result.result) next.first in
+    let same : get_or share l.input-index (record { ref_ptr = (0, 0); now = [] }) ≡ input = get_or_default share l.input-index (record { ref_ptr = (0, 0); now = [] }) input c.loop-input-test.true ∙ sym next.at in
+    let put : c.put_answer.new.places.items ≡ slice_set l.places.items place (Some (record { input = input.now; result = d.result })) =
+    c.in_ok-put_answer.ensures.put
+    ∙ ap (λ n. slice_set l.places.items n (Some (record { input = (get_or share l.input-index (record { ref_ptr = (0, 0); now = [] })).now; result = c.remove-result.result.result }))) at
+    ∙ ap₂ (λ (i : Bor (List ℕ)) (d : Done). slice_set l.places.items place (Some (record { input = i.now; result = d.result }))) same done in
+    record {
+      results = subst (AreSliceResults (drop (l.input-index + 1) share)) (sym more) next.zip;
+      at = c.saturating_add-at.ensures ∙ next_place l.at c.args.first l.input-index c.args.step 18446744073709551615 l.invariant.at;
+      many = ap length put ∙ length-set l.places.items place (Some (record { input = input.now; result = d.result })) ∙ l.invariant.many;
+      whole =
+          ap (λ (ds : List Done). put_from (c.args.first + (l.input-index + 1) * c.args.step) c.args.step c.put_answer.new.places.items (answers_of (drop (l.input-index + 1) share) ds)) more
+          ∙ one_more_put share l.input-index place (c.args.first + (l.input-index + 1) * c.args.step) c.args.step l.places.items c.put_answer.new.places.items l.left.items next.more input d next.here next.first (omega arith) put
+          ∙ l.invariant.whole;
+    }
+
+pub returns-clause-put : goal.returns-clause-put
+returns-clause-put c =
+    let l = c.loop-input in
+    let place = c.args.first + l.input-index * c.args.step in
+    sym (none_put place c.args.step l.places.items)
+    ∙ ap (put_from place c.args.step l.places.items) (sym (no_answer l.left.items))
+    ∙ (rw (drop_of_length-le c.args.share.now c.loop-input-test.false) at l.invariant.whole)

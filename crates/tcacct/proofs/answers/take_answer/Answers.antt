@@ -1,0 +1,23 @@
+use Rattle.std.proofs.Common.{◌≡◌, ◌∙◌, ◌<◌, length, Some, ap, sym, rules, arith}
+use Rattle.std.specs.Prelude.{slice_get}
+use Rattle.std.proofs.lemmas.Option.{slice_get-get_or}
+use Rattle.tcacct.specs.Replicated.{AnswerView}
+use Rattle.tcacct.proofs.answers.take_answer.Goals as goal
+
+pub returns-then-ne-clause-stranger : goal.returns-then-ne-clause-stranger
+returns-then-ne-clause-stranger c = λ a here same.
+    let places = c.args.places.now.items in
+    let inside : c.args.n < length places = search (arith, rules) in
+    let was : c.index_mut.result.now ≡ Some c.in-Some.answer = search rules in
+    let got : slice_get places c.args.n ≡ Some (Some c.in-Some.answer) = slice_get-get_or places c.args.n c.index_mut.result.now inside ∙ ap Some (sym c.index_mut.ensures.value ∙ was) in
+    let is : Some (Some a) ≡ Some (Some c.in-Some.answer) = sym here ∙ got in
+    let one : a ≡ c.in-Some.answer = cc in
+    let input : c.in-Some.answer.input ≡ c.args.input.now = sym (ap (λ (v : AnswerView). v.input) one) ∙ same in
+    search rules
+
+pub returns-clause-taken : goal.returns-clause-taken
+returns-clause-taken c =
+    let places = c.args.places.now.items in
+    let inside : c.args.n < length places = search (arith, rules) in
+    let was : c.index_mut.result.now ≡ Some c.in-Some.answer = search rules in
+    slice_get-get_or places c.args.n c.index_mut.result.now inside ∙ ap Some (sym c.index_mut.ensures.value ∙ was)

@@ -1,0 +1,35 @@
+use Rattle.std.proofs.Common.{◌≡◌, ◌∙◌, ◌+◌, [], ◌∷◌, ◌++◌, take, ap, sym, subst, rules}
+use Rattle.std.specs.List.{All}
+use Rattle.std.proofs.lemmas.List.{map-append, take_all, take_more}
+use Rattle.std.proofs.lemmas.Result.{IfOk-weaker}
+use Rattle.tca_gossip.specs.Replicas.{ReplicaView}
+use Rattle.tca_ingest.specs.Closed.{ClosedView, replicas_of}
+use Rattle.tca_ingest.specs.Passes.{AreClosing, calls_of}
+use Rattle.tcacct.specs.Absorbs.{Absorbs, AbsorbsEach, HasAbsorbed}
+use Rattle.tcacct.proofs.AbsorbLaws.{all_last, one_more, same_number}
+use Rattle.tcacct.proofs.replicas.joined.Goals as goal
+
+pub loop-other-preserved : goal.loop-other-preserved
+loop-other-preserved g c =
+    let l = c.loop-other in
+    let others = c.args.others.now in
+    let item = c.other-item.result in
+    let absorbs : Absorbs item.replica l.mine c.bring.new.mine = subst (λ (v : ReplicaView). Absorbs v l.mine c.bring.new.mine) (ap (λ (v : ClosedView). v.replica) c.other.view_is) c.in_ok-bring.ensures.absorbs in
+    let next : take (l.other-index + 1) others ≡ take l.other-index others ++ item ∷ [] = take_more others l.other-index item c.loop-other-test.true ∙ ap (λ (v : ClosedView). take l.other-index others ++ v ∷ []) (sym c.other-item.is) in
+    let more : replicas_of (take (l.other-index + 1) others) ≡ replicas_of (take l.other-index others) ++ item.replica ∷ [] = ap replicas_of next ∙ map-append (λ v. v.replica) (take l.other-index others) (item ∷ []) in
+    let so_far = replicas_of (take l.other-index others) in
+    rw more (subst (λ n. AbsorbsEach (so_far ++ item.replica ∷ []) (record { number = n; calls = [] }) c.bring.new.mine) (sym (same_number item.replica l.mine c.bring.new.mine absorbs))
+    (one_more so_far item.replica (record { number = l.mine.number; calls = [] }) l.mine c.bring.new.mine l.invariant absorbs))
+
+pub returns-clause-absorbed : goal.returns-clause-absorbed
+returns-clause-absorbed g c =
+    let l = c.loop-other in
+    let others = c.args.others.now in
+    let absorbed : AbsorbsEach (replicas_of others) (record { number = l.mine.number; calls = [] }) l.mine = rw (take_all l.other-index others c.loop-other-test.false) at l.invariant in
+    let passes : c.push.new.self.items ≡ c.args.passes.items ++ l.mine ∷ [] = search rules in
+    IfOk-weaker c.closed.result (λ x. AreClosing x.journal c.push.new.self.items) (λ x. HasAbsorbed (replicas_of others) x.journal)
+    (λ x closing. record {
+      pass = l.mine;
+      calls = all_last (λ p. calls_of p.number x.journal ≡ p.calls) c.args.passes.items l.mine (subst (All (λ p. calls_of p.number x.journal ≡ p.calls)) passes closing.each);
+      absorbed = absorbed;
+    }) c.closed.ensures.closing

@@ -1,0 +1,18 @@
+use Rattle.std.proofs.Common.{◌≡◌, ◌∙◌, ℕ, List, take, ap}
+use Rattle.std.proofs.Math.Seq.{take-length}
+use Rattle.tca_gossip.specs.Coupling.{counts_of}
+use Rattle.tca_gossip.specs.Replicas.{appended, chain_of}
+use Rattle.tca_gossip.specs.Runs.{RunView, delta_of, rests, summary_count}
+use Rattle.tcacct.proofs.replicas.tell.Goals as goal
+
+pub returns-clause-told : goal.returns-clause-told
+returns-clause-told c =
+    let into = c.args.into.now in
+    let from = c.args.from.now in
+    let delta = c.in_ok-delta.delta in
+    let lacking : delta ≡ delta_of (summary_count (counts_of into.chains)) from.chains =
+    c.in_ok-delta.ensures ∙ ap (λ (counts : List (ℕ × ℕ)). delta_of (summary_count counts) from.chains) c.in_ok-summary.ensures.exact in
+    c.in_ok-absorb.ensures.state
+    ∙ ap (λ n. appended into (take n (rests (chain_of into) delta))) c.in_ok-absorb.ensures.outcome.1
+    ∙ ap (appended into) (take-length (rests (chain_of into) delta))
+    ∙ ap (λ (runs : List RunView). appended into (rests (chain_of into) runs)) lacking
