@@ -6,13 +6,16 @@ use Rattle.tca_gossip.specs.Replicas.{ReplicaView}
 use Rattle.tca_ingest.specs.Passes.{PassView}
 use Rattle.tcacct.specs.Absorbs.{Absorbs, AbsorbsEach}
 
+-- each of these, and behind them one more
 pub one_more : (vs : List ReplicaView) (v : ReplicaView) (a b c : PassView) → AbsorbsEach vs a b → Absorbs v b c → AbsorbsEach (vs ++ v ∷ []) a c
 one_more [] v a b c same more = (c, subst (λ p. Absorbs v p c) same more, refl)
 one_more (w ∷ vs) v a b c (between, first, rest) more = (between, first, one_more vs v between b c rest more)
 
+-- a pass keeps its number
 pub same_number : (v : ReplicaView) (a b : PassView) → Absorbs v a b → b.number ≡ a.number
 same_number v a b absorbs = ap (λ p. p.number) absorbs.calls
 
+-- what holds of all of a list holds of its last
 pub all_last : {X : Type 0} (P : X → Type 0) (xs : List X) (x : X) → All P (xs ++ x ∷ []) → P x
 all_last P [] x all = All-head P x [] all
 all_last P (y ∷ ys) x all = all_last P ys x (All-tail P y (ys ++ x ∷ []) all)

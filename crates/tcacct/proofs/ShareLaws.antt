@@ -1,10 +1,20 @@
 -- Which inputs a replica reads, and where their answers are put.
-use Rattle.std.proofs.Common.{◌≡◌, ◌∙◌, ◌<◌, ◌≤◌, ◌+◌, ◌*◌, ◌%◌, ◌==◌, ℕ, zero, suc, true, false, Option, Some, List, [], ◌∷◌, ◌++◌, length, drop, get_or, min, refl, sym, ap, append_assoc, add-one, arith}
+use Rattle.std.proofs.Common.{◌≡◌, ◌≢◌, ◌∙◌, ◌<◌, ◌≤◌, ◌+◌, ◌*◌, ◌%◌, ◌==◌, ℕ, zero, suc, true, false, Option, Some, List, [], ◌∷◌, ◌++◌, length, map, drop, get_or, min, refl, sym, ap, subst, append_assoc, length-set, add-one, arith}
+use mathlib.Core.Logic.{dite}
+use native.Mathlib.Decide.{ℕ_discrete}
 use Rattle.std.specs.Borrow.{Bor}
-use Rattle.std.specs.Prelude.{slice_set}
-use Rattle.std.specs.List.{AllZip}
+use Rattle.std.specs.Prelude.{slice_get, slice_set}
+use Rattle.std.specs.List.{AllZip, enumerate_from, filter}
 use Rattle.tca_ingest.specs.declared.job.Done.{Done}
-use Rattle.tcacct.specs.Replicated.{AnswerView, answers_of, put_from, share_from}
+use Rattle.tcacct.specs.Replicated.{AnswerView, ArePut, answers_of, share_of}
+
+-- the share of inputs, the first of which has this number
+unfoldable pub share_from : (n remainder divisor : ℕ) → List (List ℕ) → List (List ℕ)
+share_from n remainder divisor inputs = map (λ p. p.1) (filter (λ p. p.0 % divisor == remainder) (enumerate_from n inputs))
+
+pub share_is : (remainder divisor : ℕ) (inputs : List (List ℕ)) → share_from 0 remainder divisor inputs ≡ share_of remainder divisor inputs
+unfolding share_from share_of
+share_is remainder divisor inputs = refl
 
 -- an input of the share, and one that isn't
 pub share_takes : (n remainder divisor : ℕ) (so_far : List (List ℕ)) (input : List ℕ) (rest : List (List ℕ)) → (n % divisor == remainder) ≡ true
@@ -21,8 +31,13 @@ pub share_ends : (n remainder divisor : ℕ) → share_from n remainder divisor 
 unfolding share_from
 share_ends n remainder divisor = refl
 
+-- places with answers, one after another: the first at a place, each other one so many places after the one before it
+unfoldable pub put_from : (place step : ℕ) → List (Option AnswerView) → List AnswerView → List (Option AnswerView)
+put_from place step places [] = places
+put_from place step places (answer ∷ answers) = put_from (place + step) step (slice_set places place (Some answer)) answers
+
 -- one answer is put, and the others from the next place on
-pub one_put : (place step : ℕ) (places : List (Option AnswerView)) (answer : AnswerView) (answers : List AnswerView)
+one_put : (place step : ℕ) (places : List (Option AnswerView)) (answer : AnswerView) (answers : List AnswerView)
     → put_from place step places (answer ∷ answers) ≡ put_from (place + step) step (slice_set places place (Some answer)) answers
 unfolding put_from
 one_put place step places answer answers = refl
@@ -31,7 +46,7 @@ pub none_put : (place step : ℕ) (places : List (Option AnswerView)) → put_fr
 unfolding put_from
 none_put place step places = refl
 
-pub one_answer : (input : Bor (List ℕ)) (inputs : List (Bor (List ℕ))) (d : Done) (done : List Done)
+one_answer : (input : Bor (List ℕ)) (inputs : List (Bor (List ℕ))) (d : Done) (done : List Done)
     → answers_of (input ∷ inputs) (d ∷ done) ≡ record { input = input.now; result = d.result } ∷ answers_of inputs done
 unfolding answers_of
 one_answer input inputs d done = refl
@@ -39,6 +54,53 @@ one_answer input inputs d done = refl
 pub no_answer : (done : List Done) → answers_of [] done ≡ []
 unfolding answers_of
 no_answer done = refl
+
+-- no input has more than one answer
+pub few_answers : (inputs : List (Bor (List ℕ))) (done : List Done) → length (answers_of inputs done) ≤ length inputs
+unfolding answers_of
+few_answers [] done = omega arith
+few_answers (input ∷ inputs) [] = omega arith
+few_answers (input ∷ inputs) (d ∷ done) = let rest = few_answers inputs done in omega arith
+
+-- the item at a place that was set, and at another one
+get_here : {X : Type 0} (xs : List X) (i : ℕ) (x : X) → i < length xs → slice_get (slice_set xs i x) i ≡ Some x
+get_here [] i x inside = let no : ⊥ = omega arith in absurd no
+get_here (y ∷ ys) zero x inside = refl
+get_here (y ∷ ys) (suc i) x inside = get_here ys i x (omega arith)
+
+get_there : {X : Type 0} (xs : List X) (i k : ℕ) (x : X) → k ≢ i → slice_get (slice_set xs i x) k ≡ slice_get xs k
+get_there [] i k x other = refl
+get_there (y ∷ ys) zero zero x other = absurd (other refl)
+get_there (y ∷ ys) zero (suc k) x other = refl
+get_there (y ∷ ys) (suc i) zero x other = refl
+get_there (y ∷ ys) (suc i) (suc k) x other = get_there ys i k x (λ is. other (ap suc is))
+
+-- each answer at its place, where the first is at the first one
+put_each : (first step : ℕ) (answer : AnswerView) (answers : List AnswerView) (new : List (Option AnswerView)) → slice_get new first ≡ Some (Some answer)
+    → ((k : ℕ) → k < length answers → slice_get new (first + step + k * step) ≡ Some (slice_get answers k))
+    → (k : ℕ) → k < length (answer ∷ answers) → slice_get new (first + k * step) ≡ Some (slice_get (answer ∷ answers) k)
+put_each first step answer answers new here rest zero less = let same : first + 0 * step ≡ first = omega arith in rw same here
+put_each first step answer answers new here rest (suc k) less = let same : first + suc k * step ≡ first + step + k * step = omega arith in rw same (rest k (omega arith))
+
+-- where there are places for all, so put they stand where they should
+pub are_put : (first step : ℕ) (answers : List AnswerView) (old : List (Option AnswerView)) → 1 ≤ step → ((k : ℕ) → k < length answers → first + k * step < length old)
+    → ArePut first step answers old (put_from first step old answers)
+unfolding put_from
+are_put first step [] old above inside = record { many = refl; put = λ k less. let no : ⊥ = omega arith in absurd no; others = λ place other. refl }
+are_put first step (answer ∷ answers) old above inside =
+    let set = slice_set old first (Some answer) in
+    let many : length set ≡ length old = length-set old first (Some answer) in
+    let rest = are_put (first + step) step answers set above (λ k less. let here = inside (suc k) (omega arith) in omega arith) in
+    let here : slice_get (put_from (first + step) step set answers) first ≡ Some (Some answer) =
+    rest.others first (λ k less is. let no : ⊥ = omega arith in absurd no) ∙ get_here old first (Some answer) (let here = inside 0 (omega arith) in omega arith) in
+    let new = put_from (first + step) step set answers in
+    record {
+      many = rest.many ∙ many;
+      put = put_each first step answer answers new here rest.put;
+      others = λ place other.
+          rest.others place (λ k less is. other (suc k) (omega arith) (omega arith))
+          ∙ get_there old first place (Some answer) (λ is. other 0 (omega arith) (omega arith));
+    }
 
 -- the input at a place of a share, and the first of the results that are left, which is that input's
 pub record NextResult {A B : Type 0} (R : A → B → Type 0) (xs : List A) (ys : List B) (i next : ℕ) : Type 0 where
@@ -79,3 +141,7 @@ same_place at place most many is inside few = omega arith
 
 pub next_place : (at first i step most : ℕ) → at ≡ min (first + i * step) most → min (at + step) most ≡ min (first + (i + 1) * step) most
 next_place at first i step most is = omega arith
+
+-- one more place is there
+pub one_more_inside : (first step i many : ℕ) → ((k : ℕ) → k < i → first + k * step < many) → first + i * step < many → (k : ℕ) → k < i + 1 → first + k * step < many
+one_more_inside first step i many so_far here k less = dite (ℕ_discrete k i) (λ is. subst (λ n. first + n * step < many) (sym is) here) (λ other. so_far k (omega arith))

@@ -1,13 +1,13 @@
 -- What the replicas of a bill absorb of each other.
 use Rattle.std.specs.Prelude.{◌≡◌, ℕ, List, [], ◌∷◌, ◌++◌, Ok, length, map}
-use Rattle.std.specs.List.{AllPairs}
+use Rattle.std.specs.List.{All, AllPairs}
 use Rattle.tca_accounts.specs.Plans.{AccountPlan}
 use Rattle.tca_gossip.specs.Replicas.{ReplicaView, appended, chain_of}
 use Rattle.tca_gossip.specs.Runs.{delta_of, rests, summary_count}
 use Rattle.tca_gossip.specs.Coupling.{counts_of}
 use Rattle.tca_ingest.specs.Entries.{EntryView, Asked, Absorbed}
 use Rattle.tca_ingest.specs.Passes.{PassView, calls_of}
-use Rattle.tca_ingest.specs.Shares.{with_call}
+use Rattle.tca_ingest.specs.Shares.{IsReplayed, with_call}
 use Rattle.tca_ingest.specs.Closed.{AgreeAll, ClosedView, replicas_of}
 
 -- a replica with what it lacked of another one: of each chain that is longer there, the rest
@@ -41,11 +41,17 @@ pub record AreAgreed (first : ClosedView) (others all : List ClosedView) : Type 
   pub each : all ≡ map (closed_with first.replica) others ++ first ∷ []
   pub agree : AllPairs AgreeAll (replicas_of all)
 
--- The replicas of a bill in the end, so many: the first, under this plan, absorbed what each other one held, and then all agreed.
+-- a closed replica under this plan is what the calls of its journal make of it, and what the journal says of each call is right
+abbrev pub HasRightJournal : AccountPlan → ClosedView → Type 0
+HasRightJournal plan c = IsReplayed plan c.replica.name c.replica c.journal
+
+-- The replicas of a bill in the end, so many: of the first, named 1, and the others the journals were right when they were closed; the
+-- first, as its own says, absorbed what each other one held; and then all agreed.
 pub record AreJoined (plan : AccountPlan) (replicas : ℕ) (all : List ClosedView) : Type 0 where
   pub first : ClosedView
   pub others : List ClosedView
-  pub under : first.replica.plan ≡ plan
+  pub right : IsReplayed plan 1 first.replica first.journal
+  pub others_right : All (HasRightJournal plan) others
   pub absorbed : HasAbsorbed (replicas_of others) first.journal
   pub agreed : AreAgreed first others all
   pub many : length all ≡ replicas

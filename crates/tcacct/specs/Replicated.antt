@@ -1,7 +1,7 @@
 -- What the command `bill` is refused for where replicas and workers read the inputs.
-use Rattle.std.specs.Prelude.{◌≡◌, ◌≢◌, ◌≤◌, ◌⊎◌, ℕ, ◌+◌, ◌%◌, ◌==◌, Bool, true, false, cond, List, [], ◌∷◌, take, Option, Some, None, Result, Ok, Err, IsOk, slice_get, slice_set}
+use Rattle.std.specs.Prelude.{◌≡◌, ◌≢◌, ◌≤◌, ◌<◌, ◌⊎◌, ℕ, ◌+◌, ◌*◌, ◌%◌, ◌==◌, Bool, true, false, List, length, map, take, Option, Some, None, Result, Ok, Err, IsOk, slice_get}
 use Rattle.std.specs.Borrow.{Bor}
-use Rattle.std.specs.List.{AllByRecursion}
+use Rattle.std.specs.List.{AllByRecursion, enumerate_from, filter, zip}
 use Rattle.tca_report.specs.report.Reports.{PacketReport}
 use Rattle.tca_report.specs.export.Spelling.{export}
 use Rattle.tca_report.specs.input.Inputs.{input_of}
@@ -46,21 +46,19 @@ pub record AnswerView : Type 0 where
   pub input : List ℕ
   pub result : Result (Notes × Receipt) JobFault
 
--- of inputs, the first of which has this number, those whose numbers leave this remainder
-unfoldable pub share_from : (number remainder divisor : ℕ) → List (List ℕ) → List (List ℕ)
-share_from n remainder divisor [] = []
-share_from n remainder divisor (input ∷ inputs) = cond (n % divisor == remainder) (input ∷ share_from (n + 1) remainder divisor inputs) (share_from (n + 1) remainder divisor inputs)
+-- of inputs in order those whose numbers, counted from 0, leave this remainder
+unfoldable pub share_of : (remainder divisor : ℕ) → List (List ℕ) → List (List ℕ)
+share_of remainder divisor inputs = map (λ p. p.1) (filter (λ p. p.0 % divisor == remainder) (enumerate_from 0 inputs))
 
 -- what came of each input of a share
 unfoldable pub answers_of : List (Bor (List ℕ)) → List Done → List AnswerView
-answers_of [] done = []
-answers_of (input ∷ inputs) [] = []
-answers_of (input ∷ inputs) (d ∷ done) = record { input = input.now; result = d.result } ∷ answers_of inputs done
+answers_of inputs done = map (λ p. record { input = p.0.now; result = p.1.result }) (zip inputs done)
 
--- places with answers: the first at a place, each other one so many places after the one before it
-unfoldable pub put_from : (place step : ℕ) → List (Option AnswerView) → List AnswerView → List (Option AnswerView)
-put_from place step places [] = places
-put_from place step places (answer ∷ answers) = put_from (place + step) step (slice_set places place (Some answer)) answers
+-- Answers put at places: the first at one, each other one so many places after the one before it. Of all other places nothing changes.
+pub record ArePut (first step : ℕ) (answers : List AnswerView) (old new : List (Option AnswerView)) : Type 0 where
+  pub many : length new ≡ length old
+  pub put : (k : ℕ) → k < length answers → slice_get new (first + k * step) ≡ Some (slice_get answers k)
+  pub others : (place : ℕ) → ((k : ℕ) → k < length answers → place ≢ first + k * step) → slice_get new place ≡ slice_get old place
 
 -- each input was read: these are the inputs' notes, and each holds the reports beside it
 pub record AreRead (inputs : List (List ℕ)) (notes : List Notes) (lists : List (List PacketReport)) : Type 0 where

@@ -3,7 +3,7 @@ ghost use Rattle.std.specs.List.{flat_map};
 ghost use Rattle.std.specs.Prelude.{◌≡◌, ◌≢◌, ℕ, ◌++◌, ◌+◌, ◌*◌, ◌<◌, ◌≤◌, ◌^◌, IfOk, IfErr, OnOk, OnErr, Some, length, map, slice_get, slice_set};
 ghost use Rattle.tca_ingest.specs.Works.{AreSliceResults};
 ghost use Rattle.tcacct.specs.Noted.{IsNoted};
-ghost use Rattle.tcacct.specs.Replicated.{AnswerView, AreRead, AreReplicasRefused, IsInputFault, IsReadingRefused, answers_of, put_from, refusal_of};
+ghost use Rattle.tcacct.specs.Replicated.{AnswerView, ArePut, AreRead, AreReplicasRefused, IsInputFault, IsReadingRefused, answers_of, refusal_of};
 ghost use Rattle.tcacct.specs.Runs.{HoldsReports, octets_of, union_of};
 
 use crate::fault::RunFault;
@@ -52,8 +52,9 @@ pub(crate) fn put_answers<'a>(
     step: usize,
     places: &mut Vec<Option<Answer<'a>>>,
 ) -> Result<(), RunFault>
-    requires { AreSliceResults share.now done.items }
-    ensures put { OnOk result (places.new.items ≡ put_from first step places.old.items (answers_of share.now done.items)) }
+    requires results { AreSliceResults share.now done.items }
+    requires apart { 1 ≤ step }
+    ensures put { OnOk result (ArePut first step (answers_of share.now done.items) places.old.items places.new.items) }
     ensures outside { OnErr result ((k : ℕ) × (k < length share.now) × (length places.old.items ≤ first + k * step)) }
     ensures refused { IfErr result IsReadingRefused }
 {

@@ -1,9 +1,11 @@
 //! Replicas that read the inputs by workers, and tell each other what they hold.
+ghost use Rattle.std.specs.List.{All};
 ghost use Rattle.std.specs.Prelude.{◌≡◌, ◌≤◌, ◌<◌, ◌+◌, IfOk, IfErr, OnOk, length, map};
 ghost use Rattle.tca_ingest.specs.Closed.{replicas_of};
 ghost use Rattle.tca_ingest.specs.Passes.{AreClosing};
-ghost use Rattle.tcacct.specs.Absorbs.{Absorbs, AreAgreed, AreJoined, HasAbsorbed, with_lacking};
-ghost use Rattle.tcacct.specs.Replicated.{AreRead, AreReplicasRefused, IsReadingRefused, IsRunRefused, IsWithinLimits, share_from};
+ghost use Rattle.tca_ingest.specs.Shares.{IsReplayed};
+ghost use Rattle.tcacct.specs.Absorbs.{Absorbs, AreAgreed, AreJoined, HasAbsorbed, HasRightJournal, with_lacking};
+ghost use Rattle.tcacct.specs.Replicated.{AreRead, AreReplicasRefused, IsReadingRefused, IsRunRefused, IsWithinLimits, share_of};
 ghost use Rattle.tcacct.specs.Runs.{octets_of};
 
 use crate::answers::{Answer, Contents, contents_of, empty_places, put_answers};
@@ -31,20 +33,20 @@ pub(crate) struct Setting<'a, R, G> {
     pub(crate) gate: &'a G,
 }
 
-// The inputs of a replica: from this place on, each so many places after the one before it.
+// The inputs of a replica: those whose numbers, counted from 0, leave this remainder where they are divided by the step.
 fn share_of<'a>(
     alloc: Global,
     inputs: &'a [Vec<u8>],
-    first: u32,
-    step: u32,
+    remainder: u32,
+    divisor: u32,
 ) -> Result<Vec<&'a [u8]>, AllocError>
-    requires { 1 ≤ step }
-    ensures share { IfOk result (λ share. map (λ s. s.now) share.items ≡ share_from 0 first step (octets_of inputs.now)) }
+    requires { 1 ≤ divisor }
+    ensures share { IfOk result (λ share. map (λ s. s.now) share.items ≡ share_of remainder divisor (octets_of inputs.now)) }
     ensures within { IfOk result (λ share. length share.items ≤ length inputs.now) }
 {
     let mut share = Vec::new(alloc);
     for (n, input) in inputs.iter().enumerate() {
-        if n as u64 % step as u64 == first as u64 {
+        if n as u64 % divisor as u64 == remainder as u64 {
             share.push(input.as_slice())?;
         }
     }
@@ -82,7 +84,7 @@ fn worked<'a, L: Side + Send + Sync, R: Threads + Wait + Sync, G: Gate>(
 
 // Closes a replica with all its passes.
 fn closed<L: Side>(shared: Shared<L>, passes: Vec<Pass<L>>) -> Result<Closed, RunFault>
-    ensures plan { IfOk result (λ c. c.replica.plan ≡ L.plan) }
+    ensures replayed { IfOk result (λ c. IsReplayed L.plan L.called c.replica c.journal) }
     ensures closing { IfOk result (λ c. AreClosing c.journal passes.items) }
     ensures refused { IfErr result IsReadingRefused }
 {
@@ -106,7 +108,8 @@ fn read_by<'a, L: Side + Send + Sync, R: Threads + Wait + Sync, G: Gate>(
     requires plan { plan ≡ L.plan }
     requires above { 1 ≤ name }
     requires limits { IsWithinLimits setting.now.replicas setting.now.workers (length setting.now.inputs.now) }
-    ensures { IfErr result IsReadingRefused }
+    ensures replayed { IfOk result (λ c. IsReplayed plan name c.replica c.journal) }
+    ensures refused { IfErr result IsReadingRefused }
 {
     let shared = Shared::<L>::new(setting.alloc, blank, name, plan)?;
     let passes = worked(setting, &shared, name - 1, places)?;
@@ -121,13 +124,14 @@ fn others_of<'a, R: Threads + Wait + Sync, G: Gate>(
 ) -> Result<Vec<Closed>, RunFault>
     requires { IsWithinLimits setting.now.replicas setting.now.workers (length setting.now.inputs.now) }
     ensures many { IfOk result (λ others. length others.items + 1 ≡ setting.now.replicas) }
+    ensures right { IfOk result (λ others. All (HasRightJournal plan.now) others.items) }
     ensures refused { IfErr result IsReadingRefused }
 {
     let alloc = setting.alloc;
     let mut others = Vec::new(alloc);
     for name in 2..setting.replicas + 1 {
-        let plan = plan.copy(alloc)?;
-        let other = read_by::<Brand, R, G>(setting, Blank::new(PARTS), name, plan, places)?;
+        let copy = plan.copy(alloc)?;
+        let other = read_by::<Brand, R, G>(setting, Blank::new(PARTS), name, copy, places)?;
         if others.push(other).is_err() {
             return Err(RunFault::from(AllocError));
         }
@@ -165,7 +169,7 @@ fn joined<L: Side, R: Wait>(
     passes: Vec<Pass<L>>,
     others: &[Closed],
 ) -> Result<Closed, RunFault>
-    ensures plan { IfOk result (λ c. c.replica.plan ≡ L.plan) }
+    ensures replayed { IfOk result (λ c. IsReplayed L.plan L.called c.replica c.journal) }
     ensures absorbed { IfOk result (λ c. HasAbsorbed (replicas_of others.now) c.journal) }
     ensures refused { IfErr result IsRunRefused }
 {
@@ -222,6 +226,7 @@ pub(crate) fn run_replicas<'a, L: Side + Send + Sync, R: Threads + Wait + Sync, 
     requires parts { (blank.parts ≡ L.parts) × (L.parts ≡ 65537) }
     requires called { 1 ≡ L.called }
     requires plan { mine ≡ L.plan }
+    requires same { plan.now ≡ mine }
     requires limits { IsWithinLimits setting.now.replicas setting.now.workers (length setting.now.inputs.now) }
     ensures joined { IfOk result (λ x. AreJoined mine setting.now.replicas x.0.items) }
     ensures read { IfOk result (λ x. AreRead (octets_of setting.now.inputs.now) x.1.notes.items (map (λ l. l.items) x.1.lists.items)) }

@@ -1,4 +1,4 @@
-use Rattle.std.proofs.Common.{◌≡◌, ◌∙◌, ◌≤◌, ◌+◌, ◌*◌, ℕ, suc, [], get_or, Err, Some, List, length, drop, length-set, ap, ap₂, sym, subst, rules, arith}
+use Rattle.std.proofs.Common.{◌≡◌, ◌∙◌, ◌<◌, ◌≤◌, ◌+◌, ◌*◌, ℕ, suc, [], get_or, Err, Some, List, length, drop, length-set, ap, ap₂, sym, subst, rules, arith}
 use Rattle.std.specs.Borrow.{Bor}
 use Rattle.std.specs.Prelude.{slice_set}
 use Rattle.std.specs.List.{remove}
@@ -6,8 +6,8 @@ use Rattle.std.proofs.Math.ListN.{drop_of_length-le}
 use Rattle.std.proofs.lemmas.List.{get_or_default}
 use Rattle.tca_ingest.specs.Works.{AreSliceResults, IsResult}
 use Rattle.tca_ingest.specs.declared.job.Done.{Done}
-use Rattle.tcacct.specs.Replicated.{answers_of, put_from}
-use Rattle.tcacct.proofs.ShareLaws.{next_place, next_result, one_more_put, no_answer, none_put, same_place}
+use Rattle.tcacct.specs.Replicated.{ArePut, answers_of}
+use Rattle.tcacct.proofs.ShareLaws.{are_put, few_answers, next_place, next_result, one_more_inside, one_more_put, no_answer, none_put, put_from, same_place}
 use Rattle.tcacct.proofs.answers.put_answers.Goals as goal
 
 pub remove-result-requires : goal.remove-result-requires
@@ -46,6 +46,7 @@ loop-input-preserved c =
     record {
       results = subst (AreSliceResults (drop (l.input-index + 1) share)) (sym more) next.zip;
       at = c.saturating_add-at.ensures ∙ next_place l.at c.args.first l.input-index c.args.step 18446744073709551615 l.invariant.at;
+      inside = one_more_inside c.args.first c.args.step l.input-index (length c.args.places.now.items) l.invariant.inside (subst (λ n. place < n) l.invariant.many (subst (λ n. n < length l.places.items) at inside));
       many = ap length put ∙ length-set l.places.items place (Some (record { input = input.now; result = d.result })) ∙ l.invariant.many;
       whole =
           ap (λ (ds : List Done). put_from (c.args.first + (l.input-index + 1) * c.args.step) c.args.step c.put_answer.new.places.items (answers_of (drop (l.input-index + 1) share) ds)) more
@@ -57,6 +58,12 @@ pub returns-clause-put : goal.returns-clause-put
 returns-clause-put c =
     let l = c.loop-input in
     let place = c.args.first + l.input-index * c.args.step in
-    sym (none_put place c.args.step l.places.items)
-    ∙ ap (put_from place c.args.step l.places.items) (sym (no_answer l.left.items))
-    ∙ (rw (drop_of_length-le c.args.share.now c.loop-input-test.false) at l.invariant.whole)
+    let answers = answers_of c.args.share.now c.args.done.items in
+    let few : length answers ≤ length c.args.share.now = few_answers c.args.share.now c.args.done.items in
+    let past = c.loop-input-test.false in
+    let whole : put_from c.args.first c.args.step c.args.places.now.items answers ≡ l.places.items =
+    sym (rw (drop_of_length-le c.args.share.now past) at l.invariant.whole)
+    ∙ ap (put_from place c.args.step l.places.items) (no_answer l.left.items)
+    ∙ none_put place c.args.step l.places.items in
+    subst (ArePut c.args.first c.args.step answers c.args.places.now.items) whole
+    (are_put c.args.first c.args.step answers c.args.places.now.items c.requires.apart (λ k less. l.invariant.inside k (omega arith)))

@@ -1,4 +1,9 @@
-use Rattle.std.proofs.Common.{◌≡◌, Err, rules, inr}
+use Rattle.std.proofs.Common.{◌≡◌, ◌∙◌, ◌+◌, Err, List, [], ◌∷◌, length, map, ap, sym, subst, subst₂, length-append, rules, arith, inr}
+use Rattle.std.specs.List.{All}
+use Rattle.std.proofs.lemmas.List.{length-map}
+use Rattle.tca_ingest.specs.Closed.{ClosedView, replicas_of}
+use Rattle.tca_ingest.specs.Shares.{IsReplayed}
+use Rattle.tcacct.specs.Absorbs.{HasAbsorbed, HasRightJournal, closed_with}
 use Rattle.tcacct.proofs.ReadLaws.{all_sound}
 use Rattle.tcacct.proofs.replicas.run_replicas.Goals as goal
 
@@ -11,3 +16,21 @@ pub returns-in_err-all-clause-refused : goal.returns-in_err-all-clause-refused
 returns-in_err-all-clause-refused g c =
     let is : c.from_residual-in_err-all.result ≡ Err c.in_err-all.field-0.0 = search rules in
     rw is (inr (inr (all_sound _ _ c.in_ok-contents.ensures.read.noted, c.in_err-all.ensures.refused)))
+
+pub returns-clause-joined : goal.returns-clause-joined
+returns-clause-joined g c =
+    let first = c.in_ok-first.first in
+    let others = c.in_ok-others.others.items in
+    let agreed = c.in_ok-all.ensures.agreed in
+    let more = c.in_ok-others.ensures.many in
+    let each : length c.in_ok-all.all.items ≡ length (map (closed_with first.replica) others) + 1 = ap length agreed.each ∙ length-append (map (closed_with first.replica) others) (first ∷ []) in
+    let same : length (map (closed_with first.replica) others) ≡ length others = length-map others (closed_with first.replica) in
+    record {
+      first = first;
+      others = others;
+      right = subst₂ (λ p n. IsReplayed p n first.replica first.journal) (sym c.requires.plan) (sym c.requires.called) c.in_ok-first.ensures.replayed;
+      others_right = subst (λ p. All (HasRightJournal p) others) c.requires.same c.in_ok-others.ensures.right;
+      absorbed = subst (λ (cs : List ClosedView). HasAbsorbed (replicas_of cs) first.journal) c.deref.ensures.value c.in_ok-first.ensures.absorbed;
+      agreed = agreed;
+      many = omega arith;
+    }

@@ -3,9 +3,9 @@ use Rattle.std.specs.Borrow.{Bor}
 use Rattle.std.proofs.Math.ListN.{drop_of_length-le}
 use Rattle.std.proofs.lemmas.List.{append-nil, map-append}
 use Rattle.tcacct.specs.Runs.{octets_of}
-use Rattle.tcacct.proofs.ShareLaws.{share_ends, share_skips, share_takes}
+use Rattle.tcacct.proofs.ShareLaws.{share_ends, share_is, share_skips, share_takes}
 use Rattle.tcacct.proofs.Uniting.{cut}
-use Rattle.tcacct.proofs.replicas.share_of.Goals.{then-n-step+in_ok-push, else-n-step}
+use Rattle.tcacct.proofs.replicas.share_of.Goals.{then-n-divisor+in_ok-push, else-n-divisor}
 use Rattle.tcacct.proofs.replicas.share_of.Goals as goal
 
 pub loop-n-preserved : goal.loop-n-preserved
@@ -16,18 +16,18 @@ loop-n-preserved c =
     let here = cut (λ v. v.items) c.args.inputs.now l.n input c.loop-n-test.true c.index-inputs-n.is in
     let so_far : List (List ℕ) = map (λ (s : Bor (List ℕ)). s.now) l.share.items in
     let within = l.invariant.within in
-    elim c.if-n-step.branch [
-      | then-n-step+in_ok-push w ↦
-          let chosen : (l.n % c.args.step == c.args.first) ≡ true = search rules in
-          let pushed : c.if-n-step.share.items ≡ l.share.items ++ w.as_slice.result ∷ [] = search rules in
+    elim c.if-n-divisor.branch [
+      | then-n-divisor+in_ok-push w ↦
+          let chosen : (l.n % c.args.divisor == c.args.remainder) ≡ true = search rules in
+          let pushed : c.if-n-divisor.share.items ≡ l.share.items ++ w.as_slice.result ∷ [] = search rules in
           let octets : w.as_slice.result.now ≡ input.items = search rules in
-          let more : map (λ (s : Bor (List ℕ)). s.now) c.if-n-step.share.items ≡ so_far ++ input.items ∷ [] =
+          let more : map (λ (s : Bor (List ℕ)). s.now) c.if-n-divisor.share.items ≡ so_far ++ input.items ∷ [] =
           ap (map (λ (s : Bor (List ℕ)). s.now)) pushed ∙ map-append (λ (s : Bor (List ℕ)). s.now) l.share.items (w.as_slice.result ∷ []) ∙ ap (λ (o : List ℕ). so_far ++ o ∷ []) octets in
-          record { within = search (arith, rules); whole = rw more (share_takes l.n c.args.first c.args.step so_far input.items rest chosen ∙ (rw here at l.invariant.whole)) }
-      | else-n-step w ↦
-          let skipped : (l.n % c.args.step == c.args.first) ≡ false = search rules in
-          let same : c.if-n-step.share ≡ l.share = search rules in
-          record { within = search (arith, rules); whole = rw same (share_skips l.n c.args.first c.args.step so_far input.items rest skipped ∙ (rw here at l.invariant.whole)) }
+          record { within = search (arith, rules); whole = rw more (share_takes l.n c.args.remainder c.args.divisor so_far input.items rest chosen ∙ (rw here at l.invariant.whole)) }
+      | else-n-divisor w ↦
+          let skipped : (l.n % c.args.divisor == c.args.remainder) ≡ false = search rules in
+          let same : c.if-n-divisor.share ≡ l.share = search rules in
+          record { within = search (arith, rules); whole = rw same (share_skips l.n c.args.remainder c.args.divisor so_far input.items rest skipped ∙ (rw here at l.invariant.whole)) }
     ]
 
 pub returns-clause-share : goal.returns-clause-share
@@ -35,5 +35,6 @@ returns-clause-share c =
     let l = c.loop-n in
     let so_far : List (List ℕ) = map (λ (s : Bor (List ℕ)). s.now) l.share.items in
     sym (append-nil so_far)
-    ∙ ap (λ (r : List (List ℕ)). so_far ++ r) (sym (share_ends l.n c.args.first c.args.step))
+    ∙ ap (λ (r : List (List ℕ)). so_far ++ r) (sym (share_ends l.n c.args.remainder c.args.divisor))
     ∙ (rw (drop_of_length-le c.args.inputs.now c.loop-n-test.false) at l.invariant.whole)
+    ∙ share_is c.args.remainder c.args.divisor (octets_of c.args.inputs.now)

@@ -1,11 +1,11 @@
 use Rattle.std.proofs.Common.{◌≡◌, ◌≤◌, ◌++◌, length, map, drop}
-use Rattle.tcacct.specs.Replicated.{share_from}
 use Rattle.tcacct.specs.Runs.{octets_of}
+use Rattle.tcacct.proofs.ShareLaws.{share_from}
 use Rattle.tcacct.proofs.replicas.share_of.Given as goal
 
 -- the share of the inputs so far, and behind it that of the others
 abbrev pub invariant-loop-n : goal.invariant-loop-n
 invariant-loop-n l = record {
   within : length l.share.items ≤ l.n;
-  whole : map (λ s. s.now) l.share.items ++ share_from l.n l.first l.step (octets_of (drop l.n l.inputs)) ≡ share_from 0 l.first l.step (octets_of l.inputs);
+  whole : map (λ s. s.now) l.share.items ++ share_from l.n l.remainder l.divisor (octets_of (drop l.n l.inputs)) ≡ share_from 0 l.remainder l.divisor (octets_of l.inputs);
 }
