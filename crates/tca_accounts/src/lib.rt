@@ -45,6 +45,3 @@ pub use plan::Plan;
 pub use span::{Span, Spans};
 pub use sums::Sums;
 pub use tally::{Tallies, Tally};
-
-#[cfg(test)]
-mod tests;

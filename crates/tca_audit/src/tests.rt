@@ -1,4 +1,10 @@
-//! Audits from outside, by reports whose colours were found by hand, and by statements of the bill.
+//! Audits from outside, by reports whose colours were found by hand, and by statements of the bill; and, each in a module of its own,
+//! buckets, meters, plans and bills, and statements, whose crates have no other tests.
+mod accounts;
+mod buckets;
+mod meters;
+mod statements;
+
 use crate::{AuditFault, Verdict, audit, audit_under};
 use std::alloc::{AllocError, Global};
 use std::test::Fail;

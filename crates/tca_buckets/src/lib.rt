@@ -11,6 +11,3 @@ mod tokens;
 
 pub use bucket::{Bucket, fill_spilling};
 pub use tokens::ticks;
-
-#[cfg(test)]
-mod tests;

@@ -28,8 +28,6 @@ mod replica;
 mod run;
 mod step;
 mod summary;
-#[cfg(test)]
-mod tests;
 mod world;
 
 pub use fault::{AbsorbFault, Taken, WorldFault};

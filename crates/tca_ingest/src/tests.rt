@@ -1,12 +1,17 @@
-//! Shared replicas by worked rows, at their limits, by two threads, and with each growth refused in turn.
+//! Shared replicas by worked rows, at their limits, by two threads, and with each growth refused in turn; and, each in a module of its
+//! own, joins, logs, lanes and books, and replicas, whose crates have no tests.
 ghost use Rattle.std.specs.Prelude.{◌≡◌};
 
 mod exchanges;
 mod gates;
+mod gossip;
 mod jobs;
 mod jobs_memory;
+mod join;
 mod limits;
+mod log;
 mod memory;
+mod replay;
 mod rows;
 mod threads;
 

@@ -28,6 +28,3 @@ pub use fault::JoinFault;
 pub use join::{Join, join_laws};
 pub use keys::Keys;
 pub use laws::{chain_words, map_words, set_laws};
-
-#[cfg(test)]
-mod tests;

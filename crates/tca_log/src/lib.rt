@@ -33,6 +33,3 @@ pub use laws::one_more_report;
 pub use log::{Log, same_reports_make_one_log};
 pub use rows::RowsIter;
 pub use settled::Settled;
-
-#[cfg(test)]
-mod tests;

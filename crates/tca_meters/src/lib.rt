@@ -33,6 +33,3 @@ pub use spec::{SpecFault, meter_spec, spec_words};
 pub use srtcm::SrTcm;
 pub use step::meter_packet;
 pub use trtcm::TrTcm;
-
-#[cfg(test)]
-mod tests;

@@ -18,6 +18,3 @@ mod run;
 pub use book::Book;
 pub use lane::{Lane, Replayed};
 pub use laws::changes_then_resume;
-
-#[cfg(test)]
-mod tests;

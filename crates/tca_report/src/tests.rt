@@ -1,3 +1,7 @@
+//! Exports, devices and reports; and, each in a module of its own, messages and templates, whose crates have no other tests.
+mod templates;
+mod wire;
+
 use crate::{
     Content, ExportFault, Host, Identity, Read, ReadFault, Report, Write, WriteFault,
     order_is_total, put_all, read_export, read_octets, spelling_is_unique, write_export,

@@ -20,6 +20,3 @@ pub use amount::Amount;
 pub use fault::IssueFault;
 pub use issuer::Issuer;
 pub use statement::{Statement, render, same_reports_make_one_statement};
-
-#[cfg(test)]
-mod tests;

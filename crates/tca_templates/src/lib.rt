@@ -35,6 +35,3 @@ pub use iter::TemplatesIter;
 pub use outcome::{FieldValue, Outcome, PlacedFields};
 pub use reading::{reading_words, session_words};
 pub use record::{Record, TakesRecords};
-
-#[cfg(test)]
-mod tests;

@@ -26,6 +26,3 @@ pub use fault::WireFault;
 pub use framer::{Framed, Framer, Lent, Messages, framing_is_unique, pieces_join};
 pub use message::{Header, Message, SetSpan};
 pub use split::{message_words, split_message};
-
-#[cfg(test)]
-mod tests;

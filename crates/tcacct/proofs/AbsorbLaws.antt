@@ -1,6 +1,6 @@
 -- What a shared replica of a bill absorbs of the others, one after another.
-use Rattle.std.proofs.Common.{◌≡◌, List, [], ◌∷◌, ◌++◌, refl, ap, subst}
-use Rattle.std.specs.List.{All}
+use Rattle.std.proofs.Common.{◌≡◌, ◌+◌, ℕ, zero, suc, List, [], ◌∷◌, ◌++◌, refl, ap, subst, arith}
+use Rattle.std.specs.List.{All, range_with_len}
 use Rattle.std.proofs.lemmas.List.Elements.{All-head, All-tail}
 use Rattle.tca_gossip.specs.Replicas.{ReplicaView}
 use Rattle.tca_ingest.specs.Passes.{PassView}
@@ -14,6 +14,11 @@ one_more (w ∷ vs) v a b c (between, first, rest) more = (between, first, one_m
 -- a pass keeps its number
 pub same_number : (v : ReplicaView) (a b : PassView) → Absorbs v a b → b.number ≡ a.number
 same_number v a b absorbs = ap (λ p. p.number) absorbs.calls
+
+-- one more number
+pub range_more : (a n : ℕ) → range_with_len a (suc n) ≡ range_with_len a n ++ (a + n) ∷ []
+range_more a zero = let same : a + 0 ≡ a = omega arith in rw same refl
+range_more a (suc n) = let same : a + suc n ≡ a + 1 + n = omega arith in rw same (ap (λ ns. a ∷ ns) (range_more (a + 1) n))
 
 -- what holds of all of a list holds of its last
 pub all_last : {X : Type 0} (P : X → Type 0) (xs : List X) (x : X) → All P (xs ++ x ∷ []) → P x

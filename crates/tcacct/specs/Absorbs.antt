@@ -1,6 +1,6 @@
 -- What the replicas of a bill absorb of each other.
 use Rattle.std.specs.Prelude.{◌≡◌, ℕ, List, [], ◌∷◌, ◌++◌, Ok, length, map}
-use Rattle.std.specs.List.{All, AllPairs}
+use Rattle.std.specs.List.{All, AllPairs, range_with_len}
 use Rattle.tca_accounts.specs.Plans.{AccountPlan}
 use Rattle.tca_gossip.specs.Replicas.{ReplicaView, appended, chain_of}
 use Rattle.tca_gossip.specs.Runs.{delta_of, rests, summary_count}
@@ -41,16 +41,20 @@ pub record AreAgreed (first : ClosedView) (others all : List ClosedView) : Type 
   pub each : all ≡ map (closed_with first.replica) others ++ first ∷ []
   pub agree : AllPairs AgreeAll (replicas_of all)
 
+abbrev pub names_of : List ClosedView → List ℕ
+names_of cs = map (λ c. c.replica.name) cs
+
 -- a closed replica under this plan is what the calls of its journal make of it, and what the journal says of each call is right
 abbrev pub HasRightJournal : AccountPlan → ClosedView → Type 0
 HasRightJournal plan c = IsReplayed plan c.replica.name c.replica c.journal
 
--- The replicas of a bill in the end, so many: of the first, named 1, and the others the journals were right when they were closed; the
--- first, as its own says, absorbed what each other one held; and then all agreed.
+-- The replicas of a bill in the end, so many: the first, named 1, and the others, named from 2 on, had right journals when they were
+-- closed; the first, as its own says, absorbed what each other one held; and then all agreed.
 pub record AreJoined (plan : AccountPlan) (replicas : ℕ) (all : List ClosedView) : Type 0 where
   pub first : ClosedView
   pub others : List ClosedView
   pub right : IsReplayed plan 1 first.replica first.journal
+  pub names : names_of others ≡ range_with_len 2 (length others)
   pub others_right : All (HasRightJournal plan) others
   pub absorbed : HasAbsorbed (replicas_of others) first.journal
   pub agreed : AreAgreed first others all

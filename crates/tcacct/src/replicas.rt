@@ -1,10 +1,10 @@
 //! Replicas that read the inputs by workers, and tell each other what they hold.
-ghost use Rattle.std.specs.List.{All};
+ghost use Rattle.std.specs.List.{All, range_with_len};
 ghost use Rattle.std.specs.Prelude.{◌≡◌, ◌≤◌, ◌<◌, ◌+◌, IfOk, IfErr, OnOk, length, map};
 ghost use Rattle.tca_ingest.specs.Closed.{replicas_of};
 ghost use Rattle.tca_ingest.specs.Passes.{AreClosing};
 ghost use Rattle.tca_ingest.specs.Shares.{IsReplayed};
-ghost use Rattle.tcacct.specs.Absorbs.{Absorbs, AreAgreed, AreJoined, HasAbsorbed, HasRightJournal, with_lacking};
+ghost use Rattle.tcacct.specs.Absorbs.{Absorbs, AreAgreed, AreJoined, HasAbsorbed, HasRightJournal, names_of, with_lacking};
 ghost use Rattle.tcacct.specs.Replicated.{AreRead, AreReplicasRefused, IsReadingRefused, IsRunRefused, IsWithinLimits, share_of};
 ghost use Rattle.tcacct.specs.Runs.{octets_of};
 
@@ -33,7 +33,7 @@ pub(crate) struct Setting<'a, R, G> {
     pub(crate) gate: &'a G,
 }
 
-// The inputs of a replica: those whose numbers, counted from 0, leave this remainder where they are divided by the step.
+// The inputs of a replica: those whose numbers, counted from 0, leave this remainder.
 fn share_of<'a>(
     alloc: Global,
     inputs: &'a [Vec<u8>],
@@ -124,6 +124,7 @@ fn others_of<'a, R: Threads + Wait + Sync, G: Gate>(
 ) -> Result<Vec<Closed>, RunFault>
     requires { IsWithinLimits setting.now.replicas setting.now.workers (length setting.now.inputs.now) }
     ensures many { IfOk result (λ others. length others.items + 1 ≡ setting.now.replicas) }
+    ensures names { IfOk result (λ others. names_of others.items ≡ range_with_len 2 (length others.items)) }
     ensures right { IfOk result (λ others. All (HasRightJournal plan.now) others.items) }
     ensures refused { IfErr result IsReadingRefused }
 {

@@ -30,9 +30,16 @@ fn holds(
     Ok(same && reports.is_empty())
 }
 
+fn of_softflowd(rt: &HostRuntime) -> Result<bool, Fail> {
+    holds(rt, SOFTFLOWD, 2, [1, 24, 0, 0, 0, 0, 0])
+}
+
+fn of_pmacct(rt: &HostRuntime) -> Result<bool, Fail> {
+    holds(rt, PMACCT, 24, [0, 98, 0, 0, 0, 0, 0])
+}
+
 #[test]
 fn captures_of_other_exporters_are_read(rt: HostRuntime) -> Result<(), Fail> {
-    assert!(rt; holds(&rt, SOFTFLOWD, 2, [1, 24, 0, 0, 0, 0, 0])?);
-    assert!(rt; holds(&rt, PMACCT, 24, [0, 98, 0, 0, 0, 0, 0])?);
+    assert!(rt; of_softflowd(&rt)? && of_pmacct(&rt)?);
     Ok(())
 }

@@ -151,14 +151,27 @@ fn holds_many(alloc: Global, octets: &[u8]) -> Result<bool, Fail> {
     Ok(gathered.reports.len() == 3000 && gathered.notes == notes(3000))
 }
 
+// The header of a message of another version.
+fn of_another_version() -> &'static [u8] {
+    b"\x00\x09\x00\x10\x00\x00\x00\x00\x00\x00\x00\x00\x00\x00\x00\x00"
+}
+
+fn many_are_read(rt: &HostRuntime) -> Result<bool, Fail> {
+    let octets = many_messages(rt.alloc())?;
+    holds_many(rt.alloc(), &octets)
+}
+
+// Whether such a message is refused behind many others.
+fn ends_at_another_version(rt: &HostRuntime) -> Result<bool, Fail> {
+    let mut octets = many_messages(rt.alloc())?;
+    octets.extend_from_slice(of_another_version())?;
+    let fault = WireFault::BadVersion(9);
+    Ok(is_refused(rt, &octets, wire(195_000, fault)))
+}
+
 #[test]
 fn a_capture_of_several_pieces_is_read(rt: HostRuntime) -> Result<(), Fail> {
-    let octets = many_messages(rt.alloc())?;
-    assert!(rt; holds_many(rt.alloc(), &octets)?);
-    let other = b"\x00\x09\x00\x10\x00\x00\x00\x00\x00\x00\x00\x00\x00\x00\x00\x00";
-    let octets = joined(&rt, &[&octets, other, fixed()])?;
-    let fault = WireFault::BadVersion(9);
-    assert!(rt; is_refused(&rt, &octets, wire(195_000, fault)));
+    assert!(rt; many_are_read(&rt)? && ends_at_another_version(&rt)?);
     Ok(())
 }
 
@@ -188,12 +201,16 @@ fn with_a_short_set(rt: &HostRuntime) -> Result<Vec<u8>, Fail> {
     )
 }
 
+// Whether two messages are refused where the second is cut.
+fn is_refused_within_a_message(rt: &HostRuntime) -> Result<bool, Fail> {
+    let both = joined(rt, &[fixed(), variable()])?;
+    Ok(is_refused(rt, part(&both, 0, 111), wire(65, WireFault::Short)))
+}
+
 #[test]
 fn inputs_are_cut(rt: HostRuntime) -> Result<(), Fail> {
-    let both = joined(&rt, &[fixed(), variable()])?;
-    let is_short = WireFault::Short;
-    assert!(rt; is_refused(&rt, part(&both, 0, 111), wire(65, is_short)));
-    assert!(rt; is_refused(&rt, b"TCA", wire(0, is_short)));
+    assert!(rt; is_refused_within_a_message(&rt)?);
+    assert!(rt; is_refused(&rt, b"TCA", wire(0, WireFault::Short)));
     let export = InputFault::Export(ExportFault::Cut);
     assert!(rt; is_refused(&rt, b"TCAX", export));
     Ok(())

@@ -1,11 +1,11 @@
 use Rattle.std.proofs.Common.{◌≡◌, ◌+◌, length}
-use Rattle.std.specs.List.{All}
-use Rattle.tcacct.specs.Absorbs.{HasRightJournal}
+use Rattle.std.specs.List.{All, range_with_len}
+use Rattle.tcacct.specs.Absorbs.{HasRightJournal, names_of}
 use Rattle.tcacct.proofs.replicas.others_of.Given as goal
 
 -- those made so far, and their journals are right
 abbrev pub invariant-loop-name : goal.invariant-loop-name
-invariant-loop-name g l = record { many : length l.others.items + 2 ≡ l.name; right : All (HasRightJournal l.plan) l.others.items }
+invariant-loop-name g l = record { many : length l.others.items + 2 ≡ l.name; names : names_of l.others.items ≡ range_with_len 2 (length l.others.items); right : All (HasRightJournal l.plan) l.others.items }
 
 abbrev pub ghosts-read_by-L-Ledger : goal.ghosts-read_by-L-Ledger
 ghosts-read_by-L-Ledger g a = record { name = a.blank.name; parts = a.blank.parts }

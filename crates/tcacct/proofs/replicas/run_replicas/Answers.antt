@@ -29,6 +29,7 @@ returns-clause-joined g c =
       first = first;
       others = others;
       right = subst₂ (λ p n. IsReplayed p n first.replica first.journal) (sym c.requires.plan) (sym c.requires.called) c.in_ok-first.ensures.replayed;
+      names = c.in_ok-others.ensures.names;
       others_right = subst (λ p. All (HasRightJournal p) others) c.requires.same c.in_ok-others.ensures.right;
       absorbed = subst (λ (cs : List ClosedView). HasAbsorbed (replicas_of cs) first.journal) c.deref.ensures.value c.in_ok-first.ensures.absorbed;
       agreed = agreed;

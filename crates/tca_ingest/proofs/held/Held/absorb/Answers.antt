@@ -29,3 +29,14 @@ invariant_of-mine-2 g c = (
   omega (arith, c.note.ensures.places, c.note.ensures.grown, ap length c.reserve.ensures.places, ap length c.reserve.ensures.calls, c.mine.invariant.2),
   whose_noted c.mine.inside.number c.mine.inside.calls.items c.reserve.new.calls.items c.note.new.calls.items c.into_entries-entry.result c.mine.invariant.3 c.reserve.ensures.calls c.note.ensures.calls (ap pass_of c.into_entries-entry.ensures),
 )
+
+pub returns-clause-absorbed : goal.returns-clause-absorbed
+returns-clause-absorbed g c =
+    let answer = c.absorb-answer.result in
+    let number = c.mine.inside.number in
+    rw (← c.self.view_is, ← c.mine.view_is) (record {
+      result = answer;
+      entry = c.note.ensures.entry ∙ c.into_entries-entry.ensures ∙ ap (λ rs. Absorbed number rs answer) (c.in_ok-copies.ensures ∙ c.runs.ensures.all);
+      outcome = c.absorb-answer.ensures.outcome;
+      stop = c.absorb-answer.ensures.stop;
+    })

@@ -29,3 +29,16 @@ invariant_of-mine-2 g c = (
   omega (arith, c.note.ensures.places, c.note.ensures.grown, ap length c.reserve.ensures.places, ap length c.reserve.ensures.calls, c.mine.invariant.2),
   whose_noted c.mine.inside.number c.mine.inside.calls.items c.reserve.new.calls.items c.note.new.calls.items c.into_entries-entry.result c.mine.invariant.3 c.reserve.ensures.calls c.note.ensures.calls (ap pass_of c.into_entries-entry.ensures),
 )
+
+pub returns-clause-took : goal.returns-clause-took
+returns-clause-took g c =
+    let t = c.take-taken.result in
+    let number = c.mine.inside.number in
+    rw (← c.mine.view_is) (record {
+      taken = t.taken;
+      fresh = t.fresh;
+      stop = t.stop;
+      entry = c.note.ensures.entry ∙ c.into_entries-entry.ensures ∙ ap (λ rs. Took number (take t.taken rs) t.fresh t.stop) c.in_ok-copies.ensures;
+      within = c.take-taken.ensures.within;
+      stops = c.take-taken.ensures.stop;
+    })

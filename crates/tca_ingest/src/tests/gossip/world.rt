@@ -1,0 +1,177 @@
+//! Worlds by worked steps, and steps that nothing comes of.
+use super::outcomes::{Outcome, bill, outcome_of};
+use super::{FIRST, PLAN, Row, SECOND, THIRD, reports};
+use std::alloc::Global;
+use std::test::Fail;
+use tca_accounts::Plan;
+use tca_gossip::{Reply, Step, World, WorldFault};
+
+#[derive(Clone, Copy)]
+enum Act {
+    Take(u32, &'static [Row]),
+    Ask(u32),
+    Answer(u32, u32),
+    Deliver(u32, u32),
+    Merge(u32, u32),
+}
+
+use Act::{Answer, Ask, Deliver, Merge, Take};
+
+fn step(alloc: Global, act: Act) -> Result<Step, Fail> {
+    Ok(match act {
+        Take(at, rows) => Step::Take {
+            at,
+            reports: reports(alloc, rows)?,
+        },
+        Ask(at) => Step::Ask { at },
+        Answer(at, message) => Step::Answer { at, message },
+        Deliver(message, to) => Step::Deliver { message, to },
+        Merge(into, other) => Step::Merge { into, other },
+    })
+}
+
+fn steps(alloc: Global, lines: &[(Act, Outcome)]) -> Result<Vec<Step>, Fail> {
+    let mut steps = Vec::new(alloc);
+    for line in lines {
+        steps.push(step(alloc, line.0)?)?;
+    }
+    Ok(steps)
+}
+
+fn are(replies: &[Reply], lines: &[(Act, Outcome)]) -> bool {
+    for i in 0..lines.len() {
+        if i >= replies.len() || outcome_of(&replies[i]) != lines[i].1 {
+            return false;
+        }
+    }
+    replies.len() == lines.len()
+}
+
+// Runs the steps of a table, and answers whether the replies are those beside them.
+fn runs(alloc: Global, world: &mut World, lines: &[(Act, Outcome)]) -> Result<bool, Fail> {
+    let steps = steps(alloc, lines)?;
+    let replies = world.run(&steps)?;
+    Ok(are(&replies, lines))
+}
+
+// Whether the replica of a name has the bill of the three reports.
+fn knows_three(world: &World, name: u32) -> Result<bool, Fail> {
+    let replica = world.replica(name).ok_or("a replica of the name")?;
+    Ok(bill(replica)? == Outcome::Bill([1500, 1000, 800], 3, 0))
+}
+
+const TELL: [(Act, Outcome); 7] = [
+    (Take(1, &[FIRST, SECOND]), Outcome::Took(2, 2, None)),
+    (Take(2, &[SECOND, THIRD]), Outcome::Took(2, 2, None)),
+    (Ask(1), Outcome::Sent(0)),
+    (Answer(2, 0), Outcome::Sent(1)),
+    (Deliver(1, 1), Outcome::Absorbed(2)),
+    (Deliver(1, 1), Outcome::Absorbed(0)),
+    (Merge(2, 1), Outcome::Merged),
+];
+
+// What comes of replicas and messages that aren't there, or are of the wrong kind.
+const FURTHER: [(Act, Outcome); 13] = [
+    (Deliver(9, 1), Outcome::Nothing),
+    (Answer(2, 1), Outcome::Nothing),
+    (Merge(1, 1), Outcome::Merged),
+    (Take(1, &[FIRST, SECOND]), Outcome::Took(2, 0, None)),
+    (Deliver(0, 1), Outcome::Nothing),
+    (Take(3, &[FIRST]), Outcome::Nothing),
+    (Ask(3), Outcome::Nothing),
+    (Answer(3, 0), Outcome::Nothing),
+    (Deliver(1, 3), Outcome::Nothing),
+    (Merge(1, 3), Outcome::Nothing),
+    (Merge(3, 1), Outcome::Nothing),
+    (Merge(3, 3), Outcome::Nothing),
+    (Ask(2), Outcome::Sent(2)),
+];
+
+fn tells(alloc: Global, world: &mut World) -> Result<bool, Fail> {
+    let outcome = runs(alloc, world, &TELL)? && runs(alloc, world, &FURTHER)?;
+    Ok(outcome && knows_three(world, 1)? && knows_three(world, 2)?)
+}
+
+// A part that goes on from what a replica doesn't hold, and what comes where it holds that.
+const EARLY: [(Act, Outcome); 10] = [
+    (Ask(1), Outcome::Sent(0)),
+    (Take(2, &[FIRST]), Outcome::Took(1, 1, None)),
+    (Answer(2, 0), Outcome::Sent(1)),
+    (Ask(2), Outcome::Sent(2)),
+    (Take(2, &[SECOND]), Outcome::Took(1, 1, None)),
+    (Answer(2, 2), Outcome::Sent(3)),
+    (
+        Deliver(3, 1),
+        Outcome::Gap {
+            origin: 2,
+            have: 0,
+            from: 1,
+        },
+    ),
+    (Deliver(1, 1), Outcome::Absorbed(1)),
+    (Deliver(3, 1), Outcome::Absorbed(1)),
+    (Deliver(3, 2), Outcome::Absorbed(0)),
+];
+
+const AGAIN: [(Act, Outcome); 2] = [
+    (Merge(2, 1), Outcome::Merged),
+    (Merge(1, 2), Outcome::Merged),
+];
+
+// Whether two replicas hold all in the end, where a growth may have been refused once, at any step. Want of memory for the replies has to
+// leave all as it was.
+fn completes(alloc: Global, world: &mut World) -> Result<bool, Fail> {
+    let all = steps(alloc, &TELL)?;
+    let merges = steps(alloc, &AGAIN)?;
+    if world.run(&all).is_err() && !runs(alloc, world, &TELL)? {
+        return Ok(false);
+    }
+    world.run(&all)?;
+    world.run(&merges)?;
+    world.run(&merges)?;
+    Ok(knows_three(world, 1)? && knows_three(world, 2)?)
+}
+
+fn goes(alloc: Global, number: u32) -> Result<bool, Fail> {
+    let plan = Plan::from_text(alloc, PLAN.as_bytes())?;
+    let mut world = World::new(alloc, &[2, 1], &plan)?;
+    match number {
+        0 => tells(alloc, &mut world),
+        1 => runs(alloc, &mut world, &EARLY),
+        _ => completes(alloc, &mut world),
+    }
+}
+
+#[test]
+fn two_replicas_tell_each_other(rt: HostRuntime) -> Result<(), Fail> {
+    assert!(rt; goes(rt.alloc(), 0)?);
+    Ok(())
+}
+
+#[test]
+fn parts_that_come_too_early_come_again(rt: HostRuntime) -> Result<(), Fail> {
+    assert!(rt; goes(rt.alloc(), 1)?);
+    Ok(())
+}
+
+#[test]
+fn a_run_that_was_refused_is_completed(rt: HostRuntime) -> Result<(), Fail> {
+    assert!(rt; goes(rt.alloc(), 2)?);
+    Ok(())
+}
+
+// Why a world of these names is refused.
+fn refused(alloc: Global, names: &[u32]) -> Result<Option<WorldFault>, Fail> {
+    let plan = Plan::from_text(alloc, PLAN.as_bytes())?;
+    Ok(World::new(alloc, names, &plan).err())
+}
+
+#[test]
+fn names_stand_once(rt: HostRuntime) -> Result<(), Fail> {
+    let alloc = rt.alloc();
+    assert!(rt; refused(alloc, &[1, 1])? == Some(WorldFault::NameTwice));
+    assert!(rt; refused(alloc, &[3, 1, 2, 3])? == Some(WorldFault::NameTwice));
+    assert!(rt; refused(alloc, &[3, 1, 2])?.is_none());
+    assert!(rt; refused(alloc, &[])?.is_none());
+    Ok(())
+}
