@@ -1,9 +1,15 @@
 //! Audits from outside, by reports whose colours were found by hand, and by statements of the bill; and, each in a module of its own,
-//! buckets, meters, plans and bills, and statements, whose crates have no other tests.
+//! messages, templates, reports with exports and devices, inputs, captures of other exporters, buckets, meters, plans and bills, and
+//! statements, whose crates have no other tests.
 mod accounts;
 mod buckets;
+mod exporters;
+mod inputs;
 mod meters;
+mod reports;
 mod statements;
+mod templates;
+mod wire;
 
 use crate::{AuditFault, Verdict, audit, audit_under};
 use std::alloc::{AllocError, Global};

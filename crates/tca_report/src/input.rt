@@ -160,8 +160,3 @@ pub fn input_words()
     ensures fault { (octets : List ℕ) (f : InputFault) → (is_export octets ≡ true → AllByRecursion (λ (b : ℕ). b < 256) octets) → input_of octets ≡ Err f → IsFirstFault octets f }
     ensures no_other { (octets : List ℕ) (f : InputFault) → IsFirstFault octets f → input_of octets ≡ Err f }
 {}
-
-#[cfg(test)]
-mod exporters;
-#[cfg(test)]
-mod tests;

@@ -30,6 +30,9 @@ returns-in_default-clause-exact g c = λ start records taken other.
     let none = none_located t.specs.items rest (c.in_default.ensures.whole ∙ ap (λ (ss : List FieldSpec). option_map (λ x. x.1) (fields_on [] 0 ss rest)) c.deref.ensures.value) in
     sym w.same ∙ data_bad c.args.header (template_of t) some w.all c.loop-rest.at rest le none
 
+pub returns-in_default-clause-wanted : goal.returns-in_default-clause-wanted
+returns-in_default-clause-wanted g c = λ memory. absurd cc
+
 pub invariant_of-record : goal.invariant_of-record
 invariant_of-record g c =
     let t = c.args.template.now in

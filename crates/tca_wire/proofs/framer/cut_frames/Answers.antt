@@ -1,5 +1,6 @@
-use Rattle.std.proofs.Common.{◌-◌, length}
+use Rattle.std.proofs.Common.{◌≡◌, ◌∙◌, ◌-◌, length, refl}
 use Rattle.tca_wire.proofs.Lending.{cut_more, cut_at, cut_short}
+use Rattle.tca_wire.proofs.framer.cut_frames.Goals.{in-Ok-None, in-Err}
 use Rattle.tca_wire.proofs.framer.cut_frames.Goals as goal
 
 pub loop-length-preserved : goal.loop-length-preserved
@@ -12,3 +13,13 @@ returns-clause-frames c =
     let n = length c.args.octets.now - length c.loop-length.rest.now in
     let cut = cut_at c.args.octets.now c.loop-length.rest.now n c.loop-length.invariant (cut_short c.args.octets.now c.loop-length.rest.now c.loop-length.invariant) in
     rw c.split_at-2.ensures.front cut.front
+
+pub returns-clause-ends : goal.returns-clause-ends
+returns-clause-ends c =
+    let n = length c.args.octets.now - length c.loop-length.rest.now in
+    let cut = cut_at c.args.octets.now c.loop-length.rest.now n c.loop-length.invariant (cut_short c.args.octets.now c.loop-length.rest.now c.loop-length.invariant) in
+    let back : c.split_at-2.result.1.now ≡ c.loop-length.rest.now = c.split_at-2.ensures.back ∙ cut.behind in
+    rw back (elim c.match-frame_length.branch [
+      | in-Ok-None w ↦ rw w.fault-is (refl, rw w.in-Ok-None.field-0-is at w.in-Ok-None.ensures.part)
+      | in-Err w ↦ rw w.fault-is w.in-Err.ensures.fault
+    ])

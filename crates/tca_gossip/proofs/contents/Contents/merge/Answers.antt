@@ -1,4 +1,4 @@
-use Rattle.std.proofs.Common.{◌≡◌, ◌∙◌, ◌++◌, Some, None, false, cond, nat_lt, length, sym, ap}
+use Rattle.std.proofs.Common.{◌≡◌, ◌∙◌, ◌++◌, Some, None, false, cond, nat_lt, length, sym, ap, rules}
 use Rattle.tca_report.specs.report.Reports.{report_cmp}
 use Rattle.tca_report.specs.contracts.report.ReportPartialEq.TheImpl as report_eq
 use Rattle.tca_join.specs.Sets.{in_order}
@@ -13,6 +13,9 @@ use Rattle.tca_gossip.proofs.Clashing.{memory_alone, within_limit}
 use Rattle.tca_gossip.proofs.Exact.{exact_report}
 use Rattle.tca_gossip.proofs.Plains.{held_merged}
 use Rattle.tca_gossip.proofs.contents.Contents.merge.Goals as goal
+
+pub returns-in-Err-join_from-clause-err : goal.returns-in-Err-join_from-clause-err
+returns-in-Err-join_from-clause-err c = search rules
 
 pub returns-in-Err-clause-fault : goal.returns-in-Err-clause-fault
 returns-in-Err-clause-fault c =

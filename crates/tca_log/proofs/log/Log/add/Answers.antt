@@ -12,6 +12,17 @@ pub returns-then-contains-clause-ok : goal.returns-then-contains-clause-ok
 returns-then-contains-clause-ok g c =
     rw (← c.self.view_is) (repeat_put c.self.inside.rows.rows c.args.report c.self.invariant.rises (sym c.contains.ensures ∙ c.if-contains.true))
 
+pub returns-then-len-ge-LIMIT-clause-new : goal.returns-then-len-ge-LIMIT-clause-new
+returns-then-len-ge-LIMIT-clause-new g c = cc
+
+pub invariant_of-self-in_err-answer : goal.invariant_of-self-in_err-answer
+invariant_of-self-in_err-answer g c =
+    let rs = c.self.inside.rows.rows in
+    let index = c.in_ok-index.index.rows in
+    let disputed_identities = c.self.inside.disputed.rows in
+    let log : IsLog rs index disputed_identities = subst (λ (l : List PacketReport). IsLog l index disputed_identities) c.in_ok-reserve.ensures.rows (c.in_ok-index.ensures disputed_identities (rw (c.in_ok-reserve.ensures.rows, c.take.ensures.value) c.self.invariant)) in
+    rw (c.in_ok-reserve.ensures.rows, c.in_err-answer.ensures.err, c.in_err-answer.ensures.err_disputed) (kept log)
+
 pub invariant_of-self-2 : goal.invariant_of-self-2
 invariant_of-self-2 g c =
     let rs = c.self.inside.rows.rows in

@@ -46,3 +46,12 @@ returns-then-is_err-clause-most g c = (
   omega arith,
   simp length-append (one_more (length c.args.buffer.now) c.args.from.now.reads_left c.loop-from.from.reads_left c.read.new.self.reads_left (length c.loop-from.octets.items) (length (take c.in-Ok-2.n c.read.new.into)) c.loop-from.invariant.most (omega (arith, length-take c.in-Ok-2.n c.read.new.into)) (omega arith) (omega arith)),
 )
+
+pub returns-in-Ok-eq0-clause-most : goal.returns-in-Ok-eq0-clause-most
+returns-in-Ok-eq0-clause-most g = grind (arith, common_steps)
+
+pub loop-from-preserved : goal.loop-from-preserved
+loop-from-preserved g = grind (arith, common_steps)
+
+pub returns-in-Err-clause-most : goal.returns-in-Err-clause-most
+returns-in-Err-clause-most g = grind (arith, common_steps)

@@ -1,4 +1,4 @@
-use Rattle.std.proofs.Common.{◌≡◌, ◌<◌, ◌++◌, ◌∙◌, ap, ap₂, sym, subst, true, false, arith, append_assoc, length, length-append, take, drop, List, ℕ}
+use Rattle.std.proofs.Common.{rules, ◌≡◌, ◌<◌, ◌++◌, ◌∙◌, ap, ap₂, sym, subst, true, false, arith, append_assoc, length, length-append, take, drop, List, ℕ}
 use Rattle.std.specs.Prelude.{Ok, Err, ◌==◌}
 use Rattle.tca_report.specs.report.Reports.{PacketReport}
 use Rattle.tca_report.specs.declared.input.Notes.{Notes}
@@ -96,3 +96,6 @@ returns-in-Err c =
       memory = λ m. absurd (never (c.wire_fault.ensures.memory cc));
       wanted = λ m. absurd (never (c.wire_fault.ensures.memory cc));
     }
+
+pub returns-in_default-clause-wanted : goal.returns-in_default-clause-wanted
+returns-in_default-clause-wanted c = search rules

@@ -1,9 +1,12 @@
-use Rattle.std.proofs.Common.{◌≡◌, ◌<◌, ◌++◌, List, ℕ, length, sym, ap, ◌∙◌, arith}
+use Rattle.std.proofs.Common.{◌≡◌, ◌<◌, ◌++◌, List, ℕ, length, sym, ap, ◌∙◌, arith, rules}
 use Rattle.std.proofs.lemmas.List.{length-append}
 use Rattle.std.proofs.lemmas.Result.{err_from_is_err_and}
 use Rattle.tca_wire.specs.Frames.{framing}
 use Rattle.tca_wire.proofs.Lending.{no_fault, faulty_feeds, feed_needs, not_part_some}
 use Rattle.tca_wire.proofs.framer.Framer.feed.Goals as goal
+
+pub returns-after-is_some-2-clause-stream : goal.returns-after-is_some-2-clause-stream
+returns-after-is_some-2-clause-stream c = search rules
 
 pub returns-in-Err-clause-stream : goal.returns-in-Err-clause-stream
 returns-in-Err-clause-stream c =
@@ -30,3 +33,9 @@ returns-in-Err-frames_in-clause-needed c =
     c.as_slice-2.ensures.value ∙ c.in_ok-extend_from_slice.ensures.items ∙ ap (λ (h : List ℕ). h ++ c.args.octets.now) (sym c.as_slice.ensures.value) in
     let some : 0 < length (held ++ c.args.octets.now) = not_part_some (held ++ c.args.octets.now) (rw (sym all) c.in-Err-frames_in.ensures.needed) in
     feed_needs held c.args.octets.now c.self.inside.fault c.args.self.now c.in_default.field-0 is well c.in_default.ensures.frame c.in_default.ensures.part some
+
+pub invariant_of-self-else-is_some-2 : goal.invariant_of-self-else-is_some-2
+invariant_of-self-else-is_some-2 c = search rules
+
+pub invariant_of-self-then-is_some-2 : goal.invariant_of-self-then-is_some-2
+invariant_of-self-then-is_some-2 c = search rules

@@ -1,6 +1,6 @@
 //! Captures that other exporters wrote, as tests.
-use crate::input::{Gathered, Notes, gather};
 use std::test::Fail;
+use tca_report::{Gathered, Notes, gather};
 
 // softflowd 1.1.0: 24 flow records, which have no time, and a record of an options template.
 const SOFTFLOWD: &[u8] =

@@ -1,16 +1,13 @@
-//! Exports, devices and reports; and, each in a module of its own, messages and templates, whose crates have no other tests.
-mod templates;
-mod wire;
-
-use crate::{
-    Content, ExportFault, Host, Identity, Read, ReadFault, Report, Write, WriteFault,
-    order_is_total, put_all, read_export, read_octets, spelling_is_unique, write_export,
-};
+//! Reports, exports and devices.
 use std::alloc::{AllocError, Global};
 use std::fmt::Display;
 use std::path::Path;
 use std::test::Fail;
 use std::{env, fs, io};
+use tca_report::{
+    Content, ExportFault, Host, Identity, Read, ReadFault, Report, Write, WriteFault,
+    order_is_total, put_all, read_export, read_octets, spelling_is_unique, write_export,
+};
 
 const T: u64 = 1_700_000_000_000;
 
@@ -414,7 +411,7 @@ fn is_read(rt: &HostRuntime, path: Path<'_>) -> Result<bool, Fail> {
 
 #[test]
 fn a_file_is_a_device(rt: HostRuntime) -> Result<(), Fail> {
-    let path = env::temp_dir(&rt)?.join(rt.alloc(), "tca_report_a_file_is_a_device")?;
+    let path = env::temp_dir(&rt)?.join(rt.alloc(), "tca_audit_a_file_is_a_device")?;
     let written = is_written(&rt, path.as_path())?;
     let read = is_read(&rt, path.as_path())?;
     fs::remove_file(&rt, path.as_path())?;

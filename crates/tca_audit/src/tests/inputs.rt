@@ -1,9 +1,10 @@
-use crate::{
-    Content, ExportFault, Identity, InputFault, NotReport, Notes, Report, extract, gather,
-};
+//! Inputs: log exports, and captures of hand-made messages.
 use std::alloc::Global;
 use std::fmt::Display;
 use std::test::Fail;
+use tca_report::{
+    Content, ExportFault, Identity, InputFault, NotReport, Notes, Report, extract, gather,
+};
 use tca_templates::{DecodeFault, Decoder, Outcome, PlacedFields};
 use tca_wire::{WireFault, split_message};
 

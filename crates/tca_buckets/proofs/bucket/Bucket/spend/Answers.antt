@@ -1,0 +1,5 @@
+use Rattle.std.proofs.Common.{rules}
+use Rattle.tca_buckets.proofs.bucket.Bucket.spend.Goals as goal
+
+pub returns : goal.returns
+returns c = search rules
