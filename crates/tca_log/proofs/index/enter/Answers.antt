@@ -1,4 +1,4 @@
-use Rattle.std.proofs.Common.{◌≡◌, Some, true, false, refl, sym, ap, ◌∙◌}
+use Rattle.std.proofs.Common.{◌≡◌, Some, true, false, refl, rules, sym, ap, ◌∙◌}
 use Rattle.std.specs.Prelude.{is_some}
 use Rattle.tca_join.specs.Sets.{has}
 use Rattle.tca_report.specs.report.Identities.{identity_cmp}
@@ -27,4 +27,4 @@ pub returns-clause-disputed : goal.returns-clause-disputed
 returns-clause-disputed g c =
     let first : first_of c.args.index.now.rows c.args.report ≡ Some c.in-Some.first = sym c.get.ensures ∙ sym c.copied.ensures ∙ c.in-Some.is in
     let is_none : is_disputed c.args.disputed.now.rows c.args.report ≡ false = ap (has identity_cmp c.args.disputed.now.rows) (sym c.identity-identity.ensures) ∙ sym c.contains.ensures ∙ c.if-contains.false in
-    rw (first, is_none, ← c.identity-identity.ensures, ← c.in_ok-reserve-2.ensures.rows) c.put-2.ensures
+    rw (first, is_none, ← c.identity-identity.ensures, ← c.in_ok-reserve-2.ensures.rows) (search rules)
