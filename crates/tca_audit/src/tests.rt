@@ -13,7 +13,6 @@ mod wire;
 
 use crate::{AuditFault, Verdict, audit, audit_under};
 use std::alloc::{AllocError, Global};
-use std::test::Fail;
 use tca_accounts::{Key, Plan, PlanFault, bill_all};
 use tca_log::Log;
 use tca_report::{Content, ExportFault, Host, Identity, Report};
@@ -89,65 +88,85 @@ fn exported(alloc: Global, rows: &[Row]) -> Result<Vec<u8>, AllocError> {
 }
 
 // What the audit of a statement finds.
-fn audited(alloc: Global, plan: &[u8], rows: &[Row], statement: &[u8]) -> Result<Verdict, Fail> {
-    let export = exported(alloc, rows)?;
-    Ok(audit(alloc, plan, &export, statement)?)
+fn audited(alloc: Global, plan: &[u8], rows: &[Row], statement: &[u8]) -> Option<Verdict> {
+    let Ok(export) = exported(alloc, rows) else {
+        return None;
+    };
+    audit(alloc, plan, &export, statement).ok()
 }
 
 // What that of a statement with these lines finds, under a plan of one account with this meter.
-fn found(alloc: Global, meter: &str, rows: &[Row], lines: &str) -> Result<Verdict, Fail> {
-    let plan = joined(alloc, &[HEAD, meter])?;
-    let statement = joined(
-        alloc,
-        &["tcacct statement 1\nperiod 3600000\n", lines, "end\n"],
-    )?;
+fn found(alloc: Global, meter: &str, rows: &[Row], lines: &str) -> Option<Verdict> {
+    let Ok(plan) = joined(alloc, &[HEAD, meter]) else {
+        return None;
+    };
+    let parts = ["tcacct statement 1\nperiod 3600000\n", lines, "end\n"];
+    let Ok(statement) = joined(alloc, &parts) else {
+        return None;
+    };
     audited(alloc, plan.as_bytes(), rows, statement.as_bytes())
 }
 
+// What that of a statement of the first rows finds, under the plan whose meter is blind.
+fn found_blind(alloc: Global, statement: &[u8]) -> Option<Verdict> {
+    let Ok(plan) = joined(alloc, &[HEAD, BLIND]) else {
+        return None;
+    };
+    audited(alloc, plan.as_bytes(), &FIRST, statement)
+}
+
 #[test]
-fn tells_where_a_statement_differs(rt: HostRuntime) -> Result<(), Fail> {
+fn tells_where_a_statement_differs(rt: HostRuntime) {
     let alloc = rt.alloc();
-    let plan = joined(alloc, &[HEAD, BLIND])?;
-    let plan = plan.as_bytes();
-    let export = exported(alloc, &FIRST)?;
     let right = THREE.as_bytes();
-    assert!(rt; audit(alloc, plan, &export, right) == Ok(Verdict::Agrees));
+    assert!(rt; found_blind(alloc, right) == Some(Verdict::Agrees));
     let other =
         "tcacct statement 1\nperiod 3600000\nreports 3\ndisputed 0\nunassigned 0\naccount alpha\ntotal 1501 1 1000 1 800 1\nspan 472222 1500 1 1000 1 800 1\nend\n";
-    let verdict = audit(alloc, plan, &export, other.as_bytes());
-    assert!(rt; verdict == Ok(Verdict::Differs { at: 91 }));
-    let cut = right.get(..143).ok_or("144 octets")?;
-    let verdict = audit(alloc, plan, &export, cut);
-    assert!(rt; verdict == Ok(Verdict::Differs { at: 143 }));
-    let longer = joined(alloc, &[THREE, "\n"])?;
-    let verdict = audit(alloc, plan, &export, longer.as_bytes());
-    assert!(rt; verdict == Ok(Verdict::Differs { at: 144 }));
-    let verdict = audit(alloc, plan, &export, b"");
-    assert!(rt; verdict == Ok(Verdict::Differs { at: 0 }));
-    Ok(())
+    let verdict = found_blind(alloc, other.as_bytes());
+    assert!(rt; verdict == Some(Verdict::Differs { at: 91 }));
+    let Some(cut) = right.get(..143) else {
+        panic!(rt; "144 octets");
+    };
+    assert!(rt; found_blind(alloc, cut) == Some(Verdict::Differs { at: 143 }));
+    assert!(rt; found_blind(alloc, b"") == Some(Verdict::Differs { at: 0 }));
+    let Ok(longer) = joined(alloc, &[THREE, "\n"]) else {
+        panic!(rt; "a text");
+    };
+    let verdict = found_blind(alloc, longer.as_bytes());
+    assert!(rt; verdict == Some(Verdict::Differs { at: 144 }));
+}
+
+// Why the audit of the right statement is refused where the last octet of the export is cut off.
+fn refused_cut(alloc: Global, plan: &[u8]) -> Option<AuditFault> {
+    let Ok(export) = exported(alloc, &FIRST) else {
+        return None;
+    };
+    let Some(cut) = export.get(..84) else {
+        return None;
+    };
+    audit(alloc, plan, cut, THREE.as_bytes()).err()
 }
 
 #[test]
-fn refuses_the_plan_before_the_export(rt: HostRuntime) -> Result<(), Fail> {
+fn refuses_the_plan_before_the_export(rt: HostRuntime) {
     let alloc = rt.alloc();
-    let plan = joined(alloc, &[HEAD, BLIND])?;
-    let export = exported(alloc, &FIRST)?;
-    let cut = export.get(..84).ok_or("85 octets")?;
-    let refused = audit(alloc, plan.as_bytes(), cut, THREE.as_bytes());
-    assert!(rt; refused == Err(AuditFault::Export(ExportFault::Cut)));
+    let Ok(plan) = joined(alloc, &[HEAD, BLIND]) else {
+        panic!(rt; "a plan");
+    };
+    let refused = refused_cut(alloc, plan.as_bytes());
+    assert!(rt; refused == Some(AuditFault::Export(ExportFault::Cut)));
     let wrong = PlanFault::Wrong { key: Key::Period };
-    let refused = audit(alloc, b"period = 0\n", cut, THREE.as_bytes());
-    assert!(rt; refused == Err(AuditFault::Plan(wrong)));
-    Ok(())
+    let refused = refused_cut(alloc, b"period = 0\n");
+    assert!(rt; refused == Some(AuditFault::Plan(wrong)));
 }
 
 #[test]
-fn agrees_with_late_and_disputed_reports(rt: HostRuntime) -> Result<(), Fail> {
+fn agrees_with_late_and_disputed_reports(rt: HostRuntime) {
     let alloc = rt.alloc();
     let late = [FIRST[0], (3, 50, 600, 0, 1), FIRST[1], FIRST[2]];
     let lines =
         "reports 4\ndisputed 0\nunassigned 0\naccount alpha\ntotal 1500 1 600 1 1800 2\nspan 472222 1500 1 600 1 1800 2\n";
-    assert!(rt; found(alloc, BLIND, &late, lines)? == Verdict::Agrees);
+    assert!(rt; found(alloc, BLIND, &late, lines) == Some(Verdict::Agrees));
     let two = [
         FIRST[0],
         (3, 50, 600, 0, 1),
@@ -157,7 +176,7 @@ fn agrees_with_late_and_disputed_reports(rt: HostRuntime) -> Result<(), Fail> {
     ];
     let lines =
         "reports 5\ndisputed 1\nunassigned 0\naccount alpha\ntotal 1500 1 1000 1 800 1\nspan 472222 1500 1 1000 1 800 1\n";
-    assert!(rt; found(alloc, BLIND, &two, lines)? == Verdict::Agrees);
+    assert!(rt; found(alloc, BLIND, &two, lines) == Some(Verdict::Agrees));
     let three = [
         FIRST[0],
         (3, 50, 600, 0, 1),
@@ -168,7 +187,7 @@ fn agrees_with_late_and_disputed_reports(rt: HostRuntime) -> Result<(), Fail> {
     ];
     let lines =
         "reports 6\ndisputed 1\nunassigned 0\naccount alpha\ntotal 1500 1 1000 1 800 1\nspan 472222 1500 1 1000 1 800 1\n";
-    assert!(rt; found(alloc, BLIND, &three, lines)? == Verdict::Agrees);
+    assert!(rt; found(alloc, BLIND, &three, lines) == Some(Verdict::Agrees));
     let hours = [
         (2, 0, 50, 0, 2),
         (0, 2_799_999, 100, 0, 1),
@@ -176,34 +195,32 @@ fn agrees_with_late_and_disputed_reports(rt: HostRuntime) -> Result<(), Fail> {
     ];
     let lines =
         "reports 3\ndisputed 0\nunassigned 1\naccount alpha\ntotal 200 2 0 0 0 0\nspan 472222 100 1 0 0 0 0\nspan 472223 100 1 0 0 0 0\n";
-    assert!(rt; found(alloc, BLIND, &hours, lines)? == Verdict::Agrees);
-    Ok(())
+    assert!(rt; found(alloc, BLIND, &hours, lines) == Some(Verdict::Agrees));
 }
 
 #[test]
-fn agrees_with_each_meter(rt: HostRuntime) -> Result<(), Fail> {
+fn agrees_with_each_meter(rt: HostRuntime) {
     let alloc = rt.alloc();
     let same = [(0, 0, 1000, 0, 1), (1, 0, 1000, 0, 1), (2, 0, 1000, 0, 1)];
     let lines =
         "reports 3\ndisputed 0\nunassigned 0\naccount alpha\ntotal 1000 1 1000 1 1000 1\nspan 472222 1000 1 1000 1 1000 1\n";
-    assert!(rt; found(alloc, EXACT, &same, lines)? == Verdict::Agrees);
+    assert!(rt; found(alloc, EXACT, &same, lines) == Some(Verdict::Agrees));
     let lines =
         "reports 3\ndisputed 0\nunassigned 0\naccount alpha\ntotal 0 0 0 0 3000 3\nspan 472222 0 0 0 0 3000 3\n";
-    assert!(rt; found(alloc, BELOW, &same, lines)? == Verdict::Agrees);
+    assert!(rt; found(alloc, BELOW, &same, lines) == Some(Verdict::Agrees));
     let peak = [(0, 0, 1500, 0, 1), (1, 0, 500, 0, 1), (2, 1, 3, 0, 1)];
     let lines =
         "reports 3\ndisputed 0\nunassigned 0\naccount alpha\ntotal 500 1 1500 1 3 1\nspan 472222 500 1 1500 1 3 1\n";
-    assert!(rt; found(alloc, PEAK, &peak, lines)? == Verdict::Agrees);
+    assert!(rt; found(alloc, PEAK, &peak, lines) == Some(Verdict::Agrees));
     let lines =
         "reports 1\ndisputed 0\nunassigned 0\naccount alpha\ntotal 0 0 0 0 100 1\nspan 472222 0 0 0 0 100 1\n";
-    assert!(rt; found(alloc, AWARE, &[(0, 0, 100, 14, 1)], lines)? == Verdict::Agrees);
+    assert!(rt; found(alloc, AWARE, &[(0, 0, 100, 14, 1)], lines) == Some(Verdict::Agrees));
     let lines =
         "reports 1\ndisputed 0\nunassigned 0\naccount alpha\ntotal 0 0 1000 1 0 0\nspan 472222 0 0 1000 1 0 0\n";
-    assert!(rt; found(alloc, AWARE, &[(0, 0, 1000, 12, 1)], lines)? == Verdict::Agrees);
+    assert!(rt; found(alloc, AWARE, &[(0, 0, 1000, 12, 1)], lines) == Some(Verdict::Agrees));
     let lines =
         "reports 1\ndisputed 0\nunassigned 0\naccount alpha\ntotal 2000 1 0 0 0 0\nspan 472222 2000 1 0 0 0 0\n";
-    assert!(rt; found(alloc, AWARE, &[(0, 0, 2000, 46, 1)], lines)? == Verdict::Agrees);
-    Ok(())
+    assert!(rt; found(alloc, AWARE, &[(0, 0, 2000, 46, 1)], lines) == Some(Verdict::Agrees));
 }
 
 // Three accounts, one with each kind of meter. Interface 4 has none.
@@ -238,7 +255,7 @@ impl Numbers {
     }
 }
 
-fn report(row: &Row) -> Result<Report, Fail> {
+fn report(row: &Row) -> Option<Report> {
     let (place, late, octets, dscp, iface) = *row;
     let identity = Identity { domain: 7, place };
     let content = Content {
@@ -247,17 +264,21 @@ fn report(row: &Row) -> Result<Report, Fail> {
         dscp,
         iface,
     };
-    Ok(Report::new(identity, content).ok_or("a report within its ranges")?)
+    Report::new(identity, content)
 }
 
 // A log of some reports.
-fn logged(alloc: Global, numbers: &mut Numbers) -> Result<Log, Fail> {
+fn logged(alloc: Global, numbers: &mut Numbers) -> Option<Log> {
     let mut log = Log::new(alloc);
     for _ in 0..numbers.below(14) {
-        let report = report(&numbers.row())?;
-        log.add(report)?;
+        let Some(report) = report(&numbers.row()) else {
+            return None;
+        };
+        if log.add(report).is_err() {
+            return None;
+        }
     }
-    Ok(log)
+    Some(log)
 }
 
 // The reports of a log as rows.
@@ -278,21 +299,25 @@ fn exported_log(alloc: Global, log: &Log) -> Result<Vec<u8>, AllocError> {
     exported(alloc, &list)
 }
 
-fn text(alloc: Global, statement: &Statement) -> Result<Vec<u8>, Fail> {
+fn text(alloc: Global, statement: &Statement) -> Option<Vec<u8>> {
     let mut out = Host::new(Vec::new(alloc));
     if render(statement, &mut out).is_err() {
-        return Err(Fail::from("a list takes all octets"));
+        return None;
     }
-    Ok(out.into_inner())
+    Some(out.into_inner())
 }
 
 // The statement of a log.
-fn stated(alloc: Global, plan: &Plan, log: &Log) -> Result<Vec<u8>, Fail> {
-    let bill = bill_all(alloc, plan, log)?;
+fn stated(alloc: Global, plan: &Plan, log: &Log) -> Option<Vec<u8>> {
+    let Ok(bill) = bill_all(alloc, plan, log) else {
+        return None;
+    };
     if bill.accounts.as_slice().len() != plan.accounts() as usize {
-        return Err(Fail::from("a tally of each account"));
+        return None;
     }
-    let statement = Statement::of(alloc, plan, &bill)?;
+    let Ok(statement) = Statement::of(alloc, plan, &bill) else {
+        return None;
+    };
     text(alloc, &statement)
 }
 
@@ -303,37 +328,55 @@ fn tells_a_change(
     export: &[u8],
     statement: &mut Vec<u8>,
     at: usize,
-) -> Result<bool, Fail> {
-    let right = audit_under(alloc, plan, export, statement)?;
+) -> bool {
+    let Ok(right) = audit_under(alloc, plan, export, statement) else {
+        return false;
+    };
     if let Some(octet) = statement.get_mut(at) {
         *octet ^= 1;
     }
-    let changed = audit_under(alloc, plan, export, statement)?;
-    Ok(right == Verdict::Agrees && changed == Verdict::Differs { at: at as u64 })
+    let Ok(changed) = audit_under(alloc, plan, export, statement) else {
+        return false;
+    };
+    right == Verdict::Agrees && changed == Verdict::Differs { at: at as u64 }
 }
 
 // The same of the statement of the bill of some reports.
-fn agrees(alloc: Global, plan: &Plan, numbers: &mut Numbers) -> Result<bool, Fail> {
-    let log = logged(alloc, numbers)?;
-    let export = exported_log(alloc, &log)?;
-    let mut statement = stated(alloc, plan, &log)?;
+fn agrees(alloc: Global, plan: &Plan, numbers: &mut Numbers) -> bool {
+    let Some(log) = logged(alloc, numbers) else {
+        return false;
+    };
+    let Ok(export) = exported_log(alloc, &log) else {
+        return false;
+    };
+    let Some(mut statement) = stated(alloc, plan, &log) else {
+        return false;
+    };
     let at = numbers.below(statement.len().min(4_194_304) as u32) as usize;
     tells_a_change(alloc, plan, &export, &mut statement, at)
 }
 
 #[test]
-fn agrees_with_the_bill(rt: HostRuntime) -> Result<(), Fail> {
+fn agrees_with_the_bill(rt: HostRuntime) {
     let alloc = rt.alloc();
-    let plan = Plan::from_text(alloc, SEVERAL.as_bytes())?;
+    let Ok(plan) = Plan::from_text(alloc, SEVERAL.as_bytes()) else {
+        panic!(rt; "a plan");
+    };
     let mut numbers = Numbers { state: 1 };
     for _ in 0..2_000 {
-        assert!(rt; agrees(alloc, &plan, &mut numbers)?);
+        assert!(rt; agrees(alloc, &plan, &mut numbers));
     }
-    Ok(())
+}
+
+fn says(alloc: Global, fault: AuditFault, text: &str) -> bool {
+    match format!(in alloc; "{fault}") {
+        Ok(said) => said.as_str() == text,
+        Err(_) => false,
+    }
 }
 
 #[test]
-fn faults_have_their_numbers_and_texts(rt: HostRuntime) -> Result<(), Fail> {
+fn faults_have_their_numbers_and_texts(rt: HostRuntime) {
     for (fault, number, text) in [
         (
             AuditFault::Plan(PlanFault::KeyTwice),
@@ -348,7 +391,6 @@ fn faults_have_their_numbers_and_texts(rt: HostRuntime) -> Result<(), Fail> {
         (AuditFault::Memory, 3, "out of memory"),
     ] {
         assert!(rt; fault.number() == number);
-        assert!(rt; format!(in rt.alloc(); "{fault}")?.as_str() == text);
+        assert!(rt; says(rt.alloc(), fault, text));
     }
-    Ok(())
 }

@@ -18,8 +18,7 @@ mod threads;
 use crate::{Closed, Entry, Pass, Shared, Side};
 use std::alloc::{AllocError, Global};
 use std::sync::Wait;
-use std::test::Fail;
-use tca_accounts::{Bill, Plan};
+use tca_accounts::{Bill, Plan, PlanFault};
 use tca_report::{Content, Identity, Report};
 
 // The time of the first report of the worked rows.
@@ -51,17 +50,21 @@ fn report(row: (u32, u32, u32)) -> Option<Report> {
     )
 }
 
-fn reports(alloc: Global, rows: &[(u32, u32, u32)]) -> Result<Vec<Report>, Fail> {
+fn reports(alloc: Global, rows: &[(u32, u32, u32)]) -> Option<Vec<Report>> {
     let mut list = Vec::new(alloc);
     for row in rows {
-        let report = report(*row).ok_or("a report within its ranges")?;
-        list.push(report)?;
+        let Some(report) = report(*row) else {
+            return None;
+        };
+        if list.push(report).is_err() {
+            return None;
+        }
     }
-    Ok(list)
+    Some(list)
 }
 
-fn plan(alloc: Global) -> Result<Plan, Fail> {
-    Ok(Plan::from_text(alloc, PLAN.as_bytes())?)
+fn plan(alloc: Global) -> Result<Plan, PlanFault> {
+    Plan::from_text(alloc, PLAN.as_bytes())
 }
 
 // Whether a bill is that of the first three rows.
@@ -100,14 +103,18 @@ fn take<L: Side, R: Wait>(
     shared: &Shared<L>,
     pass: &mut Pass<L>,
     rows: &[(u32, u32, u32)],
-) -> Result<Option<u64>, Fail> {
-    let list = reports(alloc, rows)?;
-    let receipt = shared.take(rt, pass, &list)?;
-    Ok(if whole(&receipt.entry) == Some(list.len()) {
+) -> Option<u64> {
+    let Some(list) = reports(alloc, rows) else {
+        return None;
+    };
+    let Ok(receipt) = shared.take(rt, pass, &list) else {
+        return None;
+    };
+    if whole(&receipt.entry) == Some(list.len()) {
         Some(receipt.front)
     } else {
         None
-    })
+    }
 }
 
 // One pass, to be given back.
@@ -125,8 +132,8 @@ fn with_one_more<L: Side>(passes: Vec<Pass<L>>, pass: Pass<L>) -> Result<Vec<Pas
 }
 
 // What comes of a close that isn't refused.
-fn closed_with<L: Side>(shared: Shared<L>, passes: Vec<Pass<L>>) -> Result<Closed, Fail> {
-    Ok(shared.close(passes).ok().ok_or("a close")?)
+fn closed_with<L: Side>(shared: Shared<L>, passes: Vec<Pass<L>>) -> Option<Closed> {
+    shared.close(passes).ok()
 }
 
 // The lengths of the journal and of the log, where a close isn't refused.

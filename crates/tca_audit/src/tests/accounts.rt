@@ -1,5 +1,5 @@
 use std::alloc::{AllocError, Global};
-use std::test::Fail;
+use std::fmt::Display;
 use tca_accounts::{Bill, Key, Plan, PlanFault, bill_all};
 use tca_log::Log;
 use tca_meters::{Colour, MeterFault, meter_spec};
@@ -41,8 +41,11 @@ fn refusal(alloc: Global, parts: &[&str]) -> Result<Option<PlanFault>, AllocErro
 // Parts that together are no plan, and why.
 type Refused = (&'static [&'static str], PlanFault);
 
-fn is_refused(alloc: Global, parts: &[&str], fault: PlanFault) -> Result<bool, AllocError> {
-    Ok(refusal(alloc, parts)? == Some(fault))
+fn is_refused(alloc: Global, parts: &[&str], fault: PlanFault) -> bool {
+    let Ok(found) = refusal(alloc, parts) else {
+        return false;
+    };
+    found == Some(fault)
 }
 
 const KEYS: &str = "keys = [[7, 1]]\n";
@@ -84,22 +87,29 @@ fn has_each_meter(plan: &Plan) -> bool {
         && has_meter(plan, 2, "rfc4115:1000:1000:1000:1000:exact:blind")
 }
 
-fn copies_each_kind(alloc: Global, plan: &Plan) -> Result<bool, Fail> {
-    let copy = plan.copy(alloc)?;
-    Ok(has_each_account(&copy) && has_each_meter(&copy))
+fn copies_each_kind(alloc: Global, plan: &Plan) -> bool {
+    let Ok(copy) = plan.copy(alloc) else {
+        return false;
+    };
+    has_each_account(&copy) && has_each_meter(&copy)
 }
 
-fn reads_each_kind(alloc: Global, text: &str) -> Result<bool, Fail> {
-    let table = toml::table_from_slice(alloc, text.as_bytes())?;
-    let plan = Plan::from_table(alloc, &table)?;
+fn reads_each_kind(alloc: Global, text: &str) -> bool {
+    let Ok(table) = toml::table_from_slice(alloc, text.as_bytes()) else {
+        return false;
+    };
+    let Ok(plan) = Plan::from_table(alloc, &table) else {
+        return false;
+    };
     copies_each_kind(alloc, &plan)
 }
 
 #[test]
-fn reads_an_account_of_each_kind(rt: HostRuntime) -> Result<(), Fail> {
-    let text = text(rt.alloc(), EACH_KIND)?;
-    assert!(rt; reads_each_kind(rt.alloc(), text.as_str())?);
-    Ok(())
+fn reads_an_account_of_each_kind(rt: HostRuntime) {
+    let Ok(text) = text(rt.alloc(), EACH_KIND) else {
+        panic!(rt; "a text");
+    };
+    assert!(rt; reads_each_kind(rt.alloc(), text.as_str()));
 }
 
 const AT_THE_TOP: &[Refused] = &[
@@ -131,13 +141,12 @@ const AT_THE_TOP: &[Refused] = &[
 ];
 
 #[test]
-fn refuses_what_stands_at_the_top_in_order(rt: HostRuntime) -> Result<(), Fail> {
+fn refuses_what_stands_at_the_top_in_order(rt: HostRuntime) {
     let alloc = rt.alloc();
     assert!(rt; Plan::from_text(alloc, b"\xff").err() == Some(PlanFault::Syntax));
     for (parts, fault) in AT_THE_TOP {
-        assert!(rt; is_refused(alloc, *parts, *fault)?, "{parts:?}");
+        assert!(rt; is_refused(alloc, *parts, *fault), "{parts:?}");
     }
-    Ok(())
 }
 
 const IN_AN_ACCOUNT: &[Refused] = &[
@@ -224,11 +233,10 @@ const IN_AN_ACCOUNT: &[Refused] = &[
 ];
 
 #[test]
-fn refuses_what_an_account_has_in_order(rt: HostRuntime) -> Result<(), Fail> {
+fn refuses_what_an_account_has_in_order(rt: HostRuntime) {
     for (parts, fault) in IN_AN_ACCOUNT {
-        assert!(rt; is_refused(rt.alloc(), *parts, *fault)?, "{parts:?}");
+        assert!(rt; is_refused(rt.alloc(), *parts, *fault), "{parts:?}");
     }
-    Ok(())
 }
 
 const IN_PAIRS_AND_METERS: &[Refused] = &[
@@ -292,17 +300,19 @@ const IN_PAIRS_AND_METERS: &[Refused] = &[
     ),
 ];
 
-fn is_plan(alloc: Global, parts: &[&str]) -> Result<bool, AllocError> {
-    Ok(refusal(alloc, parts)? == None)
+fn is_plan(alloc: Global, parts: &[&str]) -> bool {
+    let Ok(found) = refusal(alloc, parts) else {
+        return false;
+    };
+    found == None
 }
 
 #[test]
-fn refuses_pairs_and_meters_in_order(rt: HostRuntime) -> Result<(), Fail> {
+fn refuses_pairs_and_meters_in_order(rt: HostRuntime) {
     for (parts, fault) in IN_PAIRS_AND_METERS {
-        assert!(rt; is_refused(rt.alloc(), *parts, *fault)?, "{parts:?}");
+        assert!(rt; is_refused(rt.alloc(), *parts, *fault), "{parts:?}");
     }
-    assert!(rt; is_plan(rt.alloc(), &[HOUR, SINGLE, "keys = [[7, 1], [7, 2]]\n"])?);
-    Ok(())
+    assert!(rt; is_plan(rt.alloc(), &[HOUR, SINGLE, "keys = [[7, 1], [7, 2]]\n"]));
 }
 
 fn push_head(alloc: Global, text: &mut String, n: u32) -> Result<(), AllocError> {
@@ -330,7 +340,7 @@ fn wide(alloc: Global, accounts: u32, pairs: u32) -> Result<String, AllocError> 
     Ok(text)
 }
 
-fn report(place: u32, time: u64, octets: u32, iface: u32) -> Result<Report, Fail> {
+fn report(place: u32, time: u64, octets: u32, iface: u32) -> Option<Report> {
     let identity = Identity { domain: 7, place };
     let content = Content {
         time,
@@ -338,45 +348,64 @@ fn report(place: u32, time: u64, octets: u32, iface: u32) -> Result<Report, Fail
         dscp: 0,
         iface,
     };
-    Ok(Report::new(identity, content).ok_or("a report within its ranges")?)
+    Report::new(identity, content)
 }
 
-fn takes_the_most(alloc: Global) -> Result<bool, Fail> {
-    let (known, unknown) = (report(0, START, 1, 15)?, report(0, START, 1, 16)?);
-    let text = wide(alloc, 256, 16)?;
-    let plan = Plan::from_text(alloc, text.as_bytes())?;
+fn takes_the_most(alloc: Global) -> bool {
+    let Some(known) = report(0, START, 1, 15) else {
+        return false;
+    };
+    let Some(unknown) = report(0, START, 1, 16) else {
+        return false;
+    };
+    let Ok(text) = wide(alloc, 256, 16) else {
+        return false;
+    };
+    let Ok(plan) = Plan::from_text(alloc, text.as_bytes()) else {
+        return false;
+    };
     let found = (plan.account_of(&known), plan.account_of(&unknown));
-    Ok(plan.accounts() == 256 && found == (Some(7), None))
+    plan.accounts() == 256 && found == (Some(7), None)
 }
 
-fn is_too_wide(alloc: Global, accounts: u32, pairs: u32) -> Result<bool, Fail> {
-    let text = wide(alloc, accounts, pairs)?;
-    Ok(Plan::from_text(alloc, text.as_bytes()).err() == Some(PlanFault::Limits))
+fn is_too_wide(alloc: Global, accounts: u32, pairs: u32) -> bool {
+    let Ok(text) = wide(alloc, accounts, pairs) else {
+        return false;
+    };
+    Plan::from_text(alloc, text.as_bytes()).err() == Some(PlanFault::Limits)
 }
 
 #[test]
-fn takes_accounts_and_pairs_up_to_their_limits(rt: HostRuntime) -> Result<(), Fail> {
-    assert!(rt; takes_the_most(rt.alloc())?);
-    assert!(rt; is_too_wide(rt.alloc(), 257, 1)?);
-    assert!(rt; is_too_wide(rt.alloc(), 241, 17)?);
-    Ok(())
+fn takes_accounts_and_pairs_up_to_their_limits(rt: HostRuntime) {
+    assert!(rt; takes_the_most(rt.alloc()));
+    assert!(rt; is_too_wide(rt.alloc(), 257, 1));
+    assert!(rt; is_too_wide(rt.alloc(), 241, 17));
 }
 
 // A place, a time, octets and an interface.
 type Seen = (u32, u64, u32, u32);
 
-fn log_of(alloc: Global, rows: &[Seen]) -> Result<Log, Fail> {
+fn log_of(alloc: Global, rows: &[Seen]) -> Option<Log> {
     let mut log = Log::new(alloc);
     for (place, time, octets, iface) in rows {
-        log.add(report(*place, *time, *octets, *iface)?)?;
+        let Some(report) = report(*place, *time, *octets, *iface) else {
+            return None;
+        };
+        if log.add(report).is_err() {
+            return None;
+        }
     }
-    Ok(log)
+    Some(log)
 }
 
-fn billed(alloc: Global, rows: &[Seen]) -> Result<Bill, Fail> {
-    let plan = Plan::from_text(alloc, PLAN.as_bytes())?;
-    let log = log_of(alloc, rows)?;
-    Ok(bill_all(alloc, &plan, &log)?)
+fn billed(alloc: Global, rows: &[Seen]) -> Option<Bill> {
+    let Ok(plan) = Plan::from_text(alloc, PLAN.as_bytes()) else {
+        return None;
+    };
+    let Some(log) = log_of(alloc, rows) else {
+        return None;
+    };
+    bill_all(alloc, &plan, &log).ok()
 }
 
 // A period, and the octets and packets of each colour in it.
@@ -405,10 +434,12 @@ fn bills(
     counts: (u32, u32, u32),
     (octets, packets): ([u64; 3], [u64; 3]),
     rows: &[Row],
-) -> Result<bool, Fail> {
-    let bill = billed(alloc, reports)?;
+) -> bool {
+    let Some(bill) = billed(alloc, reports) else {
+        return false;
+    };
     let counted = (bill.reports, bill.disputed, bill.unassigned) == counts;
-    Ok(counted && has_one_tally(&bill, octets, packets, rows))
+    counted && has_one_tally(&bill, octets, packets, rows)
 }
 
 const FIRST: Seen = (0, START, 1500, 1);
@@ -424,13 +455,13 @@ const OTHER: Seen = (3, START + 60, 601, 1);
 const MORE: Seen = (3, START + 70, 602, 1);
 
 #[test]
-fn bills_what_no_other_report_disputes(rt: HostRuntime) -> Result<(), Fail> {
+fn bills_what_no_other_report_disputes(rt: HostRuntime) {
     let alloc = rt.alloc();
     let total = ([1500, 1000, 800], [1, 1, 1]);
     let rows = [(472_222, [1500, 1000, 800], [1, 1, 1])];
     let late = ([1500, 600, 1800], [1, 1, 2]);
     let late_rows = [(472_222, [1500, 600, 1800], [1, 1, 2])];
-    assert!(rt; bills(alloc, &[FIRST, SECOND, THIRD], (3, 0, 0), total, &rows)?);
+    assert!(rt; bills(alloc, &[FIRST, SECOND, THIRD], (3, 0, 0), total, &rows));
     assert!(rt;
         bills(
             alloc,
@@ -438,18 +469,17 @@ fn bills_what_no_other_report_disputes(rt: HostRuntime) -> Result<(), Fail> {
             (4, 0, 0),
             late,
             &late_rows
-        )?
+        )
     );
     let disputed = [FIRST, SECOND, LATE, THIRD, OTHER];
-    assert!(rt; bills(alloc, &disputed, (5, 1, 0), total, &rows)?);
+    assert!(rt; bills(alloc, &disputed, (5, 1, 0), total, &rows));
     let disputed = [FIRST, OTHER, LATE, THIRD, MORE, SECOND];
-    assert!(rt; bills(alloc, &disputed, (6, 1, 0), total, &rows)?);
-    assert!(rt; bills(alloc, &[], (0, 0, 0), ([0; 3], [0; 3]), &[])?);
-    Ok(())
+    assert!(rt; bills(alloc, &disputed, (6, 1, 0), total, &rows));
+    assert!(rt; bills(alloc, &[], (0, 0, 0), ([0; 3], [0; 3]), &[]));
 }
 
 #[test]
-fn bills_by_period_and_leaves_out_what_no_account_owns(rt: HostRuntime) -> Result<(), Fail> {
+fn bills_by_period_and_leaves_out_what_no_account_owns(rt: HostRuntime) {
     let reports = [
         (0, 1_700_002_799_999, 100, 1),
         (1, 1_700_002_800_000, 100, 1),
@@ -458,12 +488,18 @@ fn bills_by_period_and_leaves_out_what_no_account_owns(rt: HostRuntime) -> Resul
     let (octets, packets) = ([100, 0, 0], [1, 0, 0]);
     let rows = [(472_222, octets, packets), (472_223, octets, packets)];
     let total = ([200, 0, 0], [2, 0, 0]);
-    assert!(rt; bills(rt.alloc(), &reports, (3, 0, 1), total, &rows)?);
-    Ok(())
+    assert!(rt; bills(rt.alloc(), &reports, (3, 0, 1), total, &rows));
+}
+
+fn says<D: Display + Drop>(alloc: Global, value: D, text: &str) -> bool {
+    match format!(in alloc; "{value}") {
+        Ok(said) => said.as_str() == text,
+        Err(_) => false,
+    }
 }
 
 #[test]
-fn faults_have_their_numbers_and_texts(rt: HostRuntime) -> Result<(), Fail> {
+fn faults_have_their_numbers_and_texts(rt: HostRuntime) {
     let key = Key::ExactFit;
     let (account, fault) = (2, MeterFault::NoBurst);
     for (fault, number, text) in [
@@ -505,13 +541,12 @@ fn faults_have_their_numbers_and_texts(rt: HostRuntime) -> Result<(), Fail> {
         (PlanFault::Memory, 8, "out of memory"),
     ] {
         assert!(rt; fault.number() == number);
-        assert!(rt; format!(in rt.alloc(); "{fault}")?.as_str() == text);
+        assert!(rt; says(rt.alloc(), fault, text));
     }
-    Ok(())
 }
 
 #[test]
-fn keys_are_printed_as_a_document_has_them(rt: HostRuntime) -> Result<(), Fail> {
+fn keys_are_printed_as_a_document_has_them(rt: HostRuntime) {
     for (key, name) in [
         (Key::Period, "period"),
         (Key::Account, "account"),
@@ -529,7 +564,6 @@ fn keys_are_printed_as_a_document_has_them(rt: HostRuntime) -> Result<(), Fail> 
         (Key::Keys, "keys"),
     ] {
         assert!(rt; key.name() == name);
-        assert!(rt; format!(in rt.alloc(); "{key}")?.as_str() == name);
+        assert!(rt; says(rt.alloc(), key, name));
     }
-    Ok(())
 }

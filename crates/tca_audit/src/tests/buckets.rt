@@ -27,9 +27,11 @@ fn a_token_comes_at_the_first_millisecond_that_has_it(rt: HostRuntime) {
 }
 
 #[test]
-fn a_bucket_is_filled_and_spent(rt: HostRuntime) -> Result<(), Fail> {
+fn a_bucket_is_filled_and_spent(rt: HostRuntime) {
     assert!(rt; Bucket::new(4, 3) == None);
-    let mut bucket = Bucket::new(2, 10).ok_or("within its size")?;
+    let Some(mut bucket) = Bucket::new(2, 10) else {
+        panic!(rt; "within its size");
+    };
     bucket.fill(3);
     assert!(rt; (bucket.level(), bucket.cap()) == (5, 10));
     assert!(rt; (bucket.fits(5, true), bucket.fits(6, true)) == (true, false));
@@ -39,16 +41,18 @@ fn a_bucket_is_filled_and_spent(rt: HostRuntime) -> Result<(), Fail> {
     assert!(rt; bucket.level() == 0);
     bucket.fill(u128::MAX);
     assert!(rt; bucket == Bucket::full(10));
-    Ok(())
 }
 
 #[test]
-fn a_full_bucket_passes_tokens_on(rt: HostRuntime) -> Result<(), Fail> {
-    let mut first = Bucket::new(500, 2000).ok_or("within its size")?;
-    let mut second = Bucket::new(10, 1000).ok_or("within its size")?;
+fn a_full_bucket_passes_tokens_on(rt: HostRuntime) {
+    let Some(mut first) = Bucket::new(500, 2000) else {
+        panic!(rt; "within its size");
+    };
+    let Some(mut second) = Bucket::new(10, 1000) else {
+        panic!(rt; "within its size");
+    };
     fill_spilling(&mut first, &mut second, 1600);
     assert!(rt; (first.level(), second.level()) == (2000, 110));
     fill_spilling(&mut first, &mut second, 2000);
     assert!(rt; (first, second) == (Bucket::full(2000), Bucket::full(1000)));
-    Ok(())
 }

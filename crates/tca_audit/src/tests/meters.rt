@@ -58,8 +58,10 @@ fn compare_three(rt: &impl Abort, meter: AnyMeter, packets: [(u64, u32, (Colour,
 }
 
 #[test]
-fn three_packets_get_three_colours(rt: HostRuntime) -> Result<(), Fail> {
-    let meter = SrTcm::new(1000, 2000, 1000, false).ok().ok_or("a meter")?;
+fn three_packets_get_three_colours(rt: HostRuntime) {
+    let Ok(meter) = SrTcm::new(1000, 2000, 1000, false) else {
+        panic!(rt; "a meter");
+    };
     let parameters = (meter.cir(), meter.cbs(), meter.ebs(), meter.aware());
     assert!(rt; parameters == (1000, 2000, 1000, false));
     assert!(rt; levels(meter.start()) == (2000, 1000));
@@ -72,12 +74,13 @@ fn three_packets_get_three_colours(rt: HostRuntime) -> Result<(), Fail> {
             (T + 200, 800, (Colour::Red, 700, 0)),
         ],
     );
-    Ok(())
 }
 
 #[test]
-fn a_late_packet_changes_the_colours_after_it(rt: HostRuntime) -> Result<(), Fail> {
-    let meter = SrTcm::new(1000, 2000, 1000, false).ok().ok_or("a meter")?;
+fn a_late_packet_changes_the_colours_after_it(rt: HostRuntime) {
+    let Ok(meter) = SrTcm::new(1000, 2000, 1000, false) else {
+        panic!(rt; "a meter");
+    };
     let meter: AnyMeter = meter.into();
     let state = meter.start();
     let state = state_after(&rt, &meter, state, (0, T), 1500, (Colour::Green, 500, 1000));
@@ -105,21 +108,20 @@ fn a_late_packet_changes_the_colours_after_it(rt: HostRuntime) -> Result<(), Fai
         800,
         (Colour::Red, 700, 400),
     );
-    Ok(())
 }
 
 #[test]
-fn two_rates_fill_two_buckets(rt: HostRuntime) -> Result<(), Fail> {
-    let meter = TrTcm::new(2000, 2001, 1000, 1001, false)
-        .ok()
-        .ok_or("a meter")?;
+fn two_rates_fill_two_buckets(rt: HostRuntime) {
+    let Ok(meter) = TrTcm::new(2000, 2001, 1000, 1001, false) else {
+        panic!(rt; "a meter");
+    };
     let rates = (meter.pir(), meter.pbs(), meter.cir(), meter.cbs());
     assert!(rt; rates == (2000, 2001, 1000, 1001));
     assert!(rt; !meter.aware());
     assert!(rt; levels(meter.start()) == (1001, 2001));
-    let meter = TrTcm::new(2000, 2000, 1000, 1000, false)
-        .ok()
-        .ok_or("a meter")?;
+    let Ok(meter) = TrTcm::new(2000, 2000, 1000, 1000, false) else {
+        panic!(rt; "a meter");
+    };
     compare_three(
         &rt,
         meter.into(),
@@ -129,7 +131,6 @@ fn two_rates_fill_two_buckets(rt: HostRuntime) -> Result<(), Fail> {
             (T + 1, 3, (Colour::Red, 501, 2)),
         ],
     );
-    Ok(())
 }
 
 /// Compares three packets at the meter of a text.
@@ -148,8 +149,10 @@ fn has_parameters(meter: &Rfc4115) -> bool {
 }
 
 #[test]
-fn a_packet_fits_exactly_or_below(rt: HostRuntime) -> Result<(), Fail> {
-    let meter = Rfc4115::new(1, 2, 3, 4, true, true).ok().ok_or("a meter")?;
+fn a_packet_fits_exactly_or_below(rt: HostRuntime) {
+    let Ok(meter) = Rfc4115::new(1, 2, 3, 4, true, true) else {
+        panic!(rt; "a meter");
+    };
     assert!(rt; has_parameters(&meter));
     compare_spec(
         &rt,
@@ -165,7 +168,6 @@ fn a_packet_fits_exactly_or_below(rt: HostRuntime) -> Result<(), Fail> {
         "rfc4115:1000:1000:1000:1000:below:blind",
         [(T, 1000, (Colour::Red, 1000, 1000)); 3],
     );
-    Ok(())
 }
 
 /// What a full meter answers to a packet at the time of the worked examples.

@@ -2,7 +2,6 @@ ghost use Rattle.std.specs.Prelude.{⊤};
 
 use std::alloc::{AllocError, Global};
 use std::mem;
-use std::test::Fail;
 use tca_templates::{
     DecodeFault, Decoder, FieldValue, Outcome, PlacedFields, Record, TakesRecords,
 };
@@ -201,12 +200,11 @@ fn reads_the_fixed_record(alloc: Global, decoder: &mut Decoder) -> bool {
 }
 
 #[test]
-fn reads_a_record(rt: HostRuntime) -> Result<(), Fail> {
+fn reads_a_record(rt: HostRuntime) {
     let mut decoder = Decoder::new(rt.alloc());
     assert!(rt; lists(&decoder, &[]));
     assert!(rt; reads_the_fixed_record(rt.alloc(), &mut decoder));
     assert!(rt; lists(&decoder, &[(7, 256, false)]));
-    Ok(())
 }
 
 // How many records were handed on, and whether the last of them is the one of `fixed`.
@@ -271,16 +269,15 @@ fn hands_on_one(alloc: Global, decoder: &mut Decoder, octets: &[u8], is_fixed: b
 }
 
 #[test]
-fn hands_on_records(rt: HostRuntime) -> Result<(), Fail> {
+fn hands_on_records(rt: HostRuntime) {
     let mut decoder = Decoder::new(rt.alloc());
     assert!(rt; hands_on_one(rt.alloc(), &mut decoder, fixed(), true));
     assert!(rt; hands_on_one(rt.alloc(), &mut decoder, variable(), false));
     assert!(rt; lists(&decoder, &[(7, 256, false)]));
-    Ok(())
 }
 
 #[test]
-fn places_go_on_past_the_last(rt: HostRuntime) -> Result<(), Fail> {
+fn places_go_on_past_the_last(rt: HostRuntime) {
     let mut decoder = Decoder::new(rt.alloc());
     let record = part(data_set(), 4, 25);
     let sets: &[&[u8]] = &[template_set(), b"\x01\x00\x00\x2e", record, record];
@@ -296,11 +293,10 @@ fn places_go_on_past_the_last(rt: HostRuntime) -> Result<(), Fail> {
             0
         )
     );
-    Ok(())
 }
 
 #[test]
-fn unknown_templates_end_the_records(rt: HostRuntime) -> Result<(), Fail> {
+fn unknown_templates_end_the_records(rt: HostRuntime) {
     let mut decoder = Decoder::new(rt.alloc());
     let defined: &[&[u8]] = &[template_set()];
     assert!(rt; reads(rt.alloc(), &mut decoder, 0, defined, &[], None, 0));
@@ -336,7 +332,6 @@ fn unknown_templates_end_the_records(rt: HostRuntime) -> Result<(), Fail> {
             &[(7, 256, false), (7, 300, false), (7, 301, false)]
         )
     );
-    Ok(())
 }
 
 // Octets with others in place of those that stand at an offset.
@@ -364,24 +359,18 @@ fn refuses_to_read(alloc: Global, message: &Message<'_>, fault: DecodeFault) -> 
 }
 
 // Whether a message with these octets in place of those that stand at an offset is refused so, by both calls.
-fn is_refused(
-    alloc: Global,
-    octets: &[u8],
-    at: usize,
-    new: &[u8],
-    fault: DecodeFault,
-) -> Result<bool, AllocError> {
-    let octets = changed(alloc, octets, at, new)?;
-    match split_message(alloc, &octets) {
-        Ok(message) => Ok(
-            refuses_to_read(alloc, &message, fault) && refuses_to_hand(alloc, &message, fault),
-        ),
-        Err(_) => Ok(false),
-    }
+fn is_refused(alloc: Global, octets: &[u8], at: usize, new: &[u8], fault: DecodeFault) -> bool {
+    let Ok(octets) = changed(alloc, octets, at, new) else {
+        return false;
+    };
+    let Ok(message) = split_message(alloc, &octets) else {
+        return false;
+    };
+    refuses_to_read(alloc, &message, fault) && refuses_to_hand(alloc, &message, fault)
 }
 
 #[test]
-fn refuses_what_the_messages_become(rt: HostRuntime) -> Result<(), Fail> {
+fn refuses_what_the_messages_become(rt: HostRuntime) {
     for (octets, at, new, fault) in [
         (
             fixed(),
@@ -402,9 +391,8 @@ fn refuses_what_the_messages_become(rt: HostRuntime) -> Result<(), Fail> {
             DecodeFault::RecordCut { at: 36 },
         ),
     ] {
-        assert!(rt; is_refused(rt.alloc(), octets, at, new, fault)?);
+        assert!(rt; is_refused(rt.alloc(), octets, at, new, fault));
     }
-    Ok(())
 }
 
 // Whether there is a record with this field.
@@ -440,11 +428,10 @@ fn reads_the_short_form(alloc: Global, decoder: &mut Decoder) -> bool {
 }
 
 #[test]
-fn reads_lengths_in_both_forms(rt: HostRuntime) -> Result<(), Fail> {
+fn reads_lengths_in_both_forms(rt: HostRuntime) {
     let mut decoder = Decoder::new(rt.alloc());
     assert!(rt; reads_the_long_form(rt.alloc(), &mut decoder));
     assert!(rt; reads_the_short_form(rt.alloc(), &mut decoder));
-    Ok(())
 }
 
 // Template 257 of options: scope element 149 (4 octets), and element 1 of enterprise 29305 (2 octets).
@@ -481,11 +468,10 @@ fn reads_the_options_record(alloc: Global, decoder: &mut Decoder) -> bool {
 }
 
 #[test]
-fn options_records_have_places(rt: HostRuntime) -> Result<(), Fail> {
+fn options_records_have_places(rt: HostRuntime) {
     let mut decoder = Decoder::new(rt.alloc());
     assert!(rt; reads_the_options_record(rt.alloc(), &mut decoder));
     assert!(rt; lists(&decoder, &[(7, 256, false), (7, 257, true)]));
-    Ok(())
 }
 
 // A template set, or an options template set, that withdraws this ID.
@@ -503,7 +489,7 @@ fn withdraws(alloc: Global, set: u8, id: u16, templates: &[(u32, u16, bool)]) ->
 }
 
 #[test]
-fn withdrawals_go_by_id_or_by_kind(rt: HostRuntime) -> Result<(), Fail> {
+fn withdrawals_go_by_id_or_by_kind(rt: HostRuntime) {
     let (plain, options) = ((7, 256, false), (7, 257, true));
     for set in [2, 3] {
         assert!(rt; withdraws(rt.alloc(), set, 256, &[options]));
@@ -512,7 +498,6 @@ fn withdrawals_go_by_id_or_by_kind(rt: HostRuntime) -> Result<(), Fail> {
     }
     assert!(rt; withdraws(rt.alloc(), 2, 2, &[options]));
     assert!(rt; withdraws(rt.alloc(), 3, 3, &[plain]));
-    Ok(())
 }
 
 // Whether the first message is answered in domain 8.
@@ -524,7 +509,7 @@ fn answers_in_another_domain(alloc: Global, decoder: &mut Decoder) -> bool {
 }
 
 #[test]
-fn templates_keep_their_places(rt: HostRuntime) -> Result<(), Fail> {
+fn templates_keep_their_places(rt: HostRuntime) {
     let mut decoder = Decoder::new(rt.alloc());
     let (plain, options) = ((7, 256, false), (7, 257, true));
     let sets: &[&[u8]] = &[template_set(), options_set(), template_set()];
@@ -538,7 +523,6 @@ fn templates_keep_their_places(rt: HostRuntime) -> Result<(), Fail> {
     // The same ID in another domain is another template.
     assert!(rt; answers_in_another_domain(rt.alloc(), &mut decoder));
     assert!(rt; lists(&decoder, &[options, plain, (8, 256, false)]));
-    Ok(())
 }
 
 // Whether these are the IDs of the templates, in this order.
@@ -553,24 +537,25 @@ fn knows(decoder: &Decoder, ids: &[u16]) -> bool {
 }
 
 // Whether a message of 200 templates is handed on.
-fn hands_on_200(alloc: Global, decoder: &mut Decoder) -> Result<bool, AllocError> {
-    let many = many_templates(alloc, 256, 200)?;
-    let octets = message(alloc, 0, &[&many])?;
-    Ok(handed(alloc, decoder, &octets).is_ok())
+fn hands_on_200(alloc: Global, decoder: &mut Decoder) -> bool {
+    let Ok(many) = many_templates(alloc, 256, 200) else {
+        return false;
+    };
+    let Ok(octets) = message(alloc, 0, &[&many]) else {
+        return false;
+    };
+    handed(alloc, decoder, &octets).is_ok()
 }
 
 // The same where an ID is withdrawn and defined again, and another one redefined.
-fn exchanges(
-    alloc: Global,
-    decoder: &mut Decoder,
-    id: u16,
-    other: u16,
-) -> Result<bool, AllocError> {
+fn exchanges(alloc: Global, decoder: &mut Decoder, id: u16, other: u16) -> bool {
     let withdrawn = withdrawal(2, id);
     let again = one_template(id);
     let redefined = one_template(other);
-    let octets = message(alloc, 0, &[&withdrawn, &again, &redefined])?;
-    Ok(handed(alloc, decoder, &octets).is_ok())
+    let Ok(octets) = message(alloc, 0, &[&withdrawn, &again, &redefined]) else {
+        return false;
+    };
+    handed(alloc, decoder, &octets).is_ok()
 }
 
 fn ids_of_200() -> [u16; 200] {
@@ -593,17 +578,16 @@ fn put_last(ids: &mut [u16], id: u16) {
 }
 
 #[test]
-fn withdrawn_templates_go_last(rt: HostRuntime) -> Result<(), Fail> {
+fn withdrawn_templates_go_last(rt: HostRuntime) {
     let mut decoder = Decoder::new(rt.alloc());
-    assert!(rt; hands_on_200(rt.alloc(), &mut decoder).unwrap_or(false));
+    assert!(rt; hands_on_200(rt.alloc(), &mut decoder));
     let mut ids = ids_of_200();
     for i in 0..1_000 {
         let (id, other) = (256 + 7 * i % 200, 256 + 3 * i % 200);
-        let done = exchanges(rt.alloc(), &mut decoder, id, other).unwrap_or(false);
+        let done = exchanges(rt.alloc(), &mut decoder, id, other);
         put_last(&mut ids, id);
         assert!(rt; done && knows(&decoder, &ids), "turn {i}");
     }
-    Ok(())
 }
 
 // Template sets that are refused, each behind one that would define template 300.
@@ -650,7 +634,7 @@ const REFUSED: [(&'static [u8], DecodeFault); 9] = [
 ];
 
 #[test]
-fn refused_templates_change_nothing(rt: HostRuntime) -> Result<(), Fail> {
+fn refused_templates_change_nothing(rt: HostRuntime) {
     let mut decoder = Decoder::new(rt.alloc());
     let known: &[&[u8]] = &[template_set()];
     assert!(rt; reads(rt.alloc(), &mut decoder, 0, known, &[], None, 0));
@@ -662,7 +646,6 @@ fn refused_templates_change_nothing(rt: HostRuntime) -> Result<(), Fail> {
             "{fault}"
         );
     }
-    Ok(())
 }
 
 // The templates that a decoder knows.
@@ -701,9 +684,11 @@ fn turned_over(
 }
 
 // Whether templates 256 to 355 are read, and 257 as one of options.
-fn reads_100_templates(alloc: Global, decoder: &mut Decoder) -> Result<bool, AllocError> {
-    let many = many_templates(alloc, 256, 100)?;
-    Ok(reads(alloc, decoder, 0, &[&many, options_set()], &[], None, 0))
+fn reads_100_templates(alloc: Global, decoder: &mut Decoder) -> bool {
+    let Ok(many) = many_templates(alloc, 256, 100) else {
+        return false;
+    };
+    reads(alloc, decoder, 0, &[&many, options_set()], &[], None, 0)
 }
 
 // Whether a fault behind all that puts back the templates, which have the fields that they had.
@@ -719,14 +704,16 @@ fn puts_all_back(alloc: Global, decoder: &mut Decoder, before: &[(u32, u16, bool
         && reads(alloc, decoder, 5, sets, places, None, 0)
 }
 
-fn puts_100_back(alloc: Global, decoder: &mut Decoder) -> Result<bool, AllocError> {
-    let before = listed(alloc, decoder)?;
+fn puts_100_back(alloc: Global, decoder: &mut Decoder) -> bool {
+    let Ok(before) = listed(alloc, decoder) else {
+        return false;
+    };
     for _ in 0..3 {
         if !puts_all_back(alloc, decoder, &before) {
-            return Ok(false);
+            return false;
         }
     }
-    Ok(before.len() == 100)
+    before.len() == 100
 }
 
 fn keeps_the_last(alloc: Global, decoder: &mut Decoder) -> bool {
@@ -737,12 +724,11 @@ fn keeps_the_last(alloc: Global, decoder: &mut Decoder) -> bool {
 }
 
 #[test]
-fn refusals_put_all_back(rt: HostRuntime) -> Result<(), Fail> {
+fn refusals_put_all_back(rt: HostRuntime) {
     let mut decoder = Decoder::new(rt.alloc());
-    assert!(rt; reads_100_templates(rt.alloc(), &mut decoder).unwrap_or(false));
-    assert!(rt; puts_100_back(rt.alloc(), &mut decoder).unwrap_or(false));
+    assert!(rt; reads_100_templates(rt.alloc(), &mut decoder));
+    assert!(rt; puts_100_back(rt.alloc(), &mut decoder));
     assert!(rt; keeps_the_last(rt.alloc(), &mut decoder));
-    Ok(())
 }
 
 // A template of one octet.
@@ -769,17 +755,21 @@ fn one_template(id: u16) -> [u8; 12] {
     [0, 2, 0, 12, high, low, 0, 1, 0, 5, 0, 1]
 }
 
-fn refuses_4097_templates(alloc: Global) -> Result<bool, AllocError> {
+fn refuses_4097_templates(alloc: Global) -> bool {
     let mut decoder = Decoder::new(alloc);
-    let most = many_templates(alloc, 256, 4_097)?;
+    let Ok(most) = many_templates(alloc, 256, 4_097) else {
+        return false;
+    };
     let sets: &[&[u8]] = &[&most];
-    Ok(refuses(alloc, &mut decoder, sets, DecodeFault::TooMany, &[]))
+    refuses(alloc, &mut decoder, sets, DecodeFault::TooMany, &[])
 }
 
 // Reads as many templates as a session can have.
-fn reads_4096_templates(alloc: Global, decoder: &mut Decoder) -> Result<bool, AllocError> {
-    let most = many_templates(alloc, 256, 4_096)?;
-    Ok(reads(alloc, decoder, 0, &[&most], &[], None, 0))
+fn reads_4096_templates(alloc: Global, decoder: &mut Decoder) -> bool {
+    let Ok(most) = many_templates(alloc, 256, 4_096) else {
+        return false;
+    };
+    reads(alloc, decoder, 0, &[&most], &[], None, 0)
 }
 
 fn is_one_too_many(alloc: Global, decoder: &mut Decoder, sets: &[&[u8]]) -> bool {
@@ -805,20 +795,17 @@ fn has_4096_templates(decoder: &Decoder) -> bool {
     decoder.templates().count() == 4_096 && decoder.templates().next() == Some((7, 257, false))
 }
 
-fn keeps_to_4096_templates(alloc: Global) -> Result<bool, AllocError> {
+fn keeps_to_4096_templates(alloc: Global) -> bool {
     let mut decoder = Decoder::new(alloc);
-    Ok(
-        reads_4096_templates(alloc, &mut decoder)?
-            && takes_one_for_another(alloc, &mut decoder)
-            && has_4096_templates(&decoder),
-    )
+    reads_4096_templates(alloc, &mut decoder)
+        && takes_one_for_another(alloc, &mut decoder)
+        && has_4096_templates(&decoder)
 }
 
 #[test]
-fn templates_are_at_most_4096(rt: HostRuntime) -> Result<(), Fail> {
-    assert!(rt; refuses_4097_templates(rt.alloc())?);
-    assert!(rt; keeps_to_4096_templates(rt.alloc())?);
-    Ok(())
+fn templates_are_at_most_4096(rt: HostRuntime) {
+    assert!(rt; refuses_4097_templates(rt.alloc()));
+    assert!(rt; keeps_to_4096_templates(rt.alloc()));
 }
 
 // The front of a template set of this length, up to the fields of its one template.
@@ -838,27 +825,30 @@ fn wide_template(alloc: Global, fields: u16) -> Result<Vec<u8>, AllocError> {
     Ok(octets)
 }
 
-fn refuses_513_fields(alloc: Global, decoder: &mut Decoder) -> Result<bool, AllocError> {
-    let wide = wide_template(alloc, 513)?;
-    Ok(refuses(alloc, decoder, &[&wide], DecodeFault::TooMany, &[]))
+fn refuses_513_fields(alloc: Global, decoder: &mut Decoder) -> bool {
+    let Ok(wide) = wide_template(alloc, 513) else {
+        return false;
+    };
+    refuses(alloc, decoder, &[&wide], DecodeFault::TooMany, &[])
 }
 
-fn reads_512_fields(alloc: Global, decoder: &mut Decoder) -> Result<bool, AllocError> {
-    let wide = wide_template(alloc, 512)?;
-    Ok(reads(alloc, decoder, 0, &[&wide], &[], None, 0))
+fn reads_512_fields(alloc: Global, decoder: &mut Decoder) -> bool {
+    let Ok(wide) = wide_template(alloc, 512) else {
+        return false;
+    };
+    reads(alloc, decoder, 0, &[&wide], &[], None, 0)
 }
 
 #[test]
-fn fields_are_at_most_512(rt: HostRuntime) -> Result<(), Fail> {
+fn fields_are_at_most_512(rt: HostRuntime) {
     let mut decoder = Decoder::new(rt.alloc());
-    assert!(rt; refuses_513_fields(rt.alloc(), &mut decoder).unwrap_or(false));
-    assert!(rt; reads_512_fields(rt.alloc(), &mut decoder).unwrap_or(false));
+    assert!(rt; refuses_513_fields(rt.alloc(), &mut decoder));
+    assert!(rt; reads_512_fields(rt.alloc(), &mut decoder));
     assert!(rt; lists(&decoder, &[(7, 256, false)]));
-    Ok(())
 }
 
 #[test]
-fn skips_sets_and_padding(rt: HostRuntime) -> Result<(), Fail> {
+fn skips_sets_and_padding(rt: HostRuntime) {
     let mut decoder = Decoder::new(rt.alloc());
     // Three octets of padding behind the template, and twenty behind the record of 21.
     let sets: &[&[u8]] = &[
@@ -877,7 +867,6 @@ fn skips_sets_and_padding(rt: HostRuntime) -> Result<(), Fail> {
     ];
     assert!(rt; reads(rt.alloc(), &mut decoder, 3, sets, &[(3, false)], None, 4));
     assert!(rt; lists(&decoder, &[(7, 256, false)]));
-    Ok(())
 }
 
 // The templates that sessions know before they get something damaged: none; that of the first message, and an options
@@ -939,18 +928,16 @@ fn is_harmless_cut(
     split_message(alloc, octets).is_err() && is_harmless(alloc, decoder, octets, known)
 }
 
-fn survives_cuts(
-    alloc: Global,
-    octets: &[u8],
-    known: &[(u32, u16, bool)],
-) -> Result<bool, DecodeFault> {
-    let mut decoder = session(alloc, known)?;
+fn survives_cuts(alloc: Global, octets: &[u8], known: &[(u32, u16, bool)]) -> bool {
+    let Ok(mut decoder) = session(alloc, known) else {
+        return false;
+    };
     for length in 0..octets.len() {
         if !is_harmless_cut(alloc, &mut decoder, part(octets, 0, length), known) {
-            return Ok(false);
+            return false;
         }
     }
-    Ok(true)
+    true
 }
 
 fn survives_octet(
@@ -959,49 +946,49 @@ fn survives_octet(
     at: usize,
     octet: u8,
     known: &[(u32, u16, bool)],
-) -> Result<bool, DecodeFault> {
-    let octets = changed(alloc, octets, at, &[octet])?;
-    let mut decoder = session(alloc, known)?;
-    Ok(is_harmless(alloc, &mut decoder, &octets, known))
+) -> bool {
+    let Ok(octets) = changed(alloc, octets, at, &[octet]) else {
+        return false;
+    };
+    let Ok(mut decoder) = session(alloc, known) else {
+        return false;
+    };
+    is_harmless(alloc, &mut decoder, &octets, known)
 }
 
-fn survives_at(
-    alloc: Global,
-    octets: &[u8],
-    at: usize,
-    known: &[(u32, u16, bool)],
-) -> Result<bool, DecodeFault> {
+fn survives_at(alloc: Global, octets: &[u8], at: usize, known: &[(u32, u16, bool)]) -> bool {
     for octet in 0..=255 {
-        if !survives_octet(alloc, octets, at, octet, known)? {
-            return Ok(false);
+        if !survives_octet(alloc, octets, at, octet, known) {
+            return false;
         }
     }
-    Ok(true)
+    true
 }
 
 // Whether a new session knows these templates.
-fn knows_at_first(alloc: Global, known: &[(u32, u16, bool)]) -> Result<bool, DecodeFault> {
-    let decoder = session(alloc, known)?;
-    Ok(lists(&decoder, known))
+fn knows_at_first(alloc: Global, known: &[(u32, u16, bool)]) -> bool {
+    let Ok(decoder) = session(alloc, known) else {
+        return false;
+    };
+    lists(&decoder, known)
 }
 
 // Whether each cut and each change of an octet is harmless to a session that knows these templates.
-fn survives(alloc: Global, octets: &[u8], known: &[(u32, u16, bool)]) -> Result<bool, DecodeFault> {
+fn survives(alloc: Global, octets: &[u8], known: &[(u32, u16, bool)]) -> bool {
     for at in 0..octets.len() {
-        if !survives_at(alloc, octets, at, known)? {
-            return Ok(false);
+        if !survives_at(alloc, octets, at, known) {
+            return false;
         }
     }
-    Ok(survives_cuts(alloc, octets, known)? && knows_at_first(alloc, known)?)
+    survives_cuts(alloc, octets, known) && knows_at_first(alloc, known)
 }
 
 #[test]
-fn no_damage_is_kept(rt: HostRuntime) -> Result<(), Fail> {
+fn no_damage_is_kept(rt: HostRuntime) {
     for known in KNOWN {
-        assert!(rt; survives(rt.alloc(), fixed(), known)?);
-        assert!(rt; survives(rt.alloc(), variable(), known)?);
+        assert!(rt; survives(rt.alloc(), fixed(), known));
+        assert!(rt; survives(rt.alloc(), variable(), known));
     }
-    Ok(())
 }
 
 // The faults, each with its number and its text.
@@ -1033,15 +1020,16 @@ const FAULTS: [(DecodeFault, &'static str); 7] = [
     (DecodeFault::Memory, "7 out of memory"),
 ];
 
-fn says(alloc: Global, fault: DecodeFault, text: &str) -> Result<bool, AllocError> {
-    let line = format!(in alloc; "{} {fault}", fault.number())?;
-    Ok(line.as_str() == text)
+fn says(alloc: Global, fault: DecodeFault, text: &str) -> bool {
+    let Ok(line) = format!(in alloc; "{} {fault}", fault.number()) else {
+        return false;
+    };
+    line.as_str() == text
 }
 
 #[test]
-fn faults_have_numbers_and_texts(rt: HostRuntime) -> Result<(), Fail> {
+fn faults_have_numbers_and_texts(rt: HostRuntime) {
     for (fault, text) in FAULTS {
-        assert!(rt; says(rt.alloc(), fault, text)?, "{text}");
+        assert!(rt; says(rt.alloc(), fault, text), "{text}");
     }
-    Ok(())
 }

@@ -7,7 +7,6 @@ use std::alloc::{AllocError, Global};
 use std::marker::Brand;
 use std::sync::Wait;
 use std::sync::ledger::Blank;
-use std::test::Fail;
 use tca_accounts::Plan;
 use tca_gossip::{AbsorbFault, Delta, Run};
 
@@ -26,9 +25,11 @@ pub(super) fn tells<I: Side, F: Side, R: Wait>(
     from: (&Shared<F>, &mut Pass<F>),
     front: u64,
     count: u64,
-) -> Result<bool, Fail> {
-    let receipt = exchange(rt, into.0, into.1, from.0, from.1)?;
-    Ok(receipt.front == front && answer(&receipt.entry) == Some(Ok(count)))
+) -> bool {
+    let Ok(receipt) = exchange(rt, into.0, into.1, from.0, from.1) else {
+        return false;
+    };
+    receipt.front == front && answer(&receipt.entry) == Some(Ok(count))
 }
 
 // Whether the statement is that of the first three rows, and the entry of this front.
@@ -37,14 +38,19 @@ pub(super) fn ends<L: Side, R: Wait>(
     shared: &Shared<L>,
     pass: &mut Pass<L>,
     front: u64,
-) -> Result<bool, Fail> {
-    let receipt = shared.statement(rt, pass)?;
-    Ok(receipt.front == front && states_three(&receipt.entry))
+) -> bool {
+    let Ok(receipt) = shared.statement(rt, pass) else {
+        return false;
+    };
+    receipt.front == front && states_three(&receipt.entry)
 }
 
 // Closes with one pass.
-fn closed<L: Side>(alloc: Global, shared: Shared<L>, pass: Pass<L>) -> Result<Closed, Fail> {
-    closed_with(shared, alone(alloc, pass)?)
+fn closed<L: Side>(alloc: Global, shared: Shared<L>, pass: Pass<L>) -> Option<Closed> {
+    let Ok(passes) = alone(alloc, pass) else {
+        return None;
+    };
+    closed_with(shared, passes)
 }
 
 // Two closed replicas, as one list.
@@ -65,19 +71,20 @@ pub(super) fn are_of_three(both: &[Closed]) -> bool {
 }
 
 // A delta of one run.
-fn one_run(
-    alloc: Global,
-    origin: u32,
-    start: u32,
-    rows: &[(u32, u32, u32)],
-) -> Result<Delta, Fail> {
-    let mut runs = Vec::new(alloc);
-    runs.push(Run {
+fn one_run(alloc: Global, origin: u32, start: u32, rows: &[(u32, u32, u32)]) -> Option<Delta> {
+    let Some(reports) = reports(alloc, rows) else {
+        return None;
+    };
+    let run = Run {
         origin,
         start,
-        reports: reports(alloc, rows)?,
-    })?;
-    Ok(Delta::of(runs).ok_or("a delta")?)
+        reports,
+    };
+    let mut runs = Vec::new(alloc);
+    if runs.push(run).is_err() {
+        return None;
+    }
+    Delta::of(runs)
 }
 
 // Whether the absorb of a delta of one run is refused with this fault.
@@ -87,9 +94,11 @@ fn refuses<L: Side, R: Wait>(
     pass: &mut Pass<L>,
     delta: &Delta,
     fault: AbsorbFault,
-) -> Result<bool, Fail> {
-    let receipt = shared.absorb(rt, pass, delta)?;
-    Ok(answer(&receipt.entry) == Some(Err(fault)))
+) -> bool {
+    let Ok(receipt) = shared.absorb(rt, pass, delta) else {
+        return false;
+    };
+    answer(&receipt.entry) == Some(Err(fault))
 }
 
 // Whether a run past what is held is a gap.
@@ -98,8 +107,10 @@ pub(super) fn is_gap<L: Side, R: Wait>(
     alloc: Global,
     shared: &Shared<L>,
     pass: &mut Pass<L>,
-) -> Result<bool, Fail> {
-    let past = one_run(alloc, 2, 2, &[])?;
+) -> bool {
+    let Some(past) = one_run(alloc, 2, 2, &[]) else {
+        return false;
+    };
     let gap = AbsorbFault::Gap {
         origin: 2,
         have: 0,
@@ -114,8 +125,10 @@ fn is_ahead<L: Side, R: Wait>(
     alloc: Global,
     shared: &Shared<L>,
     pass: &mut Pass<L>,
-) -> Result<bool, Fail> {
-    let longer = one_run(alloc, 1, 0, &[FIRST, SECOND, THIRD])?;
+) -> bool {
+    let Some(longer) = one_run(alloc, 1, 0, &[FIRST, SECOND, THIRD]) else {
+        return false;
+    };
     let own = AbsorbFault::OwnAhead { have: 2, said: 3 };
     refuses(rt, shared, pass, &longer, own)
 }
@@ -126,20 +139,24 @@ fn refuses_both<L: Side, R: Wait>(
     alloc: Global,
     shared: &Shared<L>,
     pass: &mut Pass<L>,
-) -> Result<bool, Fail> {
-    let taken = take(rt, alloc, shared, pass, &[FIRST, SECOND])?;
-    let far = is_gap(rt, alloc, shared, pass)?;
-    let ahead = is_ahead(rt, alloc, shared, pass)?;
-    Ok(taken == Some(1) && far && ahead)
+) -> bool {
+    let taken = take(rt, alloc, shared, pass, &[FIRST, SECOND]);
+    let far = is_gap(rt, alloc, shared, pass);
+    let ahead = is_ahead(rt, alloc, shared, pass);
+    taken == Some(1) && far && ahead
 }
 
 // Whether what is refused leaves the take alone.
-fn stays<L: Side, R: Wait>(rt: &R, alloc: Global, shared: Shared<L>) -> Result<bool, Fail> {
-    let mut pass = shared.pass(rt)?;
-    let refused = refuses_both(rt, alloc, &shared, &mut pass)?;
-    let closed = closed(alloc, shared, pass)?;
+fn stays<L: Side, R: Wait>(rt: &R, alloc: Global, shared: Shared<L>) -> bool {
+    let Ok(mut pass) = shared.pass(rt) else {
+        return false;
+    };
+    let refused = refuses_both(rt, alloc, &shared, &mut pass);
+    let Some(closed) = closed(alloc, shared, pass) else {
+        return false;
+    };
     let same = closed.replica.log().len() == 2 && closed.replica.chain(1).len() == 2;
-    Ok(refused && same && closed.journal.len() == 3)
+    refused && same && closed.journal.len() == 3
 }
 
 fn stays_as_it_was<L: Side, R: Wait>(
@@ -148,21 +165,24 @@ fn stays_as_it_was<L: Side, R: Wait>(
     blank: Blank,
     name: u32,
     plan: Plan,
-) -> Result<bool, Fail>
+) -> bool
     requires name { blank.name ≡ L.name }
     requires parts { (blank.parts ≡ L.parts) × (L.parts ≡ 65537) }
     requires called { name ≡ L.called }
     requires plan { plan ≡ L.plan }
 {
-    let shared = Shared::<L>::new(alloc, blank, name, plan)?;
+    let Ok(shared) = Shared::<L>::new(alloc, blank, name, plan) else {
+        return false;
+    };
     stays(rt, alloc, shared)
 }
 
 #[test]
-fn a_refused_absorb_changes_nothing(rt: HostRuntime) -> Result<(), Fail> {
-    let plan = plan(rt.alloc())?;
-    assert!(rt; stays_as_it_was::<Brand, _>(&rt, rt.alloc(), Blank::new(PARTS), 1, plan)?);
-    Ok(())
+fn a_refused_absorb_changes_nothing(rt: HostRuntime) {
+    let Ok(plan) = plan(rt.alloc()) else {
+        panic!(rt; "a plan");
+    };
+    assert!(rt; stays_as_it_was::<Brand, _>(&rt, rt.alloc(), Blank::new(PARTS), 1, plan));
 }
 
 // A closed replica that took these.
@@ -173,26 +193,49 @@ fn with<L: Side, R: Wait>(
     name: u32,
     plan: Plan,
     rows: &[(u32, u32, u32)],
-) -> Result<Closed, Fail>
+) -> Option<Closed>
     requires name { blank.name ≡ L.name }
     requires parts { (blank.parts ≡ L.parts) × (L.parts ≡ 65537) }
     requires called { name ≡ L.called }
     requires plan { plan ≡ L.plan }
 {
-    let shared = Shared::<L>::new(alloc, blank, name, plan)?;
-    let mut pass = shared.pass(rt)?;
-    take(rt, alloc, &shared, &mut pass, rows)?;
+    let Ok(shared) = Shared::<L>::new(alloc, blank, name, plan) else {
+        return None;
+    };
+    let Ok(mut pass) = shared.pass(rt) else {
+        return None;
+    };
+    if take(rt, alloc, &shared, &mut pass, rows).is_none() {
+        return None;
+    }
     closed(alloc, shared, pass)
 }
 
+// Whether both replicas are closed, and clash in the chain of the name 1.
+fn clash(alloc: Global, one: Option<Closed>, two: Option<Closed>) -> bool {
+    let Some(one) = one else {
+        return false;
+    };
+    let Some(two) = two else {
+        return false;
+    };
+    let Ok(both) = both(alloc, one, two) else {
+        return false;
+    };
+    close_all(&both) == Err(CloseFault::Clash { origin: 1 })
+}
+
 #[test]
-fn closed_replicas_of_one_name_clash(rt: HostRuntime) -> Result<(), Fail> {
+fn closed_replicas_of_one_name_clash(rt: HostRuntime) {
     let alloc = rt.alloc();
-    let plan_of_one = plan(alloc)?;
-    let one = with::<Brand, _>(&rt, alloc, Blank::new(PARTS), 1, plan_of_one, &[FIRST])?;
-    let plan_of_two = plan(alloc)?;
-    let two = with::<Brand, _>(&rt, alloc, Blank::new(PARTS), 1, plan_of_two, &[SECOND])?;
-    assert!(rt; close_all(&both(alloc, one, two)?) == Err(CloseFault::Clash { origin: 1 }));
+    let Ok(plan_of_one) = plan(alloc) else {
+        panic!(rt; "a plan");
+    };
+    let one = with::<Brand, _>(&rt, alloc, Blank::new(PARTS), 1, plan_of_one, &[FIRST]);
+    let Ok(plan_of_two) = plan(alloc) else {
+        panic!(rt; "a plan");
+    };
+    let two = with::<Brand, _>(&rt, alloc, Blank::new(PARTS), 1, plan_of_two, &[SECOND]);
+    assert!(rt; clash(alloc, one, two));
     assert!(rt; close_all(&[]) == Ok(()));
-    Ok(())
 }

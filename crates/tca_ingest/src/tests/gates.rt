@@ -1,6 +1,6 @@
 //! Workers that are held by gates: two jobs are begun before either is done, as many as there are workers, and a replica that is held
 //! holds no other one. Each wait has a limit, so that the tests end where it is not so.
-ghost use Rattle.std.specs.Prelude.{◌≡◌, ◌≤◌, IfOk, length};
+ghost use Rattle.std.specs.Prelude.{◌≡◌, ◌≤◌, IfSome, length};
 
 use super::jobs::exports;
 use super::{FIRST, PARTS, SECOND, THIRD, lengths, plan};
@@ -10,7 +10,6 @@ use std::marker::Brand;
 use std::sync::Wait;
 use std::sync::atomic::{AtomicU64, Ordering};
 use std::sync::ledger::Blank;
-use std::test::Fail;
 use std::thread;
 use std::thread::Threads;
 use std::time::{Clock, Duration};
@@ -78,8 +77,10 @@ fn meet<L: Side + Send + Sync, R: Threads + Wait + Clock + Sync>(
     rt: &R,
     alloc: Global,
     shared: Shared<L>,
-) -> Result<bool, Fail> {
-    let inputs = exports(alloc, &[FIRST, SECOND, THIRD])?;
+) -> bool {
+    let Some(inputs) = exports(alloc, &[FIRST, SECOND, THIRD]) else {
+        return false;
+    };
     let gate = Meeting {
         rt,
         first: AtomicU64::new(0),
@@ -87,7 +88,7 @@ fn meet<L: Side + Send + Sync, R: Threads + Wait + Clock + Sync>(
         met: AtomicU64::new(0),
     };
     let counts = taken(rt, alloc, shared, &inputs, &gate, 2);
-    Ok(gate.met.load(Ordering::SeqCst) == 2 && counts == Some((3, 3, 3)))
+    gate.met.load(Ordering::SeqCst) == 2 && counts == Some((3, 3, 3))
 }
 
 fn meets<L: Side + Send + Sync, R: Threads + Wait + Clock + Sync>(
@@ -96,21 +97,24 @@ fn meets<L: Side + Send + Sync, R: Threads + Wait + Clock + Sync>(
     blank: Blank,
     name: u32,
     plan: Plan,
-) -> Result<bool, Fail>
+) -> bool
     requires name { blank.name ≡ L.name }
     requires parts { (blank.parts ≡ L.parts) × (L.parts ≡ 65537) }
     requires called { name ≡ L.called }
     requires plan { plan ≡ L.plan }
 {
-    let shared = Shared::<L>::new(alloc, blank, name, plan)?;
+    let Ok(shared) = Shared::<L>::new(alloc, blank, name, plan) else {
+        return false;
+    };
     meet(rt, alloc, shared)
 }
 
 #[test]
-fn two_jobs_meet(rt: HostRuntime) -> Result<(), Fail> {
-    let plan = plan(rt.alloc())?;
-    assert!(rt; meets::<Brand, _>(&rt, rt.alloc(), Blank::new(PARTS), 1, plan)?);
-    Ok(())
+fn two_jobs_meet(rt: HostRuntime) {
+    let Ok(plan) = plan(rt.alloc()) else {
+        panic!(rt; "a plan");
+    };
+    assert!(rt; meets::<Brand, _>(&rt, rt.alloc(), Blank::new(PARTS), 1, plan));
 }
 
 // Each job waits for as many as there are workers.
@@ -145,17 +149,19 @@ impl<'a, R: Clock + Sync> Gate for Rounds<'a, R> {
 }
 
 // 192 inputs without octets.
-fn empty_inputs(alloc: Global) -> Result<Vec<Vec<u8>>, Fail>
-    ensures { IfOk result (λ all. length all.items ≤ 192) }
+fn empty_inputs(alloc: Global) -> Option<Vec<Vec<u8>>>
+    ensures { IfSome result (λ all. length all.items ≤ 192) }
 {
     let mut all = Vec::new(alloc);
     for _ in 0..192 {
-        all.push(Vec::new(alloc))?;
+        if all.push(Vec::new(alloc)).is_err() {
+            return None;
+        }
     }
     if all.len() > 192 {
-        return Err("too many".into());
+        return None;
     }
-    Ok(all)
+    Some(all)
 }
 
 // Whether 192 jobs came, took and ended, and no wait met the limit.
@@ -177,10 +183,12 @@ fn go_by_rounds<L: Side + Send + Sync, R: Threads + Wait + Clock + Sync>(
     alloc: Global,
     shared: Shared<L>,
     workers: u32,
-) -> Result<bool, Fail>
+) -> bool
     requires workers { (1 ≤ workers) × (workers ≤ 64) }
 {
-    let inputs = empty_inputs(alloc)?;
+    let Some(inputs) = empty_inputs(alloc) else {
+        return false;
+    };
     let gate = Rounds {
         rt,
         workers: workers as u64,
@@ -190,7 +198,7 @@ fn go_by_rounds<L: Side + Send + Sync, R: Threads + Wait + Clock + Sync>(
         ended: AtomicU64::new(0),
     };
     let counts = taken(rt, alloc, shared, &inputs, &gate, workers);
-    Ok(is_through(&gate) && counts == Some((192, 192, 0)))
+    is_through(&gate) && counts == Some((192, 192, 0))
 }
 
 fn goes_by_rounds<L: Side + Send + Sync, R: Threads + Wait + Clock + Sync>(
@@ -200,25 +208,28 @@ fn goes_by_rounds<L: Side + Send + Sync, R: Threads + Wait + Clock + Sync>(
     name: u32,
     plan: Plan,
     workers: u32,
-) -> Result<bool, Fail>
+) -> bool
     requires name { blank.name ≡ L.name }
     requires parts { (blank.parts ≡ L.parts) × (L.parts ≡ 65537) }
     requires called { name ≡ L.called }
     requires plan { plan ≡ L.plan }
     requires workers { (1 ≤ workers) × (workers ≤ 64) }
 {
-    let shared = Shared::<L>::new(alloc, blank, name, plan)?;
+    let Ok(shared) = Shared::<L>::new(alloc, blank, name, plan) else {
+        return false;
+    };
     go_by_rounds(rt, alloc, shared, workers)
 }
 
 #[test]
-fn all_workers_work_at_once(rt: HostRuntime) -> Result<(), Fail> {
+fn all_workers_work_at_once(rt: HostRuntime) {
     let alloc = rt.alloc();
     for workers in [2, 3, 64] {
-        let plan = plan(alloc)?;
-        assert!(rt; goes_by_rounds::<Brand, _>(&rt, alloc, Blank::new(PARTS), 1, plan, workers)?);
+        let Ok(plan) = plan(alloc) else {
+            panic!(rt; "a plan");
+        };
+        assert!(rt; goes_by_rounds::<Brand, _>(&rt, alloc, Blank::new(PARTS), 1, plan, workers));
     }
-    Ok(())
 }
 
 // The first job is held under the lock until another replica has answered.
@@ -280,8 +291,10 @@ fn answers_meanwhile<
     I: Side + Send + Sync,
     F: Side + Send + Sync,
     R: Threads + Wait + Clock + Sync,
->(rt: &R, alloc: Global, held: &Shared<I>, other: &Shared<F>) -> Result<bool, Fail> {
-    let inputs = exports(alloc, &[FIRST, SECOND])?;
+>(rt: &R, alloc: Global, held: &Shared<I>, other: &Shared<F>) -> bool {
+    let Some(inputs) = exports(alloc, &[FIRST, SECOND]) else {
+        return false;
+    };
     let gate = Holding {
         rt,
         held: AtomicU64::new(0),
@@ -294,7 +307,7 @@ fn answers_meanwhile<
         move || works(rt, alloc, held, list, gates),
         move || answers(rt, other, gates),
     );
-    Ok((done, gate.in_time.load(Ordering::SeqCst)) == ((true, true), 1))
+    (done, gate.in_time.load(Ordering::SeqCst)) == ((true, true), 1)
 }
 
 fn holds_one<I: Side + Send + Sync, F: Side + Send + Sync, R: Threads + Wait + Clock + Sync>(
@@ -302,21 +315,30 @@ fn holds_one<I: Side + Send + Sync, F: Side + Send + Sync, R: Threads + Wait + C
     alloc: Global,
     one: (Blank, u32, Plan),
     two: (Blank, u32, Plan),
-) -> Result<bool, Fail>
+) -> bool
     requires name { (one.0.name ≡ I.name) × (two.0.name ≡ F.name) }
     requires parts { (one.0.parts ≡ I.parts) × (I.parts ≡ 65537) × (two.0.parts ≡ F.parts) × (F.parts ≡ 65537) }
     requires called { (one.1 ≡ I.called) × (two.1 ≡ F.called) }
     requires plan { (one.2 ≡ I.plan) × (two.2 ≡ F.plan) }
 {
-    let held = Shared::<I>::new(alloc, one.0, one.1, one.2)?;
-    let other = Shared::<F>::new(alloc, two.0, two.1, two.2)?;
+    let Ok(held) = Shared::<I>::new(alloc, one.0, one.1, one.2) else {
+        return false;
+    };
+    let Ok(other) = Shared::<F>::new(alloc, two.0, two.1, two.2) else {
+        return false;
+    };
     answers_meanwhile(rt, alloc, &held, &other)
 }
 
 #[test]
-fn a_replica_that_is_held_holds_no_other(rt: HostRuntime) -> Result<(), Fail> {
-    let one = (Blank::new(PARTS), 1, plan(rt.alloc())?);
-    let two = (Blank::new(PARTS), 2, plan(rt.alloc())?);
-    assert!(rt; holds_one::<Brand, Brand, _>(&rt, rt.alloc(), one, two)?);
-    Ok(())
+fn a_replica_that_is_held_holds_no_other(rt: HostRuntime) {
+    let Ok(first) = plan(rt.alloc()) else {
+        panic!(rt; "a plan");
+    };
+    let Ok(second) = plan(rt.alloc()) else {
+        panic!(rt; "a plan");
+    };
+    let one = (Blank::new(PARTS), 1, first);
+    let two = (Blank::new(PARTS), 2, second);
+    assert!(rt; holds_one::<Brand, Brand, _>(&rt, rt.alloc(), one, two));
 }

@@ -12,7 +12,6 @@ mod rows;
 mod world;
 
 use std::alloc::Global;
-use std::test::Fail;
 use tca_accounts::Plan;
 use tca_gossip::{Delta, Replica, Run};
 use tca_report::{Content, Identity, Report};
@@ -35,7 +34,7 @@ const SECOND: Row = (1, 100, 1000);
 
 const THIRD: Row = (2, 200, 800);
 
-fn report(row: Row) -> Result<Report, Fail> {
+fn report(row: Row) -> Option<Report> {
     let (place, late, octets) = row;
     let identity = Identity { domain: 7, place };
     let content = Content {
@@ -44,56 +43,77 @@ fn report(row: Row) -> Result<Report, Fail> {
         dscp: 0,
         iface: 1,
     };
-    Ok(Report::new(identity, content).ok_or("a report within its ranges")?)
+    Report::new(identity, content)
 }
 
-fn reports(alloc: Global, rows: &[Row]) -> Result<Vec<Report>, Fail> {
+fn reports(alloc: Global, rows: &[Row]) -> Option<Vec<Report>> {
     let mut list = Vec::new(alloc);
     for row in rows {
-        list.push(report(*row)?)?;
+        let Some(report) = report(*row) else {
+            return None;
+        };
+        if list.push(report).is_err() {
+            return None;
+        }
     }
-    Ok(list)
+    Some(list)
 }
 
 // Reports of these places on, each a millisecond after the one before.
-fn in_row(alloc: Global, from: u32, count: u32) -> Result<Vec<Report>, Fail> {
+fn in_row(alloc: Global, from: u32, count: u32) -> Option<Vec<Report>> {
     let mut list = Vec::new(alloc);
     for i in 0..count {
         let place = from.saturating_add(i);
-        list.push(report((place, place, 40))?)?;
+        let Some(report) = report((place, place, 40)) else {
+            return None;
+        };
+        if list.push(report).is_err() {
+            return None;
+        }
     }
-    Ok(list)
+    Some(list)
 }
 
-// The delta of these runs, if there is one.
-fn delta(alloc: Global, parts: &[Part]) -> Result<Option<Delta>, Fail> {
+// The delta of these runs, if there is one, and if there is memory for it.
+fn delta(alloc: Global, parts: &[Part]) -> Option<Option<Delta>> {
     let mut runs = Vec::new(alloc);
     for part in parts {
         let (origin, start, rows) = *part;
-        let reports = reports(alloc, rows)?;
-        runs.push(Run {
+        let Some(reports) = reports(alloc, rows) else {
+            return None;
+        };
+        let run = Run {
             origin,
             start,
             reports,
-        })?;
+        };
+        if runs.push(run).is_err() {
+            return None;
+        }
     }
-    Ok(Delta::of(runs))
+    Some(Delta::of(runs))
 }
 
 // What is done with two replicas that hold nothing.
 trait Play {
-    // Answers whether it went as it should.
-    fn play(&self, alloc: Global, one: &mut Replica, two: &mut Replica) -> Result<bool, Fail>;
+    // Answers whether it went as it should. None, where memory for its preparation lacked, isn't success either.
+    fn play(&self, alloc: Global, one: &mut Replica, two: &mut Replica) -> Option<bool>;
 }
 
-fn replica(alloc: Global, name: u32) -> Result<Replica, Fail> {
-    let plan = Plan::from_text(alloc, PLAN.as_bytes())?;
-    Ok(Replica::new(alloc, name, plan)?)
+fn replica(alloc: Global, name: u32) -> Option<Replica> {
+    let Ok(plan) = Plan::from_text(alloc, PLAN.as_bytes()) else {
+        return None;
+    };
+    Replica::new(alloc, name, plan).ok()
 }
 
 // Plays with replicas of these names.
-fn goes<P: Play>(alloc: Global, names: (u32, u32), play: &P) -> Result<bool, Fail> {
-    let mut one = replica(alloc, names.0)?;
-    let mut two = replica(alloc, names.1)?;
+fn goes<P: Play>(alloc: Global, names: (u32, u32), play: &P) -> Option<bool> {
+    let Some(mut one) = replica(alloc, names.0) else {
+        return None;
+    };
+    let Some(mut two) = replica(alloc, names.1) else {
+        return None;
+    };
     play.play(alloc, &mut one, &mut two)
 }

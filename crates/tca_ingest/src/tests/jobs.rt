@@ -1,5 +1,5 @@
 //! Workers: two replicas that tell each other what they hold, an input that is refused among good ones, and too few passes.
-ghost use Rattle.std.specs.Prelude.{◌≡◌, ◌≤◌, IfOk, length};
+ghost use Rattle.std.specs.Prelude.{◌≡◌, ◌≤◌, IfSome, length};
 
 use super::exchanges::{are_of_three, both, ends, is_gap, tells};
 use super::limits::makes;
@@ -10,7 +10,6 @@ use std::marker::Brand;
 use std::process::Abort;
 use std::sync::Wait;
 use std::sync::ledger::Blank;
-use std::test::Fail;
 use std::thread::Threads;
 use tca_accounts::Plan;
 use tca_report::{InputFault, Notes};
@@ -33,31 +32,46 @@ pub(super) fn export(alloc: Global, row: (u32, u32, u32)) -> Result<Vec<u8>, All
 }
 
 // The exports of at most three reports, one each.
-pub(super) fn exports(alloc: Global, rows: &[(u32, u32, u32)]) -> Result<Vec<Vec<u8>>, Fail>
-    ensures { IfOk result (λ all. length all.items ≤ 3) }
+pub(super) fn exports(alloc: Global, rows: &[(u32, u32, u32)]) -> Option<Vec<Vec<u8>>>
+    ensures { IfSome result (λ all. length all.items ≤ 3) }
 {
-    let mut all = Vec::with_capacity(alloc, rows.len())?;
+    let Ok(mut all) = Vec::with_capacity(alloc, rows.len()) else {
+        return None;
+    };
     for row in rows {
-        all.push(export(alloc, *row)?)?;
+        let Ok(octets) = export(alloc, *row) else {
+            return None;
+        };
+        if all.push(octets).is_err() {
+            return None;
+        }
     }
     if all.len() > 3 {
-        return Err("too many".into());
+        return None;
     }
-    Ok(all)
+    Some(all)
 }
 
-// Two exports, and between them the octets of one that is cut.
-fn with_a_cut(alloc: Global) -> Result<Vec<Vec<u8>>, Fail>
-    ensures { IfOk result (λ all. length all.items ≤ 3) }
-{
+// Two exports, and between them the octets of one that is cut, as a list.
+fn cut_between(alloc: Global) -> Result<Vec<Vec<u8>>, AllocError> {
     let mut all = Vec::with_capacity(alloc, 3)?;
     all.push(export(alloc, FIRST)?)?;
     all.push(Vec::from_slice(alloc, b"TCAX\x00\x01\x00\x00\x00")?)?;
     all.push(export(alloc, THIRD)?)?;
-    if all.len() > 3 {
-        return Err("too many".into());
-    }
     Ok(all)
+}
+
+// The same, where there are at most three.
+fn with_a_cut(alloc: Global) -> Option<Vec<Vec<u8>>>
+    ensures { IfSome result (λ all. length all.items ≤ 3) }
+{
+    let Ok(all) = cut_between(alloc) else {
+        return None;
+    };
+    if all.len() > 3 {
+        return None;
+    }
+    Some(all)
 }
 
 // The number of a job, and how many reports of its input are held, where all are.
@@ -91,15 +105,17 @@ fn by_two<L: Side + Send + Sync, R: Threads + Wait + Abort + Sync>(
     alloc: Global,
     shared: &Shared<L>,
     rows: [(u32, u32, u32); 2],
-) -> Result<Vec<Pass<L>>, Fail> {
-    let inputs = exports(alloc, &rows)?;
+) -> Option<Vec<Pass<L>>> {
+    let Some(inputs) = exports(alloc, &rows) else {
+        return None;
+    };
     let Ok(worked) = work(rt, alloc, shared, &inputs, &NoGate, 2) else {
-        return Err("workers".into());
+        return None;
     };
     assert!(rt; (worked.done.len(), worked.passes.len()) == (2, 2));
     let agreed = (of_job(&worked.done[0]), of_job(&worked.done[1]));
     assert!(rt; agreed == (Some((0, 1)), Some((1, 1))));
-    Ok(worked.passes)
+    Some(worked.passes)
 }
 
 // Each lacks one report of the other's. They tell each other twice.
@@ -108,16 +124,16 @@ fn tell_each_other<I: Side, F: Side, R: Wait>(
     alloc: Global,
     one: (&Shared<I>, &mut Pass<I>),
     two: (&Shared<F>, &mut Pass<F>),
-) -> Result<bool, Fail> {
+) -> bool {
     let ((into, mine), (from, theirs)) = (one, two);
-    let gap = is_gap(rt, alloc, into, mine)?;
-    let there = tells(rt, (into, mine), (from, theirs), 5, 2)?;
-    let back = tells(rt, (from, theirs), (into, mine), 5, 2)?;
-    let again = tells(rt, (into, mine), (from, theirs), 8, 0)?;
-    let back_again = tells(rt, (from, theirs), (into, mine), 8, 0)?;
-    let ended = ends(rt, into, mine, 10)?;
-    let other_ended = ends(rt, from, theirs, 9)?;
-    Ok(gap && there && back && again && back_again && ended && other_ended)
+    let gap = is_gap(rt, alloc, into, mine);
+    let there = tells(rt, (into, mine), (from, theirs), 5, 2);
+    let back = tells(rt, (from, theirs), (into, mine), 5, 2);
+    let again = tells(rt, (into, mine), (from, theirs), 8, 0);
+    let back_again = tells(rt, (from, theirs), (into, mine), 8, 0);
+    let ended = ends(rt, into, mine, 10);
+    let other_ended = ends(rt, from, theirs, 9);
+    gap && there && back && again && back_again && ended && other_ended
 }
 
 // A pass of each replica, by which they told each other.
@@ -126,12 +142,17 @@ fn told<I: Side, F: Side, R: Wait>(
     alloc: Global,
     into: &Shared<I>,
     from: &Shared<F>,
-) -> Result<(Pass<I>, Pass<F>), Fail> {
-    let (mut mine, mut theirs) = (into.pass(rt)?, from.pass(rt)?);
-    if !tell_each_other(rt, alloc, (into, &mut mine), (from, &mut theirs))? {
-        return Err("an exchange".into());
+) -> Option<(Pass<I>, Pass<F>)> {
+    let Ok(mut mine) = into.pass(rt) else {
+        return None;
+    };
+    let Ok(mut theirs) = from.pass(rt) else {
+        return None;
+    };
+    if !tell_each_other(rt, alloc, (into, &mut mine), (from, &mut theirs)) {
+        return None;
     }
-    Ok((mine, theirs))
+    Some((mine, theirs))
 }
 
 // The workers' passes of each replica, and one more.
@@ -140,12 +161,23 @@ fn worked<I: Side + Send + Sync, F: Side + Send + Sync, R: Threads + Wait + Abor
     alloc: Global,
     into: &Shared<I>,
     from: &Shared<F>,
-) -> Result<(Vec<Pass<I>>, Vec<Pass<F>>), Fail> {
-    let ours = by_two(rt, alloc, into, [FIRST, SECOND])?;
-    let others = by_two(rt, alloc, from, [SECOND, THIRD])?;
-    let (mine, theirs) = told(rt, alloc, into, from)?;
-    let all_ours = with_one_more(ours, mine)?;
-    Ok((all_ours, with_one_more(others, theirs)?))
+) -> Option<(Vec<Pass<I>>, Vec<Pass<F>>)> {
+    let Some(ours) = by_two(rt, alloc, into, [FIRST, SECOND]) else {
+        return None;
+    };
+    let Some(others) = by_two(rt, alloc, from, [SECOND, THIRD]) else {
+        return None;
+    };
+    let Some((mine, theirs)) = told(rt, alloc, into, from) else {
+        return None;
+    };
+    let Ok(all_ours) = with_one_more(ours, mine) else {
+        return None;
+    };
+    let Ok(all_others) = with_one_more(others, theirs) else {
+        return None;
+    };
+    Some((all_ours, all_others))
 }
 
 // Whether two replicas close with three reports each, and agree.
@@ -154,11 +186,20 @@ fn agree<I: Side + Send + Sync, F: Side + Send + Sync, R: Threads + Wait + Abort
     alloc: Global,
     into: Shared<I>,
     from: Shared<F>,
-) -> Result<bool, Fail> {
-    let (ours, others) = worked(rt, alloc, &into, &from)?;
-    let one = closed_with(into, ours)?;
-    let two = closed_with(from, others)?;
-    Ok(are_of_three(&both(alloc, one, two)?))
+) -> bool {
+    let Some((ours, others)) = worked(rt, alloc, &into, &from) else {
+        return false;
+    };
+    let Some(one) = closed_with(into, ours) else {
+        return false;
+    };
+    let Some(two) = closed_with(from, others) else {
+        return false;
+    };
+    let Ok(both) = both(alloc, one, two) else {
+        return false;
+    };
+    are_of_three(&both)
 }
 
 fn agreed<I: Side + Send + Sync, F: Side + Send + Sync, R: Threads + Wait + Abort + Sync>(
@@ -166,23 +207,32 @@ fn agreed<I: Side + Send + Sync, F: Side + Send + Sync, R: Threads + Wait + Abor
     alloc: Global,
     one: (Blank, u32, Plan),
     two: (Blank, u32, Plan),
-) -> Result<bool, Fail>
+) -> bool
     requires name { (one.0.name ≡ I.name) × (two.0.name ≡ F.name) }
     requires parts { (one.0.parts ≡ I.parts) × (I.parts ≡ 65537) × (two.0.parts ≡ F.parts) × (F.parts ≡ 65537) }
     requires called { (one.1 ≡ I.called) × (two.1 ≡ F.called) }
     requires plan { (one.2 ≡ I.plan) × (two.2 ≡ F.plan) }
 {
-    let into = Shared::<I>::new(alloc, one.0, one.1, one.2)?;
-    let from = Shared::<F>::new(alloc, two.0, two.1, two.2)?;
+    let Ok(into) = Shared::<I>::new(alloc, one.0, one.1, one.2) else {
+        return false;
+    };
+    let Ok(from) = Shared::<F>::new(alloc, two.0, two.1, two.2) else {
+        return false;
+    };
     agree(rt, alloc, into, from)
 }
 
 #[test]
-fn workers_of_two_replicas_bring_one_bill(rt: HostRuntime) -> Result<(), Fail> {
-    let one = (Blank::new(PARTS), 1, plan(rt.alloc())?);
-    let two = (Blank::new(PARTS), 2, plan(rt.alloc())?);
-    assert!(rt; agreed::<Brand, Brand, _>(&rt, rt.alloc(), one, two)?);
-    Ok(())
+fn workers_of_two_replicas_bring_one_bill(rt: HostRuntime) {
+    let Ok(first) = plan(rt.alloc()) else {
+        panic!(rt; "a plan");
+    };
+    let Ok(second) = plan(rt.alloc()) else {
+        panic!(rt; "a plan");
+    };
+    let one = (Blank::new(PARTS), 1, first);
+    let two = (Blank::new(PARTS), 2, second);
+    assert!(rt; agreed::<Brand, Brand, _>(&rt, rt.alloc(), one, two));
 }
 
 // Whether a job is the second, and its input is refused for its cut.
@@ -232,22 +282,27 @@ fn takes_the_others<L: Side + Send + Sync, R: Threads + Wait + Sync>(
     blank: Blank,
     name: u32,
     plan: Plan,
-) -> Result<bool, Fail>
+) -> bool
     requires name { blank.name ≡ L.name }
     requires parts { (blank.parts ≡ L.parts) × (L.parts ≡ 65537) }
     requires called { name ≡ L.called }
     requires plan { plan ≡ L.plan }
 {
-    let shared = Shared::<L>::new(alloc, blank, name, plan)?;
-    let inputs = with_a_cut(alloc)?;
-    Ok(take_the_others(rt, alloc, shared, &inputs))
+    let Ok(shared) = Shared::<L>::new(alloc, blank, name, plan) else {
+        return false;
+    };
+    let Some(inputs) = with_a_cut(alloc) else {
+        return false;
+    };
+    take_the_others(rt, alloc, shared, &inputs)
 }
 
 #[test]
-fn a_refused_input_leaves_the_others(rt: HostRuntime) -> Result<(), Fail> {
-    let plan = plan(rt.alloc())?;
-    assert!(rt; takes_the_others::<Brand, _>(&rt, rt.alloc(), Blank::new(PARTS), 1, plan)?);
-    Ok(())
+fn a_refused_input_leaves_the_others(rt: HostRuntime) {
+    let Ok(plan) = plan(rt.alloc()) else {
+        panic!(rt; "a plan");
+    };
+    assert!(rt; takes_the_others::<Brand, _>(&rt, rt.alloc(), Blank::new(PARTS), 1, plan));
 }
 
 // Whether two workers are refused for their passes, and the one that was made closes without an entry.
@@ -277,21 +332,26 @@ fn lacks_a_pass<L: Side + Send + Sync, R: Threads + Wait + Sync>(
     blank: Blank,
     name: u32,
     plan: Plan,
-) -> Result<bool, Fail>
+) -> bool
     requires name { blank.name ≡ L.name }
     requires parts { (blank.parts ≡ L.parts) × (L.parts ≡ 65537) }
     requires called { name ≡ L.called }
     requires plan { plan ≡ L.plan }
 {
-    let shared = Shared::<L>::new(alloc, blank, name, plan)?;
+    let Ok(shared) = Shared::<L>::new(alloc, blank, name, plan) else {
+        return false;
+    };
     let made = makes(rt, &shared, 65_535);
-    let inputs = exports(alloc, &[FIRST])?;
-    Ok(lack_a_pass(rt, alloc, shared, &inputs) && made)
+    let Some(inputs) = exports(alloc, &[FIRST]) else {
+        return false;
+    };
+    lack_a_pass(rt, alloc, shared, &inputs) && made
 }
 
 #[test]
-fn workers_want_a_pass_each(rt: HostRuntime) -> Result<(), Fail> {
-    let plan = plan(rt.alloc())?;
-    assert!(rt; lacks_a_pass::<Brand, _>(&rt, rt.alloc(), Blank::new(PARTS), 1, plan)?);
-    Ok(())
+fn workers_want_a_pass_each(rt: HostRuntime) {
+    let Ok(plan) = plan(rt.alloc()) else {
+        panic!(rt; "a plan");
+    };
+    assert!(rt; lacks_a_pass::<Brand, _>(&rt, rt.alloc(), Blank::new(PARTS), 1, plan));
 }

@@ -104,10 +104,11 @@ fn works_and_closes<L: Side + Send + Sync, R: Threads + Wait + Sync>(
     requires called { name ≡ L.called }
     requires plan { plan ≡ L.plan }
 {
-    let inputs = exports(alloc, &[FIRST, SECOND])?;
+    let inputs = exports(alloc, &[FIRST, SECOND]).ok_or("inputs")?;
     let shared = Shared::<L>::new(alloc, blank, name, plan)?;
     let passes = passes_of(rt, alloc, &shared, &inputs).ok_or("workers")?;
-    Ok(is_as_noted(&closed_with(shared, passes)?)?)
+    let closed = closed_with(shared, passes).ok_or("a close")?;
+    Ok(is_as_noted(&closed)?)
 }
 
 #[test]

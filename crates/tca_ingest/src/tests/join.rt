@@ -2,7 +2,6 @@ ghost use Rattle.std.specs.Prelude.{◌≡◌, true};
 
 use linked_list_allocator::LocalHeap;
 use std::alloc::{AllocError, Allocator, Global};
-use std::test::Fail;
 use tca_join::{ByKey, Chain, Join, JoinFault, MaxOf};
 
 // What a step of the sweeps below was refused memory for.
@@ -91,12 +90,16 @@ fn joins_to(first: &Chain<u32>, second: &Chain<u32>, items: &[u32]) -> bool {
     }
 }
 
-fn keeps_the_longer(alloc: Global) -> Result<bool, AllocError> {
-    let short = chain_of(alloc, &[4, 6])?;
-    let long = chain_of(alloc, &[4, 6, 4])?;
+fn keeps_the_longer(alloc: Global) -> bool {
+    let Ok(short) = chain_of(alloc, &[4, 6]) else {
+        return false;
+    };
+    let Ok(long) = chain_of(alloc, &[4, 6, 4]) else {
+        return false;
+    };
     let all = [4, 6, 4];
     let shown = (long.len(), long.item(1), long.item(3)) == (3, Some(6), None);
-    Ok(shown && joins_to(&short, &long, &all) && joins_to(&long, &short, &all))
+    shown && joins_to(&short, &long, &all) && joins_to(&long, &short, &all)
 }
 
 // Whether a chain clashes there with another, by both calls.
@@ -105,31 +108,37 @@ fn clashes_at(chain: &mut Chain<u32>, other: &Chain<u32>, key: u32) -> bool {
     chain.refusal(other) == Some(clash) && chain.join_from(other) == Err(clash)
 }
 
-fn refuses_another(alloc: Global) -> Result<bool, AllocError> {
-    let long = chain_of(alloc, &[4, 6, 4])?;
-    let mut other = chain_of(alloc, &[4, 7, 5])?;
-    Ok(clashes_at(&mut other, &long, 1) && other.items() == [4, 7, 5].as_slice())
+fn refuses_another(alloc: Global) -> bool {
+    let Ok(long) = chain_of(alloc, &[4, 6, 4]) else {
+        return false;
+    };
+    let Ok(mut other) = chain_of(alloc, &[4, 7, 5]) else {
+        return false;
+    };
+    clashes_at(&mut other, &long, 1) && other.items() == [4, 7, 5].as_slice()
 }
 
 #[test]
-fn the_longer_chain_is_kept(rt: HostRuntime) -> Result<(), Fail> {
-    assert!(rt; keeps_the_longer(rt.alloc())?);
-    assert!(rt; refuses_another(rt.alloc())?);
-    Ok(())
+fn the_longer_chain_is_kept(rt: HostRuntime) {
+    assert!(rt; keeps_the_longer(rt.alloc()));
+    assert!(rt; refuses_another(rt.alloc()));
 }
 
-fn copy_has_room(alloc: Global) -> Result<bool, AllocError> {
+fn copy_has_room(alloc: Global) -> bool {
     let mut chain: Chain<u32> = Chain::new(alloc);
-    chain.reserve()?;
-    let mut copy = chain.copy()?;
+    let Ok(()) = chain.reserve() else {
+        return false;
+    };
+    let Ok(mut copy) = chain.copy() else {
+        return false;
+    };
     copy.push(8);
-    Ok(copy.items() == [8].as_slice() && chain.len() == 0)
+    copy.items() == [8].as_slice() && chain.len() == 0
 }
 
 #[test]
-fn a_copy_has_the_room_of_its_source(rt: HostRuntime) -> Result<(), Fail> {
-    assert!(rt; copy_has_room(rt.alloc())?);
-    Ok(())
+fn a_copy_has_the_room_of_its_source(rt: HostRuntime) {
+    assert!(rt; copy_has_room(rt.alloc()));
 }
 
 fn set_chain<A: Allocator + Copy>(
@@ -194,16 +203,19 @@ fn join_by_key(first: &ByKey<Chain<u32>>, second: &ByKey<Chain<u32>>) -> bool {
     }
 }
 
-fn chains_join(alloc: Global) -> Result<bool, AllocError> {
-    let first = map_of(alloc, &[(9, &[1]), (4, &[5, 5])])?;
-    let second = map_of(alloc, &[(9, &[2]), (6, &[7]), (9, &[1, 3])])?;
-    Ok(join_by_key(&first, &second))
+fn chains_join(alloc: Global) -> bool {
+    let Ok(first) = map_of(alloc, &[(9, &[1]), (4, &[5, 5])]) else {
+        return false;
+    };
+    let Ok(second) = map_of(alloc, &[(9, &[2]), (6, &[7]), (9, &[1, 3])]) else {
+        return false;
+    };
+    join_by_key(&first, &second)
 }
 
 #[test]
-fn maps_of_chains_join_key_by_key(rt: HostRuntime) -> Result<(), Fail> {
-    assert!(rt; chains_join(rt.alloc())?);
-    Ok(())
+fn maps_of_chains_join_key_by_key(rt: HostRuntime) {
+    assert!(rt; chains_join(rt.alloc()));
 }
 
 // Whether a map clashes there with another, and is as before.
@@ -216,19 +228,16 @@ fn is_refused_at(
     map.join_from(other) == Err(JoinFault::Clash { key }) && has_chains(map, before)
 }
 
-fn replace(
-    alloc: Global,
-    map: &mut ByKey<Chain<u32>>,
-    key: u32,
-    items: &[u32],
-) -> Result<bool, AllocError> {
-    let chain = chain_of(alloc, items)?;
+fn replace(alloc: Global, map: &mut ByKey<Chain<u32>>, key: u32, items: &[u32]) -> bool {
+    let Ok(chain) = chain_of(alloc, items) else {
+        return false;
+    };
     match map.get_mut(key) {
         Some(place) => {
             *place = chain;
-            Ok(true)
+            true
         }
-        None => Ok(false),
+        None => false,
     }
 }
 
@@ -237,39 +246,42 @@ fn names_the_least(
     alloc: Global,
     first: &mut ByKey<Chain<u32>>,
     second: &ByKey<Chain<u32>>,
-) -> Result<bool, AllocError> {
+) -> bool {
     let at_one = is_refused_at(
         first,
         second,
         1,
         &[(1, &[2, 1]), (3, &[2, 1]), (5, &[1]), (8, &[2, 1])],
     );
-    let replaced = replace(alloc, first, 1, &[2, 2, 6])? && first.get_mut(2).is_none();
+    let replaced = replace(alloc, first, 1, &[2, 2, 6]) && first.get_mut(2).is_none();
     let at_five = is_refused_at(
         first,
         second,
         5,
         &[(1, &[2, 2, 6]), (3, &[2, 1]), (5, &[1]), (8, &[2, 1])],
     );
-    Ok(at_one && replaced && at_five)
+    at_one && replaced && at_five
 }
 
-fn clashes_are_named(alloc: Global) -> Result<bool, AllocError> {
-    let mut first = map_of(
+fn clashes_are_named(alloc: Global) -> bool {
+    let Ok(mut first) = map_of(
         alloc,
         &[(8, &[2, 1]), (3, &[2, 1]), (1, &[2, 1]), (5, &[1])],
-    )?;
-    let second = map_of(
+    ) else {
+        return false;
+    };
+    let Ok(second) = map_of(
         alloc,
         &[(8, &[2, 1]), (3, &[2, 1]), (1, &[2, 2]), (5, &[2])],
-    )?;
+    ) else {
+        return false;
+    };
     names_the_least(alloc, &mut first, &second)
 }
 
 #[test]
-fn the_least_key_that_clashes_is_named(rt: HostRuntime) -> Result<(), Fail> {
-    assert!(rt; clashes_are_named(rt.alloc())?);
-    Ok(())
+fn the_least_key_that_clashes_is_named(rt: HostRuntime) {
+    assert!(rt; clashes_are_named(rt.alloc()));
 }
 
 fn counts_of(alloc: Global, counts: &[(u32, MaxOf)]) -> Result<ByKey<MaxOf>, AllocError> {
@@ -288,16 +300,19 @@ fn have_greater_counts(first: &ByKey<MaxOf>, second: &ByKey<MaxOf>) -> bool {
     }
 }
 
-fn counts_join(alloc: Global) -> Result<bool, AllocError> {
-    let first = counts_of(alloc, &[(2, MaxOf(7)), (1, MaxOf(0)), (300, MaxOf(5))])?;
-    let second = counts_of(alloc, &[(2, MaxOf(3)), (1, MaxOf(4)), (300, MaxOf(5))])?;
-    Ok(have_greater_counts(&first, &second))
+fn counts_join(alloc: Global) -> bool {
+    let Ok(first) = counts_of(alloc, &[(2, MaxOf(7)), (1, MaxOf(0)), (300, MaxOf(5))]) else {
+        return false;
+    };
+    let Ok(second) = counts_of(alloc, &[(2, MaxOf(3)), (1, MaxOf(4)), (300, MaxOf(5))]) else {
+        return false;
+    };
+    have_greater_counts(&first, &second)
 }
 
 #[test]
-fn maps_of_counts_join_key_by_key(rt: HostRuntime) -> Result<(), Fail> {
-    assert!(rt; counts_join(rt.alloc())?);
-    Ok(())
+fn maps_of_counts_join_key_by_key(rt: HostRuntime) {
+    assert!(rt; counts_join(rt.alloc()));
 }
 
 // Takes all that a heap has left, so that it refuses each growth.
@@ -324,14 +339,29 @@ fn pushes_without_memory(heap: &LocalHeap, chain: &mut Chain<u32, &LocalHeap>) -
     chain.items() == [4, 6, 9].as_slice() && chain.copy().is_err() && heap.used() == used
 }
 
+fn pushes_into_room(alloc: Global, heap: &LocalHeap) -> bool {
+    let Ok(mut chain) = chain_of(heap, &[4, 6]) else {
+        return false;
+    };
+    let Ok(()) = chain.reserve() else {
+        return false;
+    };
+    let Ok(taken) = exhausted(alloc, heap) else {
+        return false;
+    };
+    pushes_without_memory(heap, &mut chain) && taken.len() > 0
+}
+
+fn takes_no_memory(alloc: Global) -> bool {
+    match LocalHeap::new(alloc, 1 << 12) {
+        Ok(heap) => pushes_into_room(alloc, &heap),
+        Err(_) => false,
+    }
+}
+
 #[test]
-fn a_push_into_reserved_room_takes_no_memory(rt: HostRuntime) -> Result<(), Fail> {
-    let heap = LocalHeap::new(rt.alloc(), 1 << 12)?;
-    let mut chain = chain_of(&heap, &[4, 6])?;
-    chain.reserve()?;
-    let taken = exhausted(rt.alloc(), &heap)?;
-    assert!(rt; pushes_without_memory(&heap, &mut chain) && taken.len() > 0);
-    Ok(())
+fn a_push_into_reserved_room_takes_no_memory(rt: HostRuntime) {
+    assert!(rt; takes_no_memory(rt.alloc()));
 }
 
 type SmallMap<'a> = ByKey<Chain<u32, &'a LocalHeap>, &'a LocalHeap>;
@@ -348,16 +378,22 @@ fn clash_is_named_without_memory<'a>(
     heap: &'a LocalHeap,
     first: &mut SmallMap<'a>,
     second: &SmallMap<'a>,
-) -> Result<bool, AllocError> {
-    let taken = exhausted(alloc, heap)?;
+) -> bool {
+    let Ok(taken) = exhausted(alloc, heap) else {
+        return false;
+    };
     let used = heap.used();
     let named = clash_is_named(first, second);
-    Ok(named && heap.used() == used && taken.len() > 0)
+    named && heap.used() == used && taken.len() > 0
 }
 
-fn names_clash(alloc: Global, heap: &LocalHeap) -> Result<bool, AllocError> {
-    let mut first = map_of(heap, &[(3, &[1]), (5, &[7])])?;
-    let second = map_of(heap, &[(3, &[1, 2]), (5, &[8])])?;
+fn names_clash(alloc: Global, heap: &LocalHeap) -> bool {
+    let Ok(mut first) = map_of(heap, &[(3, &[1]), (5, &[7])]) else {
+        return false;
+    };
+    let Ok(second) = map_of(heap, &[(3, &[1, 2]), (5, &[8])]) else {
+        return false;
+    };
     clash_is_named_without_memory(alloc, heap, &mut first, &second)
 }
 
@@ -375,28 +411,35 @@ fn lacks_only_memory<'a>(
     heap: &'a LocalHeap,
     first: &mut SmallMap<'a>,
     second: &SmallMap<'a>,
-) -> Result<bool, AllocError> {
-    let taken = exhausted(alloc, heap)?;
+) -> bool {
+    let Ok(taken) = exhausted(alloc, heap) else {
+        return false;
+    };
     let used = heap.used();
     let lacks = lacks_memory(heap, first, second);
-    Ok(lacks && heap.used() == used && taken.len() > 0)
+    lacks && heap.used() == used && taken.len() > 0
 }
 
-fn names_memory(alloc: Global, heap: &LocalHeap) -> Result<bool, AllocError> {
-    let mut first = map_of(heap, &[(3, &[1]), (5, &[7])])?;
-    let second = map_of(heap, &[(3, &[1, 2]), (5, &[7])])?;
+fn names_memory(alloc: Global, heap: &LocalHeap) -> bool {
+    let Ok(mut first) = map_of(heap, &[(3, &[1]), (5, &[7])]) else {
+        return false;
+    };
+    let Ok(second) = map_of(heap, &[(3, &[1, 2]), (5, &[7])]) else {
+        return false;
+    };
     lacks_only_memory(alloc, heap, &mut first, &second)
 }
 
-fn names_what_lacks(alloc: Global) -> Result<bool, AllocError> {
-    let heap = LocalHeap::new(alloc, 1 << 12)?;
-    Ok(names_clash(alloc, &heap)? && names_memory(alloc, &heap)?)
+fn names_what_lacks(alloc: Global) -> bool {
+    let Ok(heap) = LocalHeap::new(alloc, 1 << 12) else {
+        return false;
+    };
+    names_clash(alloc, &heap) && names_memory(alloc, &heap)
 }
 
 #[test]
-fn a_clash_is_named_where_memory_lacks(rt: HostRuntime) -> Result<(), Fail> {
-    assert!(rt; names_what_lacks(rt.alloc())?);
-    Ok(())
+fn a_clash_is_named_where_memory_lacks(rt: HostRuntime) {
+    assert!(rt; names_what_lacks(rt.alloc()));
 }
 
 const ITEMS: [u32; 5] = [10, 11, 12, 13, 14];
@@ -449,23 +492,25 @@ fn chain_within(alloc: Global, octets: usize) -> Result<Step, AllocError> {
     Ok(seen(step, small.used() == 0))
 }
 
-// Whether one of these heaps ends at that step.
-fn chain_meets(alloc: Global, wanted: Step) -> Result<bool, AllocError> {
+// Whether one of these heaps ends at that step, if there is memory for them.
+fn chain_meets(alloc: Global, wanted: Step) -> Option<bool> {
     for size in 1..64 {
-        if chain_within(alloc, 16 * size)? == wanted {
-            return Ok(true);
+        let Ok(step) = chain_within(alloc, 16 * size) else {
+            return None;
+        };
+        if step == wanted {
+            return Some(true);
         }
     }
-    Ok(false)
+    Some(false)
 }
 
 #[test]
-fn a_chain_is_as_before_after_each_refused_growth(rt: HostRuntime) -> Result<(), Fail> {
+fn a_chain_is_as_before_after_each_refused_growth(rt: HostRuntime) {
     for step in [Step::Reserve, Step::Copy, Step::Join, Step::Done] {
-        assert!(rt; chain_meets(rt.alloc(), step)?);
+        assert!(rt; chain_meets(rt.alloc(), step) == Some(true));
     }
-    assert!(rt; !chain_meets(rt.alloc(), Step::Wrong)?);
-    Ok(())
+    assert!(rt; chain_meets(rt.alloc(), Step::Wrong) == Some(false));
 }
 
 const KEYS: [u32; 5] = [40, 20, 30, 10, 50];
@@ -555,21 +600,23 @@ fn map_within(alloc: Global, octets: usize) -> Result<Step, AllocError> {
     Ok(seen(step, small.used() == 0))
 }
 
-// Whether one of these heaps ends at that step.
-fn map_meets(alloc: Global, wanted: Step) -> Result<bool, AllocError> {
+// Whether one of these heaps ends at that step, if there is memory for them.
+fn map_meets(alloc: Global, wanted: Step) -> Option<bool> {
     for size in 1..256 {
-        if map_within(alloc, 16 * size)? == wanted {
-            return Ok(true);
+        let Ok(step) = map_within(alloc, 16 * size) else {
+            return None;
+        };
+        if step == wanted {
+            return Some(true);
         }
     }
-    Ok(false)
+    Some(false)
 }
 
 #[test]
-fn a_map_is_as_before_after_each_refused_growth(rt: HostRuntime) -> Result<(), Fail> {
+fn a_map_is_as_before_after_each_refused_growth(rt: HostRuntime) {
     for step in [Step::Reserve, Step::Set, Step::Copy, Step::Join, Step::Done] {
-        assert!(rt; map_meets(rt.alloc(), step)?);
+        assert!(rt; map_meets(rt.alloc(), step) == Some(true));
     }
-    assert!(rt; !map_meets(rt.alloc(), Step::Wrong)?);
-    Ok(())
+    assert!(rt; map_meets(rt.alloc(), Step::Wrong) == Some(false));
 }

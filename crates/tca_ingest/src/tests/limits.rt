@@ -7,7 +7,6 @@ use std::alloc::Global;
 use std::marker::Brand;
 use std::sync::Wait;
 use std::sync::ledger::Blank;
-use std::test::Fail;
 use tca_accounts::Plan;
 
 // Makes passes, and answers whether they have the numbers from 0 on.
@@ -31,24 +30,27 @@ fn runs_out_of_passes<L: Side, R: Wait>(
     blank: Blank,
     name: u32,
     plan: Plan,
-) -> Result<bool, Fail>
+) -> bool
     requires name { blank.name ≡ L.name }
     requires parts { (blank.parts ≡ L.parts) × (L.parts ≡ 65537) }
     requires called { name ≡ L.called }
     requires plan { plan ≡ L.plan }
 {
-    let shared = Shared::<L>::new(alloc, blank, name, plan)?;
+    let Ok(shared) = Shared::<L>::new(alloc, blank, name, plan) else {
+        return false;
+    };
     let made = makes(rt, &shared, 65_536);
     let out = shared.pass(rt).err() == Some(ShareFault::PassesOut);
     let closed = lengths(shared, Vec::new(alloc));
-    Ok(made && out && closed == Some((0, 0)))
+    made && out && closed == Some((0, 0))
 }
 
 #[test]
-fn passes_run_out_at_their_limit(rt: HostRuntime) -> Result<(), Fail> {
-    let plan = plan(rt.alloc())?;
-    assert!(rt; runs_out_of_passes::<Brand, _>(&rt, rt.alloc(), Blank::new(PARTS), 1, plan)?);
-    Ok(())
+fn passes_run_out_at_their_limit(rt: HostRuntime) {
+    let Ok(plan) = plan(rt.alloc()) else {
+        panic!(rt; "a plan");
+    };
+    assert!(rt; runs_out_of_passes::<Brand, _>(&rt, rt.alloc(), Blank::new(PARTS), 1, plan));
 }
 
 // Asks for the summary of a replica that holds nothing, as often as this; answers whether each was noted.
@@ -81,22 +83,28 @@ fn is_filled<L: Side, R: Wait>(
 }
 
 // The passes that filled the journal.
-fn filled<L: Side, R: Wait>(
-    rt: &R,
-    alloc: Global,
-    shared: &Shared<L>,
-) -> Result<Vec<Pass<L>>, Fail> {
-    let (mut first, mut second) = (shared.pass(rt)?, shared.pass(rt)?);
+fn filled<L: Side, R: Wait>(rt: &R, alloc: Global, shared: &Shared<L>) -> Option<Vec<Pass<L>>> {
+    let Ok(mut first) = shared.pass(rt) else {
+        return None;
+    };
+    let Ok(mut second) = shared.pass(rt) else {
+        return None;
+    };
     if !is_filled(rt, shared, &mut first, &mut second) {
-        return Err("a full journal".into());
+        return None;
     }
-    Ok(with_one_more(alone(alloc, first)?, second)?)
+    let Ok(one) = alone(alloc, first) else {
+        return None;
+    };
+    with_one_more(one, second).ok()
 }
 
 // Two passes fill the journal, and close.
-fn fills<L: Side, R: Wait>(rt: &R, alloc: Global, shared: Shared<L>) -> Result<bool, Fail> {
-    let passes = filled(rt, alloc, &shared)?;
-    Ok(lengths(shared, passes) == Some((1_048_576, 0)))
+fn fills<L: Side, R: Wait>(rt: &R, alloc: Global, shared: Shared<L>) -> bool {
+    let Some(passes) = filled(rt, alloc, &shared) else {
+        return false;
+    };
+    lengths(shared, passes) == Some((1_048_576, 0))
 }
 
 fn fills_the_journal<L: Side, R: Wait>(
@@ -105,19 +113,22 @@ fn fills_the_journal<L: Side, R: Wait>(
     blank: Blank,
     name: u32,
     plan: Plan,
-) -> Result<bool, Fail>
+) -> bool
     requires name { blank.name ≡ L.name }
     requires parts { (blank.parts ≡ L.parts) × (L.parts ≡ 65537) }
     requires called { name ≡ L.called }
     requires plan { plan ≡ L.plan }
 {
-    let shared = Shared::<L>::new(alloc, blank, name, plan)?;
+    let Ok(shared) = Shared::<L>::new(alloc, blank, name, plan) else {
+        return false;
+    };
     fills(rt, alloc, shared)
 }
 
 #[test]
-fn a_journal_is_full_at_its_limit(rt: HostRuntime) -> Result<(), Fail> {
-    let plan = plan(rt.alloc())?;
-    assert!(rt; fills_the_journal::<Brand, _>(&rt, rt.alloc(), Blank::new(PARTS), 1, plan)?);
-    Ok(())
+fn a_journal_is_full_at_its_limit(rt: HostRuntime) {
+    let Ok(plan) = plan(rt.alloc()) else {
+        panic!(rt; "a plan");
+    };
+    assert!(rt; fills_the_journal::<Brand, _>(&rt, rt.alloc(), Blank::new(PARTS), 1, plan));
 }

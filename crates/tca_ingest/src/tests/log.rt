@@ -1,6 +1,6 @@
 //! A log beside a plain list of reports that answers alike, at its limit, and with each growth refused in turn by a small heap.
 use linked_list_allocator::LocalHeap;
-use std::alloc::{Allocator, Global};
+use std::alloc::{AllocError, Allocator, Global};
 use std::test::Fail;
 use tca_join::{Join, JoinFault};
 use tca_log::rows::Rows;
@@ -33,21 +33,22 @@ fn within_ranges(place: u32, late: u32, octets: u32) -> Option<Report> {
     Report::new(identity, content)
 }
 
-fn report(place: u32, late: u32, octets: u32) -> Result<Report, Fail> {
-    Ok(within_ranges(place, late, octets).ok_or("a report within its ranges")?)
-}
-
-fn rows(alloc: Global, count: usize) -> Result<Vec<Report>, Fail> {
+fn rows(alloc: Global, count: usize) -> Option<Vec<Report>> {
     let mut list = Vec::new(alloc);
     for (place, late, octets) in ROWS {
-        list.push(report(place, late, octets)?)?;
+        let Some(report) = within_ranges(place, late, octets) else {
+            return None;
+        };
+        if list.push(report).is_err() {
+            return None;
+        }
     }
     list.truncate(count);
-    Ok(list)
+    Some(list)
 }
 
 // The list in one of its orders: each code below the factorial of its length gives another one.
-fn in_turn(left: &mut Vec<Report>, code: usize, order: &mut Vec<Report>) -> Result<(), Fail> {
+fn in_turn(left: &mut Vec<Report>, code: usize, order: &mut Vec<Report>) -> Result<(), AllocError> {
     let mut code = code;
     for _ in 0..6 {
         let count = left.len();
@@ -61,7 +62,7 @@ fn in_turn(left: &mut Vec<Report>, code: usize, order: &mut Vec<Report>) -> Resu
 }
 
 // What a plain list of reports answers to one more, which it then has.
-fn added_to(list: &mut Vec<Report>, report: Report) -> Result<Added, Fail> {
+fn added_to(list: &mut Vec<Report>, report: Report) -> Result<Added, AllocError> {
     if list.contains(&report) {
         return Ok(Added::Repeat);
     }
@@ -119,32 +120,36 @@ fn has_all<A: Allocator + Copy>(log: &Log<A>, list: &[Report]) -> bool {
 }
 
 // Adds each report to both, and compares the answers.
-fn add_each(log: &mut Log, plain: &mut Vec<Report>, order: &[Report]) -> Result<bool, Fail> {
+fn add_each(log: &mut Log, plain: &mut Vec<Report>, order: &[Report]) -> bool {
     for report in order {
-        let wanted = added_to(plain, *report)?;
+        let Ok(wanted) = added_to(plain, *report) else {
+            return false;
+        };
         if log.add(*report) != Ok(wanted) {
-            return Ok(false);
+            return false;
         }
     }
-    Ok(true)
+    true
 }
 
 // Whether a log has just the reports of a list, by each call that gives them.
-fn is_list(log: Log, list: &[Report]) -> Result<bool, Fail> {
+fn is_list(log: Log, list: &[Report]) -> bool {
     let all = has_all(&log, list) && log.len() as usize == list.len();
-    let reports = log.into_reports()?;
-    Ok(all && reports.as_slice() == list)
+    let Ok(reports) = log.into_reports() else {
+        return false;
+    };
+    all && reports.as_slice() == list
 }
 
 // Whether a log that gets the reports one by one answers as a plain list does and has what that has.
-fn agrees(alloc: Global, order: &[Report], disputed: u32) -> Result<bool, Fail> {
+fn agrees(alloc: Global, order: &[Report], disputed: u32) -> bool {
     let mut plain = Vec::new(alloc);
     let mut log = Log::new(alloc);
-    let alike = add_each(&mut log, &mut plain, order)?;
+    let alike = add_each(&mut log, &mut plain, order);
     plain.sort_unstable();
     let disputes = log.disputed() == disputed;
-    let all = is_list(log, &plain)?;
-    Ok(alike && all && disputes)
+    let all = is_list(log, &plain);
+    alike && all && disputes
 }
 
 fn unites_once(log: &mut Log, one: &Log) -> bool {
@@ -166,76 +171,82 @@ fn unites_each(alloc: Global, order: &[Report], list: &[Report]) -> bool {
     has_reports(&log, list)
 }
 
-fn adds_all(alloc: Global, order: &[Report], list: &[Report], new: u32) -> Result<bool, Fail> {
-    let given = Vec::from_slice(alloc, order)?;
+fn adds_all(alloc: Global, order: &[Report], list: &[Report], new: u32) -> bool {
+    let Ok(given) = Vec::from_slice(alloc, order) else {
+        return false;
+    };
     let mut log = Log::new(alloc);
     let added = log.add_all(given) == Ok(new);
-    Ok(added && has_all(&log, list))
+    added && has_all(&log, list)
 }
 
-fn rows_in_turn(
-    alloc: Global,
-    count: usize,
-    code: usize,
-    order: &mut Vec<Report>,
-) -> Result<(), Fail> {
-    let mut left = rows(alloc, count)?;
-    in_turn(&mut left, code, order)
+// Answers whether there was memory for them.
+fn rows_in_turn(alloc: Global, count: usize, code: usize, order: &mut Vec<Report>) -> bool {
+    let Some(mut left) = rows(alloc, count) else {
+        return false;
+    };
+    in_turn(&mut left, code, order).is_ok()
 }
 
 // The first rows in one of their orders, so many times.
-fn order_of(alloc: Global, count: usize, code: usize, times: u32) -> Result<Vec<Report>, Fail> {
+fn order_of(alloc: Global, count: usize, code: usize, times: u32) -> Option<Vec<Report>> {
     let mut order = Vec::new(alloc);
     for _ in 0..times {
-        rows_in_turn(alloc, count, code, &mut order)?;
+        if !rows_in_turn(alloc, count, code, &mut order) {
+            return None;
+        }
     }
-    Ok(order)
+    Some(order)
 }
 
-fn unites_in_turn(alloc: Global, code: usize, list: &[Report]) -> Result<bool, Fail> {
-    let once = order_of(alloc, 3, code, 1)?;
-    Ok(unites_each(alloc, &once, list))
+fn unites_in_turn(alloc: Global, code: usize, list: &[Report]) -> bool {
+    let Some(once) = order_of(alloc, 3, code, 1) else {
+        return false;
+    };
+    unites_each(alloc, &once, list)
 }
 
-fn adds_twice_in_turn(alloc: Global, code: usize, list: &[Report]) -> Result<bool, Fail> {
-    let twice = order_of(alloc, 3, code, 2)?;
-    Ok(adds_all(alloc, &twice, list, 3)? && agrees(alloc, &twice, 0)?)
+fn adds_twice_in_turn(alloc: Global, code: usize, list: &[Report]) -> bool {
+    let Some(twice) = order_of(alloc, 3, code, 2) else {
+        return false;
+    };
+    adds_all(alloc, &twice, list, 3) && agrees(alloc, &twice, 0)
 }
 
 // Whether an order of the first reports, each twice, gives one log by all three calls.
-fn is_one_log(alloc: Global, code: usize) -> Result<bool, Fail> {
-    let list = rows(alloc, 3)?;
-    Ok(unites_in_turn(alloc, code, &list)? && adds_twice_in_turn(alloc, code, &list)?)
+fn is_one_log(alloc: Global, code: usize) -> bool {
+    let Some(list) = rows(alloc, 3) else {
+        return false;
+    };
+    unites_in_turn(alloc, code, &list) && adds_twice_in_turn(alloc, code, &list)
 }
 
-fn agrees_in_turn(alloc: Global, count: usize, code: usize, disputed: u32) -> Result<bool, Fail> {
-    let order = order_of(alloc, count, code, 1)?;
+fn agrees_in_turn(alloc: Global, count: usize, code: usize, disputed: u32) -> bool {
+    let Some(order) = order_of(alloc, count, code, 1) else {
+        return false;
+    };
     agrees(alloc, &order, disputed)
 }
 
 #[test]
-fn every_order_and_repeats_give_one_log(rt: HostRuntime) -> Result<(), Fail> {
+fn every_order_and_repeats_give_one_log(rt: HostRuntime) {
     for code in 0..6 {
-        assert!(rt; is_one_log(rt.alloc(), code)?);
+        assert!(rt; is_one_log(rt.alloc(), code));
     }
-    Ok(())
 }
 
 // Whether an order agrees with one, two and three contents of the last identity.
-fn agrees_disputed(alloc: Global, code: usize) -> Result<bool, Fail> {
-    Ok(
-        agrees_in_turn(alloc, 4, code, 0)?
-            && agrees_in_turn(alloc, 5, code, 1)?
-            && agrees_in_turn(alloc, 6, code, 1)?,
-    )
+fn agrees_disputed(alloc: Global, code: usize) -> bool {
+    agrees_in_turn(alloc, 4, code, 0)
+        && agrees_in_turn(alloc, 5, code, 1)
+        && agrees_in_turn(alloc, 6, code, 1)
 }
 
 #[test]
-fn disputes_do_not_depend_on_the_order(rt: HostRuntime) -> Result<(), Fail> {
+fn disputes_do_not_depend_on_the_order(rt: HostRuntime) {
     for code in 0..720 {
-        assert!(rt; agrees_disputed(rt.alloc(), code)?);
+        assert!(rt; agrees_disputed(rt.alloc(), code));
     }
-    Ok(())
 }
 
 fn answers(log: &mut Log, report: Report, wanted: Added) -> bool {
@@ -252,25 +263,33 @@ fn answers_late(log: &mut Log, late: Report, second: Report, third: Report) -> b
         && answers(log, second, Added::Repeat)
 }
 
-// A log that gets a list at once, of which so many are new.
-fn log_of<A: Allocator + Copy>(alloc: A, list: &[Report], new: u32) -> Result<Log<A>, Fail> {
-    let given = Vec::from_slice(alloc, list)?;
+// A log that gets a list at once, where so many of it are new.
+fn log_of<A: Allocator + Copy>(alloc: A, list: &[Report], new: u32) -> Option<Log<A>> {
+    let Ok(given) = Vec::from_slice(alloc, list) else {
+        return None;
+    };
     let mut log = Log::new(alloc);
     if log.add_all(given) != Ok(new) {
-        return Err("another number of new reports".into());
+        return None;
     }
-    Ok(log)
+    Some(log)
 }
 
-fn is_copied(log: &Log, list: &[Report]) -> Result<bool, Fail> {
-    let copy = log.copy()?;
+fn is_copied(log: &Log, list: &[Report]) -> bool {
+    let Ok(copy) = log.copy() else {
+        return false;
+    };
     let disputed = copy.disputed();
-    Ok(is_list(copy, list)? && disputed == 1)
+    is_list(copy, list) && disputed == 1
 }
 
-fn copies(alloc: Global) -> Result<bool, Fail> {
-    let mut list = rows(alloc, 6)?;
-    let log = log_of(alloc, &list, 6)?;
+fn copies(alloc: Global) -> bool {
+    let Some(mut list) = rows(alloc, 6) else {
+        return false;
+    };
+    let Some(log) = log_of(alloc, &list, 6) else {
+        return false;
+    };
     list.sort_unstable();
     is_copied(&log, &list)
 }
@@ -284,29 +303,35 @@ fn disputes_late(alloc: Global, list: &[Report]) -> bool {
     alike && (log.len(), log.disputed()) == (3, 1)
 }
 
-fn disputes(alloc: Global) -> Result<bool, Fail> {
-    let list = rows(alloc, 6)?;
-    Ok(disputes_late(alloc, &list))
+fn disputes(alloc: Global) -> bool {
+    let Some(list) = rows(alloc, 6) else {
+        return false;
+    };
+    disputes_late(alloc, &list)
 }
 
 #[test]
-fn late_contents_dispute(rt: HostRuntime) -> Result<(), Fail> {
-    assert!(rt; disputes(rt.alloc())?);
-    assert!(rt; copies(rt.alloc())?);
-    Ok(())
+fn late_contents_dispute(rt: HostRuntime) {
+    assert!(rt; disputes(rt.alloc()));
+    assert!(rt; copies(rt.alloc()));
 }
 
 // 513 reports, of which 213 identities have two contents.
-fn many(alloc: Global) -> Result<Vec<Report>, Fail> {
+fn many(alloc: Global) -> Option<Vec<Report>> {
     let mut list = Vec::new(alloc);
     for i in 0..513 {
-        list.push(report(i % 300, i, 40 + i)?)?;
+        let Some(report) = within_ranges(i % 300, i, 40 + i) else {
+            return None;
+        };
+        if list.push(report).is_err() {
+            return None;
+        }
     }
-    Ok(list)
+    Some(list)
 }
 
 // The first, the last, the second, the last but one, and so on.
-fn alternating(alloc: Global, list: &[Report]) -> Result<Vec<Report>, Fail> {
+fn alternating(alloc: Global, list: &[Report]) -> Result<Vec<Report>, AllocError> {
     let mut order = Vec::new(alloc);
     for (i, report) in list.iter().enumerate() {
         order.push(*report)?;
@@ -315,18 +340,20 @@ fn alternating(alloc: Global, list: &[Report]) -> Result<Vec<Report>, Fail> {
     Ok(order)
 }
 
-fn agrees_alternating(alloc: Global, list: &[Report]) -> Result<bool, Fail> {
-    let order = alternating(alloc, list)?;
-    Ok(agrees(alloc, &order, 213)? && adds_all(alloc, &order, list, 513)?)
+fn agrees_alternating(alloc: Global, list: &[Report]) -> bool {
+    let Ok(order) = alternating(alloc, list) else {
+        return false;
+    };
+    agrees(alloc, &order, 213) && adds_all(alloc, &order, list, 513)
 }
 
 #[test]
 fn chunks_do_not_show(rt: HostRuntime) -> Result<(), Fail> {
-    let mut list = many(rt.alloc())?;
-    assert!(rt; agrees(rt.alloc(), &list, 213)?);
-    assert!(rt; agrees_alternating(rt.alloc(), &list)?);
+    let mut list = many(rt.alloc()).ok_or("513 reports")?;
+    assert!(rt; agrees(rt.alloc(), &list, 213));
+    assert!(rt; agrees_alternating(rt.alloc(), &list));
     list.reverse();
-    assert!(rt; agrees(rt.alloc(), &list, 213)?);
+    assert!(rt; agrees(rt.alloc(), &list, 213));
     Ok(())
 }
 
@@ -347,16 +374,20 @@ fn added_alone(
     alloc: Global,
     log: &mut Log,
     report: Report,
-) -> Result<Result<u32, LogFault>, Fail> {
+) -> Result<Result<u32, LogFault>, AllocError> {
     let given = Vec::from_slice(alloc, &[report])?;
     Ok(log.add_all(given))
 }
 
-fn refuses(alloc: Global, log: &mut Log, new: Report, old: Report) -> Result<bool, Fail> {
+fn refuses(alloc: Global, log: &mut Log, new: Report, old: Report) -> bool {
     let alone = log.add(new) == Err(LogFault::Full) && log.add(old) == Ok(Added::Repeat);
-    let new = added_alone(alloc, log, new)?;
-    let old = added_alone(alloc, log, old)?;
-    Ok(alone && new == Err(LogFault::Full) && old == Ok(0) && log.len() == LIMIT)
+    let Ok(new) = added_alone(alloc, log, new) else {
+        return false;
+    };
+    let Ok(old) = added_alone(alloc, log, old) else {
+        return false;
+    };
+    alone && new == Err(LogFault::Full) && old == Ok(0) && log.len() == LIMIT
 }
 
 // Through the trait alone.
@@ -378,10 +409,11 @@ fn refuses_union(alloc: Global, log: &mut Log, report: Report) -> bool {
 
 #[test]
 fn a_full_log_refuses_what_is_new(rt: HostRuntime) -> Result<(), Fail> {
-    let (new, old) = (report(9, LIMIT, 40)?, report(9, 9, 40)?);
+    let new = within_ranges(9, LIMIT, 40).ok_or("a report within its ranges")?;
+    let old = within_ranges(9, 9, 40).ok_or("a report within its ranges")?;
     let mut log = Log::new(rt.alloc());
     assert!(rt; fill(&mut log));
-    assert!(rt; refuses(rt.alloc(), &mut log, new, old)?);
+    assert!(rt; refuses(rt.alloc(), &mut log, new, old));
     assert!(rt; refuses_union(rt.alloc(), &mut log, new));
     Ok(())
 }
@@ -414,17 +446,22 @@ fn joins_both(first: &Log, second: &Log, list: &[Report]) -> bool {
         && joins_to(first, first, part(list, 0, 400))
 }
 
-fn joins(alloc: Global) -> Result<bool, Fail> {
-    let list = many(alloc)?;
-    let second = log_of(alloc, part(&list, 200, 513), 313)?;
-    let first = log_of(alloc, part(&list, 0, 400), 400)?;
-    Ok(joins_both(&first, &second, &list))
+fn joins(alloc: Global) -> bool {
+    let Some(list) = many(alloc) else {
+        return false;
+    };
+    let Some(second) = log_of(alloc, part(&list, 200, 513), 313) else {
+        return false;
+    };
+    let Some(first) = log_of(alloc, part(&list, 0, 400), 400) else {
+        return false;
+    };
+    joins_both(&first, &second, &list)
 }
 
 #[test]
-fn logs_join_to_their_union(rt: HostRuntime) -> Result<(), Fail> {
-    assert!(rt; joins(rt.alloc())?);
-    Ok(())
+fn logs_join_to_their_union(rt: HostRuntime) {
+    assert!(rt; joins(rt.alloc()));
 }
 
 // No growth in the sweeps below takes less, so that heaps that differ by it refuse each in turn. The least is that of
@@ -512,7 +549,7 @@ fn dispute_step(small: &LocalHeap, before: &[Report], content: Report, after: &[
 }
 
 // What the heap held after each refusal, once for heaps in a row that then held the same.
-fn kept(alloc: Global, steps: &[Step]) -> Result<Vec<usize>, Fail> {
+fn kept(alloc: Global, steps: &[Step]) -> Result<Vec<usize>, AllocError> {
     let mut kept = Vec::new(alloc);
     for step in steps {
         if let Step::Refused(octets) = *step {
@@ -525,8 +562,11 @@ fn kept(alloc: Global, steps: &[Step]) -> Result<Vec<usize>, Fail> {
 }
 
 // Whether so many growths were refused in turn, and then none.
-fn refuses_in_turn(alloc: Global, steps: &[Step], growths: usize) -> Result<bool, Fail> {
-    Ok(kept(alloc, steps)?.len() == growths && ends_done(steps))
+fn refuses_in_turn(alloc: Global, steps: &[Step], growths: usize) -> bool {
+    let Ok(kept) = kept(alloc, steps) else {
+        return false;
+    };
+    kept.len() == growths && ends_done(steps)
 }
 
 fn dispute_within(
@@ -535,7 +575,7 @@ fn dispute_within(
     before: &[Report],
     content: Report,
     after: &[Report],
-) -> Result<Step, Fail> {
+) -> Result<Step, AllocError> {
     let small = LocalHeap::new(alloc, octets)?;
     Ok(dispute_step(&small, before, content, after))
 }
@@ -545,7 +585,7 @@ fn dispute_steps(
     before: &[Report],
     content: Report,
     after: &[Report],
-) -> Result<Vec<Step>, Fail> {
+) -> Result<Vec<Step>, AllocError> {
     let mut met = Vec::new(alloc);
     for size in 1..1024 {
         let step = dispute_within(alloc, STEP * size, before, content, after)?;
@@ -557,31 +597,53 @@ fn dispute_steps(
     Ok(met)
 }
 
-#[test]
-fn a_refused_dispute_leaves_the_log_as_it_was(rt: HostRuntime) -> Result<(), Fail> {
-    let (first, content) = (report(3, 50, 600)?, report(3, 60, 601)?);
-    let met = dispute_steps(rt.alloc(), &[first], content, &[first, content])?;
+// The late report, and a second content of its identity.
+fn late_steps(alloc: Global) -> Option<Vec<Step>> {
+    let Some(first) = within_ranges(3, 50, 600) else {
+        return None;
+    };
+    let Some(content) = within_ranges(3, 60, 601) else {
+        return None;
+    };
+    dispute_steps(alloc, &[first], content, &[first, content]).ok()
+}
+
+fn refuses_late(alloc: Global) -> bool {
+    let Some(met) = late_steps(alloc) else {
+        return false;
+    };
     // Refused to the reports, to the disputed identities' list of chunks, and to a chunk of these.
-    assert!(rt; refuses_in_turn(rt.alloc(), &met, 3)?);
-    Ok(())
+    refuses_in_turn(alloc, &met, 3)
+}
+
+#[test]
+fn a_refused_dispute_leaves_the_log_as_it_was(rt: HostRuntime) {
+    assert!(rt; refuses_late(rt.alloc()));
 }
 
 // The same beside the three other worked rows.
-fn other_steps(alloc: Global, list: &[Report]) -> Result<Vec<Step>, Fail> {
+fn other_steps(alloc: Global, list: &[Report]) -> Option<Vec<Step>> {
     let [a, b, c, late, content] = list else {
-        return Err("five rows".into());
+        return None;
     };
     let after = [*a, *late, *content, *b, *c];
-    dispute_steps(alloc, &[*a, *late, *b, *c], *content, &after)
+    dispute_steps(alloc, &[*a, *late, *b, *c], *content, &after).ok()
+}
+
+fn refuses_beside_others(alloc: Global) -> bool {
+    let Some(list) = rows(alloc, 5) else {
+        return false;
+    };
+    let Some(met) = other_steps(alloc, &list) else {
+        return false;
+    };
+    // The reports have room for a fifth.
+    refuses_in_turn(alloc, &met, 2)
 }
 
 #[test]
-fn a_refused_dispute_leaves_other_reports_too(rt: HostRuntime) -> Result<(), Fail> {
-    let list = rows(rt.alloc(), 5)?;
-    let met = other_steps(rt.alloc(), &list)?;
-    // The reports have room for a fifth.
-    assert!(rt; refuses_in_turn(rt.alloc(), &met, 2)?);
-    Ok(())
+fn a_refused_dispute_leaves_other_reports_too(rt: HostRuntime) {
+    assert!(rt; refuses_beside_others(rt.alloc()));
 }
 
 // What a log of three reports answers to a second content of the second. All four are given in order.
@@ -614,13 +676,13 @@ fn late_content_step(small: &LocalHeap, list: &[Report], all: &[Report]) -> Step
     late_answer(&mut log, small, list, all)
 }
 
-fn late_content_within(alloc: Global, octets: usize, all: &[Report]) -> Result<Step, Fail> {
+fn late_content_within(alloc: Global, octets: usize, all: &[Report]) -> Result<Step, AllocError> {
     let small = LocalHeap::new(alloc, octets)?;
     Ok(late_content_step(&small, part(all, 0, 3), all))
 }
 
 // All four are given in order.
-fn late_content_steps(alloc: Global, all: &[Report]) -> Result<Vec<Step>, Fail> {
+fn late_content_steps(alloc: Global, all: &[Report]) -> Result<Vec<Step>, AllocError> {
     let mut met = Vec::new(alloc);
     for size in 1..1024 {
         let step = late_content_within(alloc, STEP * size, all)?;
@@ -632,20 +694,38 @@ fn late_content_steps(alloc: Global, all: &[Report]) -> Result<Vec<Step>, Fail> 
     Ok(met)
 }
 
-fn three_and(alloc: Global, content: Report) -> Result<Vec<Report>, Fail> {
-    let mut all = rows(alloc, 3)?;
-    all.push(content)?;
-    Ok(all)
+fn three_and(alloc: Global, content: Report) -> Option<Vec<Report>> {
+    let Some(mut all) = rows(alloc, 3) else {
+        return None;
+    };
+    if all.push(content).is_err() {
+        return None;
+    }
+    Some(all)
+}
+
+fn refuses_content(alloc: Global, content: Report) -> bool {
+    let Some(all) = three_and(alloc, content) else {
+        return false;
+    };
+    let Ok(met) = late_content_steps(alloc, &all) else {
+        return false;
+    };
+    // Refused to the reports, to the index that is made now, to the disputed identities' list of chunks, and to a chunk of
+    // these.
+    refuses_in_turn(alloc, &met, 4)
+}
+
+fn refuses_later(alloc: Global) -> bool {
+    match within_ranges(1, 300, 60) {
+        Some(content) => refuses_content(alloc, content),
+        None => false,
+    }
 }
 
 #[test]
-fn a_list_in_order_is_disputed_later(rt: HostRuntime) -> Result<(), Fail> {
-    let all = three_and(rt.alloc(), report(1, 300, 60)?)?;
-    let met = late_content_steps(rt.alloc(), &all)?;
-    // Refused to the reports, to the index that is made now, to the disputed identities' list of chunks, and to a chunk of
-    // these.
-    assert!(rt; refuses_in_turn(rt.alloc(), &met, 4)?);
-    Ok(())
+fn a_list_in_order_is_disputed_later(rt: HostRuntime) {
+    assert!(rt; refuses_later(rt.alloc()));
 }
 
 // The calls that take many reports.
@@ -656,7 +736,7 @@ enum Call {
 }
 
 // 256 reports, which fill a chunk, then two whose identities lie between theirs, and a second content of the first.
-fn chunk_and_three(alloc: Global) -> Result<Vec<Report>, Fail> {
+fn chunk_and_three(alloc: Global) -> Option<Vec<Report>> {
     let mut list = Vec::new(alloc);
     for i in 0..259 {
         let place = match i {
@@ -665,9 +745,14 @@ fn chunk_and_three(alloc: Global) -> Result<Vec<Report>, Fail> {
             258 => 0,
             _ => 2 * i,
         };
-        list.push(report(place, i, 40)?)?;
+        let Some(report) = within_ranges(place, i, 40) else {
+            return None;
+        };
+        if list.push(report).is_err() {
+            return None;
+        }
     }
-    Ok(list)
+    Some(list)
 }
 
 fn called<'a>(
@@ -716,7 +801,7 @@ fn call_step<'a>(
     call: Call,
     (lower, more): (&[Report], &[Report]),
     list: &[Report],
-) -> Result<Step, Fail> {
+) -> Result<Step, AllocError> {
     let mut other = Log::new(ample);
     if add_to(&mut other, more).is_err() {
         return Ok(Step::Wrong);
@@ -731,7 +816,7 @@ fn call_within(
     call: Call,
     parts: (&[Report], &[Report]),
     list: &[Report],
-) -> Result<Step, Fail> {
+) -> Result<Step, AllocError> {
     let ample = LocalHeap::new(alloc, 1 << 17)?;
     let small = LocalHeap::new(alloc, octets)?;
     call_step((&small, &ample), call, parts, list)
@@ -743,7 +828,7 @@ fn calls_within(
     call: Call,
     parts: (&[Report], &[Report]),
     list: &[Report],
-) -> Result<Vec<Step>, Fail> {
+) -> Result<Vec<Step>, AllocError> {
     let mut met = Vec::new(alloc);
     for size in 320..1024 {
         let step = call_within(alloc, STEP * size, call, parts, list)?;
@@ -756,10 +841,14 @@ fn calls_within(
 }
 
 // The last reports, some of which the log has, each twice and out of order.
-fn call_steps(alloc: Global, call: Call) -> Result<Vec<Step>, Fail> {
-    let list = chunk_and_three(alloc)?;
-    let more = alternating(alloc, part(&list, 200, 259))?;
-    calls_within(alloc, call, (part(&list, 0, 256), &more), &list)
+fn call_steps(alloc: Global, call: Call) -> Option<Vec<Step>> {
+    let Some(list) = chunk_and_three(alloc) else {
+        return None;
+    };
+    let Ok(more) = alternating(alloc, part(&list, 200, 259)) else {
+        return None;
+    };
+    calls_within(alloc, call, (part(&list, 0, 256), &more), &list).ok()
 }
 
 // Whether each growth was refused in turn. The call's own come first: the new reports, their order by identity, the
@@ -767,26 +856,26 @@ fn call_steps(alloc: Global, call: Call) -> Result<Vec<Step>, Fail> {
 // reports, the disputed identities' list of chunks, a chunk of these, and a chunk of the index, at whose refusal the
 // chunk of the disputed is freed again, so that it leaves what that chunk's own left; the lists of chunks of the reports
 // and of the index have room. Three new reports are so few that their order, which is freed before, makes no room for any.
-fn refuses_each_growth(alloc: Global, call: Call) -> Result<bool, Fail> {
-    let met = call_steps(alloc, call)?;
+fn refuses_each_growth(alloc: Global, call: Call) -> bool {
+    let Some(met) = call_steps(alloc, call) else {
+        return false;
+    };
     let from_the_first = matches!(met.first(), Some(Step::Before));
-    Ok(from_the_first && refuses_in_turn(alloc, &met, 4)?)
+    from_the_first && refuses_in_turn(alloc, &met, 4)
 }
 
 #[test]
-fn a_refused_union_leaves_the_log_as_it_was(rt: HostRuntime) -> Result<(), Fail> {
-    assert!(rt; refuses_each_growth(rt.alloc(), Call::Union)?);
-    Ok(())
+fn a_refused_union_leaves_the_log_as_it_was(rt: HostRuntime) {
+    assert!(rt; refuses_each_growth(rt.alloc(), Call::Union));
 }
 
 #[test]
-fn a_refused_list_leaves_the_log_as_it_was(rt: HostRuntime) -> Result<(), Fail> {
-    assert!(rt; refuses_each_growth(rt.alloc(), Call::AddAll)?);
-    Ok(())
+fn a_refused_list_leaves_the_log_as_it_was(rt: HostRuntime) {
+    assert!(rt; refuses_each_growth(rt.alloc(), Call::AddAll));
 }
 
 // Takes all that a heap has left, so that it refuses each growth.
-fn exhausted(alloc: Global, heap: &LocalHeap) -> Result<Vec<Vec<u8, &LocalHeap>>, Fail> {
+fn exhausted(alloc: Global, heap: &LocalHeap) -> Result<Vec<Vec<u8, &LocalHeap>>, AllocError> {
     let mut taken = Vec::new(alloc);
     for _ in 0..4096 {
         let Ok(block) = Vec::with_capacity(heap, 1) else {
@@ -826,26 +915,41 @@ fn has_them_exhausted<'a>(
     log: &mut Log<&'a LocalHeap>,
     list: &[Report],
     other: &Log<&'a LocalHeap>,
-) -> Result<bool, Fail> {
-    let given = Vec::from_slice(heap, list)?;
-    let taken = exhausted(alloc, heap)?;
+) -> bool {
+    let Ok(given) = Vec::from_slice(heap, list) else {
+        return false;
+    };
+    let Ok(taken) = exhausted(alloc, heap) else {
+        return false;
+    };
     let kept = has_them_already(log, heap, list, other);
     let repeats = log.add_all(given) == Ok(0);
-    Ok(kept && repeats && taken.len() > 0)
+    kept && repeats && taken.len() > 0
 }
 
-fn has_them_without_memory(alloc: Global, heap: &LocalHeap, list: &[Report]) -> Result<bool, Fail> {
-    let other = log_of(heap, list, 6)?;
-    let mut log = log_of(heap, list, 6)?;
+fn has_them_without_memory(alloc: Global, heap: &LocalHeap, list: &[Report]) -> bool {
+    let Some(other) = log_of(heap, list, 6) else {
+        return false;
+    };
+    let Some(mut log) = log_of(heap, list, 6) else {
+        return false;
+    };
     has_them_exhausted((alloc, heap), &mut log, list, &other)
 }
 
+fn has_rows_without_memory(alloc: Global) -> bool {
+    let Ok(heap) = LocalHeap::new(alloc, 1 << 17) else {
+        return false;
+    };
+    let Some(list) = rows(alloc, 6) else {
+        return false;
+    };
+    has_them_without_memory(alloc, &heap, &list)
+}
+
 #[test]
-fn what_is_there_already_takes_no_memory(rt: HostRuntime) -> Result<(), Fail> {
-    let heap = LocalHeap::new(rt.alloc(), 1 << 17)?;
-    let list = rows(rt.alloc(), 6)?;
-    assert!(rt; has_them_without_memory(rt.alloc(), &heap, &list)?);
-    Ok(())
+fn what_is_there_already_takes_no_memory(rt: HostRuntime) {
+    assert!(rt; has_rows_without_memory(rt.alloc()));
 }
 
 #[test]
@@ -869,8 +973,15 @@ fn rows_are_put_and_withdrawn_without_memory(rt: HostRuntime) -> Result<(), Fail
     Ok(())
 }
 
+fn says(alloc: Global, fault: LogFault, text: &str) -> bool {
+    match format!(in alloc; "{fault}") {
+        Ok(said) => said.as_str() == text,
+        Err(_) => false,
+    }
+}
+
 #[test]
-fn faults_have_numbers_and_texts(rt: HostRuntime) -> Result<(), Fail> {
+fn faults_have_numbers_and_texts(rt: HostRuntime) {
     for (fault, number, text) in [
         (
             LogFault::Full,
@@ -880,7 +991,6 @@ fn faults_have_numbers_and_texts(rt: HostRuntime) -> Result<(), Fail> {
         (LogFault::Memory, 2, "no memory for more reports in the log"),
     ] {
         assert!(rt; fault.number() == number);
-        assert!(rt; format!(in rt.alloc(); "{fault}")?.as_str() == text);
+        assert!(rt; says(rt.alloc(), fault, text));
     }
-    Ok(())
 }

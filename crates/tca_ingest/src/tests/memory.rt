@@ -65,7 +65,7 @@ fn takes_twice<L: Side, R: Wait>(
     shared: &Shared<L>,
     passes: &mut Vec<Pass<L>>,
 ) -> Result<usize, Fail> {
-    let list = reports(alloc, &[FIRST, SECOND, THIRD])?;
+    let list = reports(alloc, &[FIRST, SECOND, THIRD]).ok_or("reports")?;
     let mut pass = shared.pass(rt)?;
     let first = takes(rt, shared, &mut pass, &list).ok_or("a take")?;
     let again = takes(rt, shared, &mut pass, &list).ok_or("a take")?;
@@ -77,7 +77,8 @@ fn takes_twice<L: Side, R: Wait>(
 fn twice<L: Side, R: Wait>(rt: &R, alloc: Global, shared: Shared<L>) -> Result<bool, Fail> {
     let mut passes = Vec::with_capacity(alloc, 1)?;
     let count = takes_twice(rt, alloc, &shared, &mut passes)?;
-    Ok(has(&closed_with(shared, passes)?, count)?)
+    let closed = closed_with(shared, passes).ok_or("a close")?;
+    Ok(has(&closed, count)?)
 }
 
 fn takes_again<L: Side, R: Wait>(

@@ -3,11 +3,10 @@ ghost use Rattle.std.specs.Prelude.{◌≡◌};
 
 use super::{FIRST, PARTS, SECOND, THIRD, alone, closed_with, plan, reports, with_one_more};
 use crate::{Closed, Entry, Pass, Shared, Side};
-use std::alloc::{AllocError, Global};
+use std::alloc::Global;
 use std::marker::Brand;
 use std::sync::Wait;
 use std::sync::ledger::Blank;
-use std::test::Fail;
 use std::thread;
 use std::thread::Threads;
 use tca_accounts::Plan;
@@ -23,17 +22,37 @@ struct Day {
     delta: Delta,
 }
 
-fn planned(alloc: Global) -> Result<Day, Fail> {
-    let mut runs = Vec::new(alloc);
-    runs.push(Run {
+// The delta that both absorb.
+fn absorbed(alloc: Global) -> Option<Delta> {
+    let Some(reports) = reports(alloc, &[THIRD, (9, 3, 40)]) else {
+        return None;
+    };
+    let run = Run {
         origin: 2,
         start: 0,
-        reports: reports(alloc, &[THIRD, (9, 3, 40)])?,
-    })?;
-    Ok(Day {
-        some: reports(alloc, &[FIRST, SECOND, (5, 7, 90)])?,
-        others: reports(alloc, &[SECOND, THIRD, (6, 8, 70), (5, 9, 60)])?,
-        delta: Delta::of(runs).ok_or("a delta")?,
+        reports,
+    };
+    let mut runs = Vec::new(alloc);
+    if runs.push(run).is_err() {
+        return None;
+    }
+    Delta::of(runs)
+}
+
+fn planned(alloc: Global) -> Option<Day> {
+    let Some(delta) = absorbed(alloc) else {
+        return None;
+    };
+    let Some(some) = reports(alloc, &[FIRST, SECOND, (5, 7, 90)]) else {
+        return None;
+    };
+    let Some(others) = reports(alloc, &[SECOND, THIRD, (6, 8, 70), (5, 9, 60)]) else {
+        return None;
+    };
+    Some(Day {
+        some,
+        others,
+        delta,
     })
 }
 
@@ -95,13 +114,18 @@ fn are_same(one: &Log, other: &Log) -> bool {
 }
 
 // Whether the replica is as one that a single thread gave all of it, with this many entries.
-fn is_as_plain(closed: &Closed, plain: &mut Replica, day: &Day) -> Result<bool, AllocError> {
+fn is_as_plain(closed: &Closed, plain: &mut Replica, day: &Day) -> bool {
     plain.take(&day.some);
     plain.take(&day.others);
     let absorbed = plain.absorb(&day.delta).is_ok();
-    let same_bill = closed.replica.totals()?.is_same(&plain.totals()?);
+    let Ok(bill) = closed.replica.totals() else {
+        return false;
+    };
+    let Ok(plain_bill) = plain.totals() else {
+        return false;
+    };
     let whole = closed.journal.len() == 16 && absorbed;
-    Ok(whole && same_bill && are_same(closed.replica.log(), plain.log()))
+    whole && bill.is_same(&plain_bill) && are_same(closed.replica.log(), plain.log())
 }
 
 // The passes of two threads that were refused nothing.
@@ -110,12 +134,20 @@ fn worked<L: Side + Send + Sync, R: Threads + Wait + Sync>(
     alloc: Global,
     shared: &Shared<L>,
     day: &Day,
-) -> Result<Vec<Pass<L>>, Fail> {
-    let (mut first, mut second) = (shared.pass(rt)?, shared.pass(rt)?);
+) -> Option<Vec<Pass<L>>> {
+    let Ok(mut first) = shared.pass(rt) else {
+        return None;
+    };
+    let Ok(mut second) = shared.pass(rt) else {
+        return None;
+    };
     if !at_once(rt, shared, &mut first, &mut second, day) {
-        return Err("a refusal".into());
+        return None;
     }
-    Ok(with_one_more(alone(alloc, second)?, first)?)
+    let Ok(one) = alone(alloc, second) else {
+        return None;
+    };
+    with_one_more(one, first).ok()
 }
 
 // What two threads leave of a replica.
@@ -124,8 +156,10 @@ fn closed_after<L: Side + Send + Sync, R: Threads + Wait + Sync>(
     alloc: Global,
     shared: Shared<L>,
     day: &Day,
-) -> Result<Closed, Fail> {
-    let passes = worked(rt, alloc, &shared, day)?;
+) -> Option<Closed> {
+    let Some(passes) = worked(rt, alloc, &shared, day) else {
+        return None;
+    };
     closed_with(shared, passes)
 }
 
@@ -135,11 +169,15 @@ fn shares<L: Side + Send + Sync, R: Threads + Wait + Sync>(
     alloc: Global,
     shared: Shared<L>,
     plain: Replica,
-) -> Result<bool, Fail> {
-    let day = planned(alloc)?;
-    let closed = closed_after(rt, alloc, shared, &day)?;
+) -> bool {
+    let Some(day) = planned(alloc) else {
+        return false;
+    };
+    let Some(closed) = closed_after(rt, alloc, shared, &day) else {
+        return false;
+    };
     let mut other = plain;
-    Ok(is_as_plain(&closed, &mut other, &day)?)
+    is_as_plain(&closed, &mut other, &day)
 }
 
 fn by_two<L: Side + Send + Sync, R: Threads + Wait + Sync>(
@@ -148,20 +186,28 @@ fn by_two<L: Side + Send + Sync, R: Threads + Wait + Sync>(
     blank: Blank,
     name: u32,
     plan: Plan,
-) -> Result<bool, Fail>
+) -> bool
     requires name { blank.name ≡ L.name }
     requires parts { (blank.parts ≡ L.parts) × (L.parts ≡ 65537) }
     requires called { name ≡ L.called }
     requires plan { plan ≡ L.plan }
 {
-    let plain = Replica::new(alloc, name, plan.copy(alloc)?)?;
-    let shared = Shared::<L>::new(alloc, blank, name, plan)?;
+    let Ok(copy) = plan.copy(alloc) else {
+        return false;
+    };
+    let Ok(plain) = Replica::new(alloc, name, copy) else {
+        return false;
+    };
+    let Ok(shared) = Shared::<L>::new(alloc, blank, name, plan) else {
+        return false;
+    };
     shares(rt, alloc, shared, plain)
 }
 
 #[test]
-fn two_threads_share_a_replica(rt: HostRuntime) -> Result<(), Fail> {
-    let plan = plan(rt.alloc())?;
-    assert!(rt; by_two::<Brand, _>(&rt, rt.alloc(), Blank::new(PARTS), 1, plan)?);
-    Ok(())
+fn two_threads_share_a_replica(rt: HostRuntime) {
+    let Ok(plan) = plan(rt.alloc()) else {
+        panic!(rt; "a plan");
+    };
+    assert!(rt; by_two::<Brand, _>(&rt, rt.alloc(), Blank::new(PARTS), 1, plan));
 }

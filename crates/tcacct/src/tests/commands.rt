@@ -76,30 +76,31 @@ fn prints_by(alloc: Global, spec: &str, inputs: &[Vec<u8>], lines: &str) -> bool
     }
 }
 
-fn prints(alloc: Global, inputs: &[&[Row]], lines: &str) -> Result<bool, AllocError> {
-    let inputs = exports(alloc, inputs)?;
-    Ok(prints_by(alloc, SPEC, &inputs, lines))
+fn prints(alloc: Global, inputs: &[&[Row]], lines: &str) -> bool {
+    let Ok(inputs) = exports(alloc, inputs) else {
+        return false;
+    };
+    prints_by(alloc, SPEC, &inputs, lines)
 }
 
 #[test]
-fn meters_in_order_of_time(rt: HostRuntime) -> Result<(), Fail> {
+fn meters_in_order_of_time(rt: HostRuntime) {
     let alloc = rt.alloc();
     let three = [FIRST, SECOND, THIRD];
-    assert!(rt; prints(alloc, &[&three], THREE_LINES)?);
-    assert!(rt; prints(alloc, &[&three, &three], THREE_LINES)?);
-    assert!(rt; prints(alloc, &[&[FIRST, THIRD], &[SECOND]], THREE_LINES)?);
+    assert!(rt; prints(alloc, &[&three], THREE_LINES));
+    assert!(rt; prints(alloc, &[&three, &three], THREE_LINES));
+    assert!(rt; prints(alloc, &[&[FIRST, THIRD], &[SECOND]], THREE_LINES));
     let late = [FIRST, (50, 3, 600), SECOND, THIRD];
     let lines = "green 1500 1\nyellow 600 1\nred 1800 2\n";
-    assert!(rt; prints(alloc, &[&late], lines)?);
-    assert!(rt; prints(alloc, &[&[]], "green 0 0\nyellow 0 0\nred 0 0\n")?);
-    Ok(())
+    assert!(rt; prints(alloc, &[&late], lines));
+    assert!(rt; prints(alloc, &[&[]], "green 0 0\nyellow 0 0\nred 0 0\n"));
 }
 
 #[test]
-fn meters_no_disputed_content(rt: HostRuntime) -> Result<(), Fail> {
+fn meters_no_disputed_content(rt: HostRuntime) {
     let alloc = rt.alloc();
     let two = [FIRST, (50, 3, 600), (60, 3, 601), SECOND, THIRD];
-    assert!(rt; prints(alloc, &[&two], THREE_LINES)?);
+    assert!(rt; prints(alloc, &[&two], THREE_LINES));
     let three = [
         FIRST,
         (50, 3, 600),
@@ -108,25 +109,18 @@ fn meters_no_disputed_content(rt: HostRuntime) -> Result<(), Fail> {
         SECOND,
         THIRD,
     ];
-    assert!(rt; prints(alloc, &[&three], THREE_LINES)?);
+    assert!(rt; prints(alloc, &[&three], THREE_LINES));
     assert!(rt;
         prints(
             alloc,
             &[&[FIRST, (60, 3, 601), SECOND, THIRD], &[(50, 3, 600)]],
             THREE_LINES
-        )?
+        )
     );
-    Ok(())
 }
 
-// Whether a meter gives these lines for packets at one time, each of so many octets and with a code
-// point.
-fn gives(
-    alloc: Global,
-    spec: &str,
-    packets: &[(u32, u8)],
-    lines: &str,
-) -> Result<bool, AllocError> {
+// The export of packets at one time, each of so many octets and with a code point, as the one input.
+fn export_of_packets(alloc: Global, packets: &[(u32, u8)]) -> Result<Vec<Vec<u8>>, AllocError> {
     let mut rows = Vec::new(alloc);
     let mut code_points = Vec::new(alloc);
     for (place, (size, code_point)) in packets.iter().enumerate() {
@@ -135,20 +129,29 @@ fn gives(
     }
     let mut inputs = Vec::new(alloc);
     inputs.push(export_with(alloc, &rows, &code_points)?)?;
-    Ok(prints_by(alloc, spec, &inputs, lines))
+    Ok(inputs)
+}
+
+// Whether a meter gives these lines for such packets.
+fn gives(alloc: Global, spec: &str, packets: &[(u32, u8)], lines: &str) -> bool {
+    let Ok(inputs) = export_of_packets(alloc, packets) else {
+        return false;
+    };
+    prints_by(alloc, spec, &inputs, lines)
 }
 
 #[test]
-fn meters_by_two_rates(rt: HostRuntime) -> Result<(), Fail> {
+fn meters_by_two_rates(rt: HostRuntime) {
     let alloc = rt.alloc();
-    let inputs = exports(alloc, &[&[(0, 0, 1500), (0, 1, 500), (1, 2, 3)]])?;
+    let Ok(inputs) = exports(alloc, &[&[(0, 0, 1500), (0, 1, 500), (1, 2, 3)]]) else {
+        panic!(rt; "inputs");
+    };
     let lines = "green 500 1\nyellow 1500 1\nred 3 1\n";
     assert!(rt; prints_by(alloc, "rfc2698:2000:2000:1000:1000:blind", &inputs, lines));
-    Ok(())
 }
 
 #[test]
-fn meters_by_an_excess_rate(rt: HostRuntime) -> Result<(), Fail> {
+fn meters_by_an_excess_rate(rt: HostRuntime) {
     let alloc = rt.alloc();
     let thousands = [(1000, 0), (1000, 0), (1000, 0)];
     let exact = "green 1000 1\nyellow 1000 1\nred 1000 1\n";
@@ -159,7 +162,7 @@ fn meters_by_an_excess_rate(rt: HostRuntime) -> Result<(), Fail> {
             "rfc4115:1000:1000:1000:1000:exact:blind",
             &thousands,
             exact
-        )?
+        )
     );
     assert!(rt;
         gives(
@@ -167,13 +170,12 @@ fn meters_by_an_excess_rate(rt: HostRuntime) -> Result<(), Fail> {
             "rfc4115:1000:1000:1000:1000:below:blind",
             &thousands,
             below
-        )?
+        )
     );
-    Ok(())
 }
 
 #[test]
-fn meters_with_precolours(rt: HostRuntime) -> Result<(), Fail> {
+fn meters_with_precolours(rt: HostRuntime) {
     let alloc = rt.alloc();
     let aware = "rfc2697:1000:2000:1000:aware";
     for (packet, lines) in [
@@ -181,23 +183,24 @@ fn meters_with_precolours(rt: HostRuntime) -> Result<(), Fail> {
         ((1000, 12), "green 0 0\nyellow 1000 1\nred 0 0\n"),
         ((2000, 46), "green 2000 1\nyellow 0 0\nred 0 0\n"),
     ] {
-        assert!(rt; gives(alloc, aware, &[packet], lines)?);
+        assert!(rt; gives(alloc, aware, &[packet], lines));
     }
     let all = [(100, 14), (1000, 12), (2000, 46)];
     let lines = "green 2000 1\nyellow 1000 1\nred 100 1\n";
-    assert!(rt; gives(alloc, aware, &all, lines)?);
+    assert!(rt; gives(alloc, aware, &all, lines));
     let blind = "green 1100 2\nyellow 0 0\nred 2000 1\n";
-    assert!(rt; gives(alloc, SPEC, &all, blind)?);
-    Ok(())
+    assert!(rt; gives(alloc, SPEC, &all, blind));
 }
 
-fn is_refused(alloc: Global, spec: &str, number: u8) -> Result<bool, AllocError> {
-    let inputs = exports(alloc, &[&[FIRST, SECOND, THIRD]])?;
-    Ok(metered(alloc, spec, &inputs).err() == Some(refusal(None, Family::Spec, number)))
+fn is_refused(alloc: Global, spec: &str, number: u8) -> bool {
+    let Ok(inputs) = exports(alloc, &[&[FIRST, SECOND, THIRD]]) else {
+        return false;
+    };
+    metered(alloc, spec, &inputs).err() == Some(refusal(None, Family::Spec, number))
 }
 
 #[test]
-fn refuses_specs(rt: HostRuntime) -> Result<(), Fail> {
+fn refuses_specs(rt: HostRuntime) {
     for (spec, number) in [
         ("rfc2697:1000:0:0:blind", 2),
         ("rfc2697:1000000000001:1:1:blind", 2),
@@ -211,25 +214,25 @@ fn refuses_specs(rt: HostRuntime) -> Result<(), Fail> {
         ("rfc2697:+1000:1:1:blind", 1),
         ("", 1),
     ] {
-        assert!(rt; is_refused(rt.alloc(), spec, number)?, "{spec}");
+        assert!(rt; is_refused(rt.alloc(), spec, number), "{spec}");
     }
-    Ok(())
 }
 
 // The refusal of a second input that is cut short.
-fn cut_short(alloc: Global) -> Result<Option<RunFault>, AllocError> {
+fn cut_short(alloc: Global) -> Option<RunFault> {
     let three = [FIRST, SECOND, THIRD];
-    let mut inputs = exports(alloc, &[&three, &three])?;
+    let Ok(mut inputs) = exports(alloc, &[&three, &three]) else {
+        return None;
+    };
     if let Some(last) = inputs.last_mut() {
         let _octet = last.pop();
     }
-    Ok(metered(alloc, SPEC, &inputs).err())
+    metered(alloc, SPEC, &inputs).err()
 }
 
 #[test]
-fn refuses_an_input_that_is_cut(rt: HostRuntime) -> Result<(), Fail> {
-    assert!(rt; cut_short(rt.alloc())? == Some(refusal(Some(1), Family::Export, 4)));
-    Ok(())
+fn refuses_an_input_that_is_cut(rt: HostRuntime) {
+    assert!(rt; cut_short(rt.alloc()) == Some(refusal(Some(1), Family::Export, 4)));
 }
 
 // One message: a template, and one record of 1500 octets at the start, place 5, code point 10.
@@ -241,69 +244,74 @@ pub(super) const TEMPLATE_AND_RECORD: [u8; 65] = [
     0x01,
 ];
 
-// What `meter` answers for these octets as its one input.
-fn meters(alloc: Global, octets: &[u8]) -> Result<Result<Vec<u8>, RunFault>, AllocError> {
+// These octets as the one input.
+fn one_input(alloc: Global, octets: &[u8]) -> Result<Vec<Vec<u8>>, AllocError> {
     let mut inputs = Vec::new(alloc);
     inputs.push(Vec::from_slice(alloc, octets)?)?;
-    Ok(metered(alloc, SPEC, &inputs))
+    Ok(inputs)
 }
 
-fn meters_to(alloc: Global, octets: &[u8], lines: &str) -> Result<bool, AllocError> {
-    match meters(alloc, octets)? {
-        Ok(text) => Ok(text.as_slice() == lines.as_bytes()),
-        Err(_) => Ok(false),
+// What `meter` answers for these octets as its one input.
+fn meters(alloc: Global, octets: &[u8]) -> Result<Vec<u8>, RunFault> {
+    let inputs = one_input(alloc, octets)?;
+    metered(alloc, SPEC, &inputs)
+}
+
+fn meters_to(alloc: Global, octets: &[u8], lines: &str) -> bool {
+    match meters(alloc, octets) {
+        Ok(text) => text.as_slice() == lines.as_bytes(),
+        Err(_) => false,
     }
 }
 
-fn meters_with(alloc: Global, at: usize, octet: u8) -> Result<Option<RunFault>, AllocError> {
+fn meters_with(alloc: Global, at: usize, octet: u8) -> Option<RunFault> {
     let mut octets = TEMPLATE_AND_RECORD;
     if at < octets.len() {
         octets[at] = octet;
     }
-    Ok(meters(alloc, &octets)?.err())
+    meters(alloc, &octets).err()
 }
 
 #[test]
-fn meters_captures(rt: HostRuntime) -> Result<(), Fail> {
+fn meters_captures(rt: HostRuntime) {
     let alloc = rt.alloc();
     assert!(rt;
         meters_to(
             alloc,
             &TEMPLATE_AND_RECORD,
             "green 1500 1\nyellow 0 0\nred 0 0\n"
-        )?
+        )
     );
-    assert!(rt; meters_to(alloc, b"", "green 0 0\nyellow 0 0\nred 0 0\n")?);
+    assert!(rt; meters_to(alloc, b"", "green 0 0\nyellow 0 0\nred 0 0\n"));
     let (cut, _) = TEMPLATE_AND_RECORD.split_at(64);
-    assert!(rt; meters(alloc, cut)?.err() == Some(refusal(Some(0), Family::Wire, 1)));
-    assert!(rt; meters_with(alloc, 1, 9)? == Some(refusal(Some(0), Family::Wire, 2)));
+    assert!(rt; meters(alloc, cut).err() == Some(refusal(Some(0), Family::Wire, 1)));
+    assert!(rt; meters_with(alloc, 1, 9) == Some(refusal(Some(0), Family::Wire, 2)));
     let mut octets = TEMPLATE_AND_RECORD;
     (octets[20], octets[21]) = (0x00, 0xff);
-    assert!(rt; meters(alloc, &octets)?.err() == Some(refusal(Some(0), Family::Decode, 1)));
-    Ok(())
+    assert!(rt; meters(alloc, &octets).err() == Some(refusal(Some(0), Family::Decode, 1)));
 }
 
 // Whether a capture combines to an export that combines to the same octets.
-fn combines_again(alloc: Global) -> Result<bool, AllocError> {
-    let mut inputs = Vec::new(alloc);
-    inputs.push(Vec::from_slice(alloc, &TEMPLATE_AND_RECORD)?)?;
+fn combines_again(alloc: Global) -> bool {
+    let Ok(inputs) = one_input(alloc, &TEMPLATE_AND_RECORD) else {
+        return false;
+    };
     let (mut first, mut second) = (Host::new(Vec::new(alloc)), Host::new(Vec::new(alloc)));
     let mut out = Host::new(Vec::new(alloc));
     if inputs.len() > 1 || run_combine(alloc, &inputs, &mut first, &mut out).is_err() {
-        return Ok(false);
+        return false;
     }
     let first = first.into_inner();
-    let mut exports = Vec::new(alloc);
-    exports.push(Vec::from_slice(alloc, &first)?)?;
+    let Ok(exports) = one_input(alloc, &first) else {
+        return false;
+    };
     if exports.len() > 1 || run_combine(alloc, &exports, &mut second, &mut out).is_err() {
-        return Ok(false);
+        return false;
     }
     let (second, out) = (second.into_inner(), out.into_inner());
-    Ok(
-        first.as_slice() == EXPORT_OF_RECORD
-            && second.as_slice() == EXPORT_OF_RECORD
-            && out.as_slice() == b"reports 1\nreports 1\n".as_slice(),
-    )
+    first.as_slice() == EXPORT_OF_RECORD
+        && second.as_slice() == EXPORT_OF_RECORD
+        && out.as_slice() == b"reports 1\nreports 1\n".as_slice()
 }
 
 // The export of that one report.
@@ -311,44 +319,41 @@ const EXPORT_OF_RECORD: &[u8] =
     b"TCAX\x00\x01\x00\x00\x00\x01\x00\x00\x01\x8b\xcf\xe5\x68\x00\x00\x00\x00\x07\x00\x00\x00\x05\x00\x00\x05\xdc\x0a\x00\x00\x00\x01";
 
 #[test]
-fn combines_a_capture_to_its_export(rt: HostRuntime) -> Result<(), Fail> {
-    assert!(rt; combines_again(rt.alloc())?);
-    Ok(())
+fn combines_a_capture_to_its_export(rt: HostRuntime) {
+    assert!(rt; combines_again(rt.alloc()));
 }
 
 // Whether the inputs combine to the export of these rows, with this line.
-fn combine_to(
-    alloc: Global,
-    inputs: &[&[Row]],
-    rows: &[Row],
-    line: &str,
-) -> Result<bool, AllocError> {
-    let inputs = exports(alloc, inputs)?;
-    let whole = export(alloc, rows)?;
+fn combine_to(alloc: Global, inputs: &[&[Row]], rows: &[Row], line: &str) -> bool {
+    let Ok(inputs) = exports(alloc, inputs) else {
+        return false;
+    };
+    let Ok(whole) = export(alloc, rows) else {
+        return false;
+    };
     if inputs.len() > 2 {
-        return Ok(false);
+        return false;
     }
     let (mut written, mut out) = (Host::new(Vec::new(alloc)), Host::new(Vec::new(alloc)));
     let done = run_combine(alloc, &inputs, &mut written, &mut out).is_ok();
     let (written, out) = (written.into_inner(), out.into_inner());
-    Ok(done && written.as_slice() == whole.as_slice() && out.as_slice() == line.as_bytes())
+    done && written.as_slice() == whole.as_slice() && out.as_slice() == line.as_bytes()
 }
 
 #[test]
-fn combines(rt: HostRuntime) -> Result<(), Fail> {
+fn combines(rt: HostRuntime) {
     let alloc = rt.alloc();
     let three = [FIRST, SECOND, THIRD];
     let parts: [&[Row]; 2] = [&[FIRST, SECOND], &[SECOND, THIRD]];
-    assert!(rt; combine_to(alloc, &parts, &three, "reports 3\n")?);
-    assert!(rt; combine_to(alloc, &[&[]], &[], "reports 0\n")?);
-    Ok(())
+    assert!(rt; combine_to(alloc, &parts, &three, "reports 3\n"));
+    assert!(rt; combine_to(alloc, &[&[]], &[], "reports 0\n"));
 }
 
 #[test]
-fn combines_disputed_reports_too(rt: HostRuntime) -> Result<(), Fail> {
+fn combines_disputed_reports_too(rt: HostRuntime) {
     let alloc = rt.alloc();
     let five = [FIRST, (50, 3, 600), (60, 3, 601), SECOND, THIRD];
-    assert!(rt; combine_to(alloc, &[&five], &five, "reports 5\n")?);
+    assert!(rt; combine_to(alloc, &[&five], &five, "reports 5\n"));
     let six = [
         FIRST,
         (50, 3, 600),
@@ -357,8 +362,7 @@ fn combines_disputed_reports_too(rt: HostRuntime) -> Result<(), Fail> {
         SECOND,
         THIRD,
     ];
-    assert!(rt; combine_to(alloc, &[&six], &six, "reports 6\n")?);
-    Ok(())
+    assert!(rt; combine_to(alloc, &[&six], &six, "reports 6\n"));
 }
 
 // Takes no octet.
@@ -376,10 +380,12 @@ impl io::Write for Full {
 }
 
 // The refusals of all commands over writers that take nothing, and what went to the others.
-fn over_full_writers(alloc: Global) -> Result<bool, AllocError> {
-    let inputs = exports(alloc, &[&[FIRST]])?;
+fn over_full_writers(alloc: Global) -> bool {
+    let Ok(inputs) = exports(alloc, &[&[FIRST]]) else {
+        return false;
+    };
     if inputs.len() > 2 {
-        return Ok(false);
+        return false;
     }
     let plan = PLAN.as_bytes();
     let failed = Some(refusal(None, Family::Write, 1));
@@ -392,13 +398,12 @@ fn over_full_writers(alloc: Global) -> Result<bool, AllocError> {
     let stated = run_bill_plain(alloc, plan, &inputs, Some(&mut export), &mut full).err();
     let refused = metered == failed && combined == failed;
     let bill_refused = exported == failed && stated == failed;
-    Ok(refused && bill_refused && out.into_inner().is_empty())
+    refused && bill_refused && out.into_inner().is_empty()
 }
 
 #[test]
-fn refuses_a_write_that_fails(rt: HostRuntime) -> Result<(), Fail> {
-    assert!(rt; over_full_writers(rt.alloc())?);
-    Ok(())
+fn refuses_a_write_that_fails(rt: HostRuntime) {
+    assert!(rt; over_full_writers(rt.alloc()));
 }
 
 // One account, RFC 2697 blind, with the traffic of one interface.
@@ -438,27 +443,33 @@ fn billed(
 }
 
 // Whether these inputs are billed with this statement behind its first two lines.
-fn states(alloc: Global, inputs: &[&[Row]], lines: &str) -> Result<bool, AllocError> {
-    let inputs = exports(alloc, inputs)?;
+fn states(alloc: Global, inputs: &[&[Row]], lines: &str) -> bool {
+    let Ok(inputs) = exports(alloc, inputs) else {
+        return false;
+    };
     states_inputs(alloc, &inputs, lines)
 }
 
-fn states_octets(alloc: Global, inputs: &[&[u8]], lines: &str) -> Result<bool, AllocError> {
+fn states_octets(alloc: Global, inputs: &[&[u8]], lines: &str) -> bool {
     let mut all = Vec::new(alloc);
     for octets in inputs {
-        all.push(Vec::from_slice(alloc, octets)?)?;
+        let Ok(input) = Vec::from_slice(alloc, octets) else {
+            return false;
+        };
+        if all.push(input).is_err() {
+            return false;
+        }
     }
     states_inputs(alloc, &all, lines)
 }
 
-fn states_inputs(alloc: Global, inputs: &[Vec<u8>], lines: &str) -> Result<bool, AllocError> {
+fn states_inputs(alloc: Global, inputs: &[Vec<u8>], lines: &str) -> bool {
+    let Ok(text) = format!(in alloc; "{OPENING}{lines}") else {
+        return false;
+    };
     match billed(alloc, PLAN, inputs, false) {
-        Ok(billed) => {
-            let mut text = String::from_str(alloc, OPENING)?;
-            text.push_str(lines)?;
-            Ok(billed.statement.as_slice() == text.as_bytes())
-        }
-        Err(_) => Ok(false),
+        Ok(billed) => billed.statement.as_slice() == text.as_bytes(),
+        Err(_) => false,
     }
 }
 
@@ -466,11 +477,11 @@ pub(super) const THREE_REPORTS: &str =
     "reports 3\ndisputed 0\nunassigned 0\naccount alpha\ntotal 1500 1 1000 1 800 1\nspan 472222 1500 1 1000 1 800 1\nend\n";
 
 #[test]
-fn bills_the_union_of_the_inputs(rt: HostRuntime) -> Result<(), Fail> {
+fn bills_the_union_of_the_inputs(rt: HostRuntime) {
     let alloc = rt.alloc();
     let three = [FIRST, SECOND, THIRD];
-    assert!(rt; states(alloc, &[&three], THREE_REPORTS)?);
-    assert!(rt; states(alloc, &[&[THIRD], &[FIRST, SECOND], &three], THREE_REPORTS)?);
+    assert!(rt; states(alloc, &[&three], THREE_REPORTS));
+    assert!(rt; states(alloc, &[&[THIRD], &[FIRST, SECOND], &three], THREE_REPORTS));
     let lines =
         "reports 5\ndisputed 1\nunassigned 0\naccount alpha\ntotal 1500 1 1000 1 800 1\nspan 472222 1500 1 1000 1 800 1\nend\n";
     assert!(rt;
@@ -478,16 +489,15 @@ fn bills_the_union_of_the_inputs(rt: HostRuntime) -> Result<(), Fail> {
             alloc,
             &[&[FIRST, (60, 3, 601), SECOND, THIRD], &[(50, 3, 600)]],
             lines
-        )?
+        )
     );
     let lines = "reports 0\ndisputed 0\nunassigned 0\naccount alpha\ntotal 0 0 0 0 0 0\nend\n";
-    assert!(rt; states(alloc, &[&[]], lines)?);
-    assert!(rt; states_octets(alloc, &[b""], lines)?);
-    Ok(())
+    assert!(rt; states(alloc, &[&[]], lines));
+    assert!(rt; states_octets(alloc, &[b""], lines));
 }
 
 #[test]
-fn bills_one_set_alike_in_each_order(rt: HostRuntime) -> Result<(), Fail> {
+fn bills_one_set_alike_in_each_order(rt: HostRuntime) {
     let alloc = rt.alloc();
     let (a, b, c): (&[Row], &[Row], &[Row]) = (&[FIRST], &[SECOND], &[THIRD]);
     for inputs in [
@@ -498,15 +508,18 @@ fn bills_one_set_alike_in_each_order(rt: HostRuntime) -> Result<(), Fail> {
         [c, a, b],
         [c, b, a],
     ] {
-        assert!(rt; states(alloc, &inputs, THREE_REPORTS)?, "{inputs:?}");
+        assert!(rt; states(alloc, &inputs, THREE_REPORTS), "{inputs:?}");
     }
-    Ok(())
 }
 
 // Whether the export of the union goes out where it is asked for.
-fn exports_when_asked(alloc: Global) -> Result<bool, AllocError> {
-    let inputs = exports(alloc, &[&[THIRD], &[FIRST, SECOND]])?;
-    let whole = export(alloc, &[FIRST, SECOND, THIRD])?;
+fn exports_when_asked(alloc: Global) -> bool {
+    let Ok(inputs) = exports(alloc, &[&[THIRD], &[FIRST, SECOND]]) else {
+        return false;
+    };
+    let Ok(whole) = export(alloc, &[FIRST, SECOND, THIRD]) else {
+        return false;
+    };
     let with = match billed(alloc, PLAN, &inputs, true) {
         Ok(billed) => billed.export.as_slice() == whole.as_slice() && billed.notes.len() == 2,
         Err(_) => false,
@@ -515,13 +528,19 @@ fn exports_when_asked(alloc: Global) -> Result<bool, AllocError> {
         Ok(billed) => billed.export.is_empty() && billed.statement.len() == 144,
         Err(_) => false,
     };
-    Ok(with && without)
+    with && without
 }
 
 #[test]
-fn writes_the_export_of_a_bill(rt: HostRuntime) -> Result<(), Fail> {
-    assert!(rt; exports_when_asked(rt.alloc())?);
-    Ok(())
+fn writes_the_export_of_a_bill(rt: HostRuntime) {
+    assert!(rt; exports_when_asked(rt.alloc()));
+}
+
+// The export of the first report, and these octets behind it.
+fn first_and(alloc: Global, octets: &[u8]) -> Result<Vec<Vec<u8>>, AllocError> {
+    let mut inputs = exports(alloc, &[&[FIRST]])?;
+    inputs.push(Vec::from_slice(alloc, octets)?)?;
+    Ok(inputs)
 }
 
 // Whether a plan and inputs are refused so.
@@ -530,33 +549,34 @@ fn bill_is_refused(alloc: Global, plan: &str, inputs: &[Vec<u8>], fault: RunFaul
 }
 
 #[test]
-fn judges_the_plan_before_the_inputs(rt: HostRuntime) -> Result<(), Fail> {
+fn judges_the_plan_before_the_inputs(rt: HostRuntime) {
     let alloc = rt.alloc();
-    let mut inputs = exports(alloc, &[&[FIRST]])?;
-    inputs.push(Vec::from_slice(alloc, b"TCAX\x00\x01\x00\x00\x00")?)?;
+    let Ok(inputs) = first_and(alloc, b"TCAX\x00\x01\x00\x00\x00") else {
+        panic!(rt; "inputs");
+    };
     let plan = refusal(None, Family::Plan, 3);
     assert!(rt; bill_is_refused(alloc, "period = 0\n", &inputs, plan));
     let input = refusal(Some(1), Family::Export, 4);
     assert!(rt; bill_is_refused(alloc, PLAN, &inputs, input));
-    Ok(())
 }
 
 // What is noted of the message with one octet changed.
-fn noted(alloc: Global, at: usize, octet: u8) -> Result<Option<Notes>, AllocError> {
+fn noted(alloc: Global, at: usize, octet: u8) -> Option<Notes> {
     let mut octets = TEMPLATE_AND_RECORD;
     if at < octets.len() {
         octets[at] = octet;
     }
-    let mut inputs = exports(alloc, &[&[FIRST]])?;
-    inputs.push(Vec::from_slice(alloc, &octets)?)?;
+    let Ok(inputs) = first_and(alloc, &octets) else {
+        return None;
+    };
     match billed(alloc, PLAN, &inputs, false) {
-        Ok(billed) => Ok(billed.notes.last().copied()),
-        Err(_) => Ok(None),
+        Ok(billed) => billed.notes.last().copied(),
+        Err(_) => None,
     }
 }
 
 #[test]
-fn answers_the_notes_of_each_input(rt: HostRuntime) -> Result<(), Fail> {
+fn answers_the_notes_of_each_input(rt: HostRuntime) {
     let alloc = rt.alloc();
     let none = Notes {
         messages: 1,
@@ -564,21 +584,20 @@ fn answers_the_notes_of_each_input(rt: HostRuntime) -> Result<(), Fail> {
         unplaced: 0,
         skipped: 0,
     };
-    assert!(rt; noted(alloc, 1, 10)? == Some(none));
+    assert!(rt; noted(alloc, 1, 10) == Some(none));
     // The template set has an identifier that is skipped, so the record's template isn't known.
     let skipped = Notes {
         unplaced: 1,
         skipped: 1,
         ..none
     };
-    assert!(rt; noted(alloc, 17, 4)? == Some(skipped));
+    assert!(rt; noted(alloc, 17, 4) == Some(skipped));
     // The time is read in seconds from 1900, and lies before 1970.
     let early = Notes {
         not_reports: [0, 0, 0, 1, 0, 0, 0],
         ..none
     };
-    assert!(rt; noted(alloc, 25, 0x44)? == Some(early));
-    Ok(())
+    assert!(rt; noted(alloc, 25, 0x44) == Some(early));
 }
 
 // The plan of the README's example, `data/plan.toml`.
@@ -639,9 +658,10 @@ end
 ";
 
 // Whether that is its statement, and what was noted beside its reports.
-fn bills_example(alloc: Global) -> Result<bool, AllocError> {
-    let mut inputs = Vec::new(alloc);
-    inputs.push(Vec::from_slice(alloc, &EXAMPLE_CAPTURE)?)?;
+fn bills_example(alloc: Global) -> bool {
+    let Ok(inputs) = one_input(alloc, &EXAMPLE_CAPTURE) else {
+        return false;
+    };
     let notes = Notes {
         messages: 2,
         not_reports: [0; 7],
@@ -652,16 +672,15 @@ fn bills_example(alloc: Global) -> Result<bool, AllocError> {
         Ok(billed) => {
             let statement = billed.statement.as_slice() == EXAMPLE_STATEMENT.as_bytes();
             let noted = billed.notes.len() == 1 && billed.notes.last().copied() == Some(notes);
-            Ok(statement && noted)
+            statement && noted
         }
-        Err(_) => Ok(false),
+        Err(_) => false,
     }
 }
 
 #[test]
-fn bills_the_example_of_the_readme(rt: HostRuntime) -> Result<(), Fail> {
-    assert!(rt; bills_example(rt.alloc())?);
-    Ok(())
+fn bills_the_example_of_the_readme(rt: HostRuntime) {
+    assert!(rt; bills_example(rt.alloc()));
 }
 
 // The header of a message of so many octets, with a sequence number.
@@ -722,8 +741,10 @@ fn places_of_the_message_twice(alloc: Global) -> Result<(Option<Notes>, Vec<u8>)
 }
 
 #[test]
-fn counts_a_report_once_that_comes_again_behind_its_template(rt: HostRuntime) -> Result<(), Fail> {
-    let (notes, places) = places_of_the_message_twice(rt.alloc())?;
+fn counts_a_report_once_that_comes_again_behind_its_template(rt: HostRuntime) {
+    let Ok((notes, places)) = places_of_the_message_twice(rt.alloc()) else {
+        panic!(rt; "places");
+    };
     assert!(rt;
         notes
             == Some(Notes {
@@ -734,5 +755,4 @@ fn counts_a_report_once_that_comes_again_behind_its_template(rt: HostRuntime) ->
             })
     );
     assert!(rt; places.as_slice() == [20, 21, 22].as_slice());
-    Ok(())
 }

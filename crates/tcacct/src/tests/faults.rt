@@ -3,6 +3,7 @@ use crate::fault::{Family, RunFault};
 use crate::line::LineFault;
 use crate::notes::NotesLine;
 use std::alloc::{AllocError, Global};
+use std::fmt::Display;
 use std::test::*;
 use tca_report::Notes;
 
@@ -23,8 +24,15 @@ const FAMILIES: [(Family, &str); 13] = [
     (Family::Memory, "memory"),
 ];
 
+fn says<D: Display>(alloc: Global, value: &D, text: &str) -> bool {
+    match format!(in alloc; "{value}") {
+        Ok(said) => said.as_str() == text,
+        Err(_) => false,
+    }
+}
+
 // Whether a refusal prints its family's name and its number, alone and in a line of its own, and ends with status 1.
-fn prints(alloc: Global, family: Family, name: &str, number: u8) -> Result<bool, AllocError> {
+fn prints(alloc: Global, family: Family, name: &str, number: u8) -> bool {
     let fault = RunFault {
         input: Some(3),
         family,
@@ -34,24 +42,25 @@ fn prints(alloc: Global, family: Family, name: &str, number: u8) -> Result<bool,
         word: "a file",
         fault,
     };
-    let text = format!(in alloc; "{name} {number}")?;
-    let line = format!(in alloc; "tcacct: a file: {name} {number}\n")?;
-    let printed = format!(in alloc; "{fault}")?;
-    let printed_line = format!(in alloc; "{refused}")?;
-    let is_text = printed.as_str() == text.as_str();
-    Ok(is_text && printed_line.as_str() == line.as_str() && refused.status() == 1)
+    let Ok(text) = format!(in alloc; "{name} {number}") else {
+        return false;
+    };
+    let Ok(line) = format!(in alloc; "tcacct: a file: {name} {number}\n") else {
+        return false;
+    };
+    let is_text = says(alloc, &fault, text.as_str());
+    is_text && says(alloc, &refused, line.as_str()) && refused.status() == 1
 }
 
 #[test]
-fn prints_faults(rt: HostRuntime) -> Result<(), Fail> {
+fn prints_faults(rt: HostRuntime) {
     let alloc = rt.alloc();
     for (family, name) in FAMILIES {
-        assert!(rt; format!(in alloc; "{family}")?.as_str() == name);
+        assert!(rt; says(alloc, &family, name));
         for number in [1u8, 7, 10] {
-            assert!(rt; prints(alloc, family, name, number)?, "{family} {number}");
+            assert!(rt; prints(alloc, family, name, number), "{family} {number}");
         }
     }
-    Ok(())
 }
 
 fn usage(alloc: Global) -> Result<LineFault, AllocError> {
@@ -67,11 +76,17 @@ fn help(alloc: Global) -> Result<LineFault, AllocError> {
 }
 
 #[test]
-fn prints_and_numbers_line_faults(rt: HostRuntime) -> Result<(), Fail> {
+fn prints_and_numbers_line_faults(rt: HostRuntime) {
     let alloc = rt.alloc();
+    let Ok(usage) = usage(alloc) else {
+        panic!(rt; "a usage");
+    };
+    let Ok(help) = help(alloc) else {
+        panic!(rt; "a help");
+    };
     for (fault, number, text, line, status) in [
-        (usage(alloc)?, 1, "error: no\n", "error: no\n", 2),
-        (help(alloc)?, 2, "Usage: so\n", "", 0),
+        (usage, 1, "error: no\n", "error: no\n", 2),
+        (help, 2, "Usage: so\n", "", 0),
         (
             LineFault::Memory,
             3,
@@ -81,16 +96,15 @@ fn prints_and_numbers_line_faults(rt: HostRuntime) -> Result<(), Fail> {
         ),
     ] {
         assert!(rt; fault.number() == number);
-        assert!(rt; format!(in alloc; "{fault}")?.as_str() == text);
+        assert!(rt; says(alloc, &fault, text));
         let ending = Ending::NoCommand(fault);
-        assert!(rt; format!(in alloc; "{ending}")?.as_str() == line);
+        assert!(rt; says(alloc, &ending, line));
         assert!(rt; ending.status() == status);
     }
-    Ok(())
 }
 
 #[test]
-fn prints_notes(rt: HostRuntime) -> Result<(), Fail> {
+fn prints_notes(rt: HostRuntime) {
     let alloc = rt.alloc();
     for (not_reports, unplaced, skipped, line) in [
         ([0; 7], 0, 0, ""),
@@ -119,7 +133,6 @@ fn prints_notes(rt: HostRuntime) -> Result<(), Fail> {
                 skipped,
             },
         };
-        assert!(rt; format!(in alloc; "{notes}")?.as_str() == line);
+        assert!(rt; says(alloc, &notes, line));
     }
-    Ok(())
 }

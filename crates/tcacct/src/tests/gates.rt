@@ -83,10 +83,12 @@ fn bills<R: Threads + Wait + Sync, G: Gate>(
     alloc: Global,
     replicas: u32,
     gate: &G,
-) -> Result<bool, Fail> {
-    let inputs = export_of_each(alloc, &[FIRST, SECOND, THIRD])?;
+) -> bool {
+    let Ok(inputs) = export_of_each(alloc, &[FIRST, SECOND, THIRD]) else {
+        return false;
+    };
     if inputs.len() != 3 || replicas < 1 || replicas > 2 {
-        return Ok(false);
+        return false;
     }
     let mut out = Host::new(Vec::new(alloc));
     let export: Option<&mut Host<Vec<u8>>> = None;
@@ -94,38 +96,38 @@ fn bills<R: Threads + Wait + Sync, G: Gate>(
     let billed = run_bill(
         rt, alloc, plan, &inputs, replicas, 2, gate, export, &mut out,
     );
-    let text = format!(in alloc; "{OPENING}{THREE_REPORTS}")?;
-    Ok(billed.is_ok() && out.into_inner().as_slice() == text.as_bytes())
+    let Ok(text) = format!(in alloc; "{OPENING}{THREE_REPORTS}") else {
+        return false;
+    };
+    billed.is_ok() && out.into_inner().as_slice() == text.as_bytes()
 }
 
 #[test]
-fn two_jobs_meet(rt: HostRuntime) -> Result<(), Fail> {
+fn two_jobs_meet(rt: HostRuntime) {
     let gate = Meeting {
         rt: &rt,
         first: AtomicU64::new(0),
         second: AtomicU64::new(0),
         met: AtomicU64::new(0),
     };
-    assert!(rt; bills(&rt, rt.alloc(), 1, &gate)?);
+    assert!(rt; bills(&rt, rt.alloc(), 1, &gate));
     assert!(rt; gate.met.load(Ordering::SeqCst) == 2);
-    Ok(())
 }
 
 // The first replica has two inputs, the second one.
 #[test]
-fn each_replica_has_its_own_jobs(rt: HostRuntime) -> Result<(), Fail> {
+fn each_replica_has_its_own_jobs(rt: HostRuntime) {
     let gate = Watch {
         came: AtomicU64::new(0),
         first: AtomicU64::new(0),
         second: AtomicU64::new(0),
         third: AtomicU64::new(0),
     };
-    assert!(rt; bills(&rt, rt.alloc(), 2, &gate)?);
+    assert!(rt; bills(&rt, rt.alloc(), 2, &gate));
     let first = gate.first.load(Ordering::SeqCst);
     let second = gate.second.load(Ordering::SeqCst);
     let third = gate.third.load(Ordering::SeqCst);
     assert!(rt; gate.came.load(Ordering::SeqCst) == 3);
     assert!(rt; (first == 1 && second == 2) || (first == 2 && second == 1));
     assert!(rt; third == 1);
-    Ok(())
 }

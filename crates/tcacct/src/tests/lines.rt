@@ -3,14 +3,14 @@ use std::alloc::Global;
 use std::test::*;
 
 #[test]
-fn reads_lines(rt: HostRuntime) -> Result<(), Fail> {
+fn reads_lines(rt: HostRuntime) {
     let words = ["tcacct", "meter", "s", "a"];
     match read_line(rt.alloc(), words.as_slice()) {
         Ok(Line::Meter { spec, inputs }) => {
             assert!(rt; spec == "s");
             assert!(rt; inputs.as_slice() == ["a"].as_slice());
         }
-        _ => return Err("no meter line".into()),
+        _ => panic!(rt; "no meter line"),
     }
     let words = ["tcacct", "combine", "o", "a", "b"];
     match read_line(rt.alloc(), words.as_slice()) {
@@ -18,7 +18,7 @@ fn reads_lines(rt: HostRuntime) -> Result<(), Fail> {
             assert!(rt; out == "o");
             assert!(rt; inputs.as_slice() == ["a", "b"].as_slice());
         }
-        _ => return Err("no combine line".into()),
+        _ => panic!(rt; "no combine line"),
     }
     let words = [
         "tcacct",
@@ -46,7 +46,7 @@ fn reads_lines(rt: HostRuntime) -> Result<(), Fail> {
             assert!(rt; plan == "p");
             assert!(rt; inputs.as_slice() == ["a", "b"].as_slice());
         }
-        _ => return Err("no bill line".into()),
+        _ => panic!(rt; "no bill line"),
     }
     let words = ["tcacct", "audit", "p", "e", "s"];
     match read_line(rt.alloc(), words.as_slice()) {
@@ -61,9 +61,8 @@ fn reads_lines(rt: HostRuntime) -> Result<(), Fail> {
             assert!(rt; export == "e");
             assert!(rt; statement == "s");
         }
-        _ => return Err("no audit line".into()),
+        _ => panic!(rt; "no audit line"),
     }
-    Ok(())
 }
 
 // The text of a wrong command line.
@@ -83,7 +82,7 @@ fn help(alloc: Global, words: &[&str]) -> Option<String> {
 }
 
 #[test]
-fn refuses_wrong_lines(rt: HostRuntime) -> Result<(), Fail> {
+fn refuses_wrong_lines(rt: HostRuntime) {
     let lines: [(&[&str], &str); 11] = [
         (&[], "Usage: tcacct"),
         (&["tcacct"], "Usage: tcacct"),
@@ -110,14 +109,15 @@ fn refuses_wrong_lines(rt: HostRuntime) -> Result<(), Fail> {
         ),
     ];
     for (words, part) in lines {
-        let text = usage(rt.alloc(), words).ok_or("no usage")?;
+        let Some(text) = usage(rt.alloc(), words) else {
+            panic!(rt; "no usage");
+        };
         assert!(rt; text.as_str().contains(part), "{words:?}: {text}");
     }
-    Ok(())
 }
 
 #[test]
-fn gives_help(rt: HostRuntime) -> Result<(), Fail> {
+fn gives_help(rt: HostRuntime) {
     let lines: [(&[&str], &str); 6] = [
         (&["tcacct", "--help"], "Usage: tcacct <COMMAND>"),
         (&["tcacct", "-h"], "Usage: tcacct <COMMAND>"),
@@ -136,8 +136,9 @@ fn gives_help(rt: HostRuntime) -> Result<(), Fail> {
         ),
     ];
     for (words, part) in lines {
-        let text = help(rt.alloc(), words).ok_or("no help")?;
+        let Some(text) = help(rt.alloc(), words) else {
+            panic!(rt; "no help");
+        };
         assert!(rt; text.as_str().contains(part), "{words:?}: {text}");
     }
-    Ok(())
 }

@@ -103,30 +103,71 @@ const NUMBERS: [(u32, u32); 12] = [
     (16, 5),
 ];
 
-#[test]
-fn bills_alike_by_each_number_of_replicas_and_workers(rt: HostRuntime) -> Result<(), Fail> {
-    let alloc = rt.alloc();
-    let inputs = export_of_each(alloc, &[FIRST, SECOND, THIRD])?;
-    let plainly = billed_plainly(alloc, &inputs)?;
-    let text = format!(in alloc; "{OPENING}{THREE_REPORTS}")?;
-    assert!(rt; (plainly.statement.as_slice(), text.len()) == (text.as_bytes(), 144));
-    let whole = export(alloc, &[FIRST, SECOND, THIRD])?;
-    assert!(rt; (plainly.export.as_slice(), plainly.notes) == (whole.as_slice(), 3));
-    for (replicas, workers) in NUMBERS {
-        let billed = billed(&rt, alloc, &inputs, replicas, workers)?;
-        assert!(rt; are_same(&billed, &plainly), "{replicas} {workers}");
-    }
-    Ok(())
+// Whether a bill has the statement of the three reports.
+fn states_three(alloc: Global, bill: &Written) -> bool {
+    let Ok(text) = format!(in alloc; "{OPENING}{THREE_REPORTS}") else {
+        return false;
+    };
+    (bill.statement.as_slice(), text.len()) == (text.as_bytes(), 144)
 }
 
-// A fourth input, a message that ends before its length says.
+// Whether a bill has the export of the three reports, and notes of three inputs.
+fn exports_three(alloc: Global, bill: &Written) -> bool {
+    let Ok(whole) = export(alloc, &[FIRST, SECOND, THIRD]) else {
+        return false;
+    };
+    (bill.export.as_slice(), bill.notes) == (whole.as_slice(), 3)
+}
+
+// Whether the bill by so many replicas, each of so many workers, is the same as this one.
+fn bills_as<R: Threads + Wait + Sync>(
+    rt: &R,
+    alloc: Global,
+    inputs: &[Vec<u8>],
+    (replicas, workers): (u32, u32),
+    plainly: &Written,
+) -> bool {
+    match billed(rt, alloc, inputs, replicas, workers) {
+        Ok(billed) => are_same(&billed, plainly),
+        Err(_) => false,
+    }
+}
+
 #[test]
-fn refuses_the_first_input_with_a_fault(rt: HostRuntime) -> Result<(), Fail> {
+fn bills_alike_by_each_number_of_replicas_and_workers(rt: HostRuntime) {
     let alloc = rt.alloc();
+    let Ok(inputs) = export_of_each(alloc, &[FIRST, SECOND, THIRD]) else {
+        panic!(rt; "inputs");
+    };
+    let Ok(plainly) = billed_plainly(alloc, &inputs) else {
+        panic!(rt; "a bill");
+    };
+    assert!(rt; states_three(alloc, &plainly));
+    assert!(rt; exports_three(alloc, &plainly));
+    for (replicas, workers) in NUMBERS {
+        let numbers = (replicas, workers);
+        assert!(rt;
+            bills_as(&rt, alloc, &inputs, numbers, &plainly),
+            "{replicas} {workers}"
+        );
+    }
+}
+
+// Three exports, and a message that ends before its length says.
+fn with_a_cut(alloc: Global) -> Result<Vec<Vec<u8>>, AllocError> {
     let mut inputs = export_of_each(alloc, &[FIRST, SECOND, THIRD])?;
     let mut cut = Vec::from_slice(alloc, &TEMPLATE_AND_RECORD)?;
     cut.truncate(64);
     inputs.push(cut)?;
+    Ok(inputs)
+}
+
+#[test]
+fn refuses_the_first_input_with_a_fault(rt: HostRuntime) {
+    let alloc = rt.alloc();
+    let Ok(inputs) = with_a_cut(alloc) else {
+        panic!(rt; "inputs");
+    };
     let fault = RunFault {
         input: Some(3),
         family: Family::Wire,
@@ -136,15 +177,16 @@ fn refuses_the_first_input_with_a_fault(rt: HostRuntime) -> Result<(), Fail> {
         let refused = billed(&rt, alloc, &inputs, replicas, workers);
         assert!(rt; refused.err() == Some(fault));
     }
-    Ok(())
 }
 
 // The refusals of a bill whose statement, or whose export, goes to a writer that takes nothing, and whether the
 // statement's writer took nothing where the export's didn't.
-fn over_full_writers<R: Threads + Wait + Sync>(rt: &R, alloc: Global) -> Result<bool, AllocError> {
-    let inputs = export_of_each(alloc, &[FIRST])?;
+fn over_full_writers<R: Threads + Wait + Sync>(rt: &R, alloc: Global) -> bool {
+    let Ok(inputs) = export_of_each(alloc, &[FIRST]) else {
+        return false;
+    };
     if inputs.len() != 1 {
-        return Ok(false);
+        return false;
     }
     let mut full = Host::new(Full);
     let mut out = Host::new(Vec::new(alloc));
@@ -159,7 +201,7 @@ fn over_full_writers<R: Threads + Wait + Sync>(rt: &R, alloc: Global) -> Result<
     let exported = run_bill(rt, alloc, plan, &inputs, 2, 2, &NoGate, asked, &mut out).err();
     let asked = Some(&mut export);
     let stated = run_bill(rt, alloc, plan, &inputs, 2, 2, &NoGate, asked, &mut full).err();
-    Ok(exported == failed && stated == failed && out.into_inner().is_empty())
+    exported == failed && stated == failed && out.into_inner().is_empty()
 }
 
 // A writer with room for some octets, which takes one at a time.
@@ -188,10 +230,12 @@ fn is_cut_off<R: Threads + Wait + Sync>(
     alloc: Global,
     inputs: &[Vec<u8>],
     room: usize,
-) -> Result<bool, AllocError> {
-    let text = format!(in alloc; "{OPENING}{THREE_REPORTS}")?;
+) -> bool {
+    let Ok(text) = format!(in alloc; "{OPENING}{THREE_REPORTS}") else {
+        return false;
+    };
     if inputs.len() != 3 {
-        return Ok(false);
+        return false;
     }
     let taken = Vec::new(alloc);
     let mut out = Host::new(Narrow { taken, room });
@@ -200,17 +244,18 @@ fn is_cut_off<R: Threads + Wait + Sync>(
     let refused = run_bill(rt, alloc, plan, inputs, 2, 2, &NoGate, export, &mut out).err();
     let taken = out.into_inner().taken;
     let went_out = Some(taken.as_slice()) == text.as_bytes().get(..room);
-    Ok(refused == Some(RunFault::write()) && went_out)
+    refused == Some(RunFault::write()) && went_out
 }
 
 #[test]
-fn refuses_a_write_that_fails(rt: HostRuntime) -> Result<(), Fail> {
-    assert!(rt; over_full_writers(&rt, rt.alloc())?);
-    let inputs = export_of_each(rt.alloc(), &[FIRST, SECOND, THIRD])?;
+fn refuses_a_write_that_fails(rt: HostRuntime) {
+    assert!(rt; over_full_writers(&rt, rt.alloc()));
+    let Ok(inputs) = export_of_each(rt.alloc(), &[FIRST, SECOND, THIRD]) else {
+        panic!(rt; "inputs");
+    };
     for room in [14, 143, 0] {
-        assert!(rt; is_cut_off(&rt, rt.alloc(), &inputs, room)?, "{room}");
+        assert!(rt; is_cut_off(&rt, rt.alloc(), &inputs, room), "{room}");
     }
-    Ok(())
 }
 
 // Whether a bill of two replicas, both of which were given the second report, writes the statement of three reports and their export,

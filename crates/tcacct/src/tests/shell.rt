@@ -12,19 +12,25 @@ use std::rt::Files;
 use std::sync::Wait;
 use std::test::*;
 use std::thread::Threads;
-use std::{env, fs, process};
+use std::{env, fs, io, process};
 use tca_report::Host;
 
 // Makes a new folder the current one, each test being a process of its own, with three reports in two
 // files, a file that is cut short, captures with a set of an unknown template and with a set that is
 // skipped too, a plan, and a text that is none.
-fn enter(rt: &HostRuntime, name: &str) -> Result<PathBuf, Fail> {
+fn enter(rt: &HostRuntime, name: &str) -> io::Result<PathBuf> {
     let id = process::id(rt.process());
     let folder = format!(in rt.alloc(); "tcacct_{name}_{id}")?;
     let path = env::temp_dir(rt)?.join(rt.alloc(), folder.as_str())?;
     let _gone = fs::remove_dir_all(rt, path.as_path());
     fs::create_dir(rt, path.as_path())?;
     env::set_current_dir(rt, path.as_path())?;
+    fill(rt)?;
+    Ok(path)
+}
+
+// Makes those files in the current folder.
+fn fill(rt: &HostRuntime) -> io::Result<()> {
     fs::write(rt, "one", export(rt.alloc(), &[FIRST])?.as_slice())?;
     fs::write(rt, "two", export(rt.alloc(), &[SECOND, THIRD])?.as_slice())?;
     fs::write(rt, "cut", b"TCAX\x00\x01\x00\x00\x00".as_slice())?;
@@ -35,30 +41,69 @@ fn enter(rt: &HostRuntime, name: &str) -> Result<PathBuf, Fail> {
     fs::write(rt, "empty", "")?;
     fs::write(rt, "plan", PLAN)?;
     fs::write(rt, "other plan", OTHER_PLAN)?;
-    fs::write(rt, "bad", "period = 0\n")?;
-    Ok(path)
+    fs::write(rt, "bad", "period = 0\n")
 }
 
 // Runs these words behind the program's name. Gives the exit status, what is printed, and what goes to
 // standard error, with a bar between.
-fn ran<R: Files + Threads + Wait + Sync + AllocGlobal>(
-    rt: &R,
-    words: &[&str],
-) -> Result<String, Fail> {
+fn ran<R: Files + Threads + Wait + Sync + AllocGlobal>(rt: &R, words: &[&str]) -> Option<String> {
     let mut line = Vec::new(rt.alloc());
-    line.push("tcacct")?;
-    line.extend_from_slice(words)?;
+    if line.push("tcacct").is_err() || line.extend_from_slice(words).is_err() {
+        return None;
+    }
     let mut out = Host::new(Vec::new(rt.alloc()));
     let mut errors = Vec::new(rt.alloc());
     let status = run(rt, &line, &mut out, &mut errors);
-    let printed = String::from_utf8(out.into_inner())?;
-    let errors = String::from_utf8(errors)?;
-    Ok(format!(in rt.alloc(); "{status}|{printed}|{errors}")?)
+    let Ok(printed) = String::from_utf8(out.into_inner()) else {
+        return None;
+    };
+    let Ok(errors) = String::from_utf8(errors) else {
+        return None;
+    };
+    format!(in rt.alloc(); "{status}|{printed}|{errors}").ok()
+}
+
+// Whether these words give this.
+fn gives<R: Files + Threads + Wait + Sync + AllocGlobal>(
+    rt: &R,
+    words: &[&str],
+    ending: &str,
+) -> bool {
+    match ran(rt, words) {
+        Some(text) => text.as_str() == ending,
+        None => false,
+    }
+}
+
+// Whether these words give the statement of the three reports.
+fn bills_three<R: Files + Threads + Wait + Sync + AllocGlobal>(rt: &R, words: &[&str]) -> bool {
+    let Ok(statement) = format!(in rt.alloc(); "0|{OPENING}{THREE_REPORTS}|") else {
+        return false;
+    };
+    gives(rt, words, statement.as_str())
+}
+
+// Whether these words give the lines of the three reports.
+fn meters_three<R: Files + Threads + Wait + Sync + AllocGlobal>(rt: &R, words: &[&str]) -> bool {
+    let Ok(metered) = format!(in rt.alloc(); "0|{THREE_LINES}|") else {
+        return false;
+    };
+    gives(rt, words, metered.as_str())
+}
+
+// Whether a file has these octets.
+fn holds(rt: &HostRuntime, name: &str, octets: &[u8]) -> bool {
+    match fs::read(rt, name) {
+        Ok(found) => found.as_slice() == octets,
+        Err(_) => false,
+    }
 }
 
 #[test]
-fn reads_all_files_before_it_judges(rt: HostRuntime) -> Result<(), Fail> {
-    let folder = enter(&rt, "order")?;
+fn reads_all_files_before_it_judges(rt: HostRuntime) {
+    let Ok(folder) = enter(&rt, "order") else {
+        panic!(rt; "a folder");
+    };
     let lines: [(&[&str], &str); 13] = [
         (
             &["meter", "bad spec", "one", "none"],
@@ -102,41 +147,53 @@ fn reads_all_files_before_it_judges(rt: HostRuntime) -> Result<(), Fail> {
         ),
     ];
     for (words, ending) in lines {
-        assert!(rt; ran(&rt, words)?.as_str() == ending);
+        assert!(rt; gives(&rt, words, ending));
     }
-    fs::remove_dir_all(&rt, folder.as_path())?;
-    Ok(())
+    assert!(rt; fs::remove_dir_all(&rt, folder.as_path()).is_ok());
 }
 
 #[test]
-fn runs_commands(rt: HostRuntime) -> Result<(), Fail> {
-    let folder = enter(&rt, "commands")?;
-    let metered = format!(in rt.alloc(); "0|{THREE_LINES}|")?;
-    assert!(rt; ran(&rt, &["meter", SPEC, "two", "one"])?.as_str() == metered.as_str());
-    assert!(rt; ran(&rt, &["combine", "out", "two", "one"])?.as_str() == "0|reports 3\n|");
-    let statement = format!(in rt.alloc(); "0|{OPENING}{THREE_REPORTS}|")?;
-    assert!(rt; ran(&rt, &["bill", "plan", "two", "one"])?.as_str() == statement.as_str());
-    fs::remove_dir_all(&rt, folder.as_path())?;
-    Ok(())
+fn runs_commands(rt: HostRuntime) {
+    let Ok(folder) = enter(&rt, "commands") else {
+        panic!(rt; "a folder");
+    };
+    assert!(rt; meters_three(&rt, &["meter", SPEC, "two", "one"]));
+    assert!(rt; gives(&rt, &["combine", "out", "two", "one"], "0|reports 3\n|"));
+    assert!(rt; bills_three(&rt, &["bill", "plan", "two", "one"]));
+    assert!(rt; fs::remove_dir_all(&rt, folder.as_path()).is_ok());
 }
 
-#[test]
-fn audits_statements(rt: HostRuntime) -> Result<(), Fail> {
-    let folder = enter(&rt, "audit")?;
-    let statement = format!(in rt.alloc(); "{OPENING}{THREE_REPORTS}")?;
+// Whether the export of the three reports is written to a file.
+fn writes_three(rt: &HostRuntime) -> bool {
+    match export(rt.alloc(), &[FIRST, SECOND, THIRD]) {
+        Ok(three) => fs::write(rt, "three", three.as_slice()).is_ok(),
+        Err(_) => false,
+    }
+}
+
+// Whether their statement, one that is shorter and one that is longer are.
+fn writes_statements(rt: &HostRuntime) -> bool {
+    let Ok(statement) = format!(in rt.alloc(); "{OPENING}{THREE_REPORTS}") else {
+        return false;
+    };
+    let Ok(longer) = format!(in rt.alloc(); "{statement} ") else {
+        return false;
+    };
     let octets = statement.as_bytes();
-    fs::write(
-        &rt,
-        "three",
-        export(rt.alloc(), &[FIRST, SECOND, THIRD])?.as_slice(),
-    )?;
-    fs::write(&rt, "right", octets)?;
-    fs::write(&rt, "short", octets.get(..143).ok_or("shorter")?)?;
-    fs::write(
-        &rt,
-        "more",
-        format!(in rt.alloc(); "{statement} ")?.as_bytes(),
-    )?;
+    let Some(shorter) = octets.get(..143) else {
+        return false;
+    };
+    fs::write(rt, "right", octets).is_ok()
+        && fs::write(rt, "short", shorter).is_ok()
+        && fs::write(rt, "more", longer.as_bytes()).is_ok()
+}
+
+#[test]
+fn audits_statements(rt: HostRuntime) {
+    let Ok(folder) = enter(&rt, "audit") else {
+        panic!(rt; "a folder");
+    };
+    assert!(rt; writes_three(&rt) && writes_statements(&rt));
     let lines: [(&[&str], &str); 10] = [
         (&["audit", "plan", "three", "right"], "0|agrees\n|"),
         (&["audit", "plan", "three", "short"], "1|differs at 143\n|"),
@@ -165,15 +222,16 @@ fn audits_statements(rt: HostRuntime) -> Result<(), Fail> {
         ),
     ];
     for (words, ending) in lines {
-        assert!(rt; ran(&rt, words)?.as_str() == ending);
+        assert!(rt; gives(&rt, words, ending));
     }
-    fs::remove_dir_all(&rt, folder.as_path())?;
-    Ok(())
+    assert!(rt; fs::remove_dir_all(&rt, folder.as_path()).is_ok());
 }
 
 #[test]
-fn makes_out_once_all_is_read(rt: HostRuntime) -> Result<(), Fail> {
-    let folder = enter(&rt, "out")?;
+fn makes_out_once_all_is_read(rt: HostRuntime) {
+    let Ok(folder) = enter(&rt, "out") else {
+        panic!(rt; "a folder");
+    };
     let lines: [(&[&str], &str, &[u8]); 6] = [
         (
             &["combine", "out", "one", "none"],
@@ -207,26 +265,32 @@ fn makes_out_once_all_is_read(rt: HostRuntime) -> Result<(), Fail> {
         ),
     ];
     for (words, ending, octets) in lines {
-        fs::write(&rt, "out", "before")?;
-        assert!(rt; ran(&rt, words)?.as_str() == ending);
-        assert!(rt; fs::read(&rt, "out")?.as_slice() == octets);
+        assert!(rt; fs::write(&rt, "out", "before").is_ok());
+        assert!(rt; gives(&rt, words, ending));
+        assert!(rt; holds(&rt, "out", octets));
     }
-    fs::remove_dir_all(&rt, folder.as_path())?;
-    Ok(())
+    assert!(rt; fs::remove_dir_all(&rt, folder.as_path()).is_ok());
+}
+
+// Whether a file has the export of the three reports.
+fn holds_three(rt: &HostRuntime, name: &str) -> bool {
+    match export(rt.alloc(), &[FIRST, SECOND, THIRD]) {
+        Ok(three) => holds(rt, name, three.as_slice()),
+        Err(_) => false,
+    }
 }
 
 #[test]
-fn writes_to_an_input(rt: HostRuntime) -> Result<(), Fail> {
-    let folder = enter(&rt, "same")?;
-    let three = export(rt.alloc(), &[FIRST, SECOND, THIRD])?;
-    assert!(rt; ran(&rt, &["combine", "one", "one", "two"])?.as_str() == "0|reports 3\n|");
-    assert!(rt; fs::read(&rt, "one")?.as_slice() == three.as_slice());
-    let statement = format!(in rt.alloc(); "0|{OPENING}{THREE_REPORTS}|")?;
+fn writes_to_an_input(rt: HostRuntime) {
+    let Ok(folder) = enter(&rt, "same") else {
+        panic!(rt; "a folder");
+    };
+    assert!(rt; gives(&rt, &["combine", "one", "one", "two"], "0|reports 3\n|"));
+    assert!(rt; holds_three(&rt, "one"));
     let words = ["bill", "plan", "two", "one", "--export", "two"];
-    assert!(rt; ran(&rt, &words)?.as_str() == statement.as_str());
-    assert!(rt; fs::read(&rt, "two")?.as_slice() == three.as_slice());
-    fs::remove_dir_all(&rt, folder.as_path())?;
-    Ok(())
+    assert!(rt; bills_three(&rt, &words));
+    assert!(rt; holds_three(&rt, "two"));
+    assert!(rt; fs::remove_dir_all(&rt, folder.as_path()).is_ok());
 }
 
 // An export of 40,001 reports, which has 1,000,035 octets.
@@ -241,26 +305,30 @@ fn large_export(alloc: Global) -> Result<Vec<u8>, AllocError> {
 }
 
 #[test]
-fn reads_large_files(rt: HostRuntime) -> Result<(), Fail> {
-    let folder = enter(&rt, "large")?;
-    let octets = large_export(rt.alloc())?;
+fn reads_large_files(rt: HostRuntime) {
+    let Ok(folder) = enter(&rt, "large") else {
+        panic!(rt; "a folder");
+    };
+    let Ok(octets) = large_export(rt.alloc()) else {
+        panic!(rt; "an export");
+    };
     assert!(rt; octets.len() == 1_000_035);
-    fs::write(&rt, "large", octets.as_slice())?;
-    assert!(rt; ran(&rt, &["combine", "out", "large"])?.as_str() == "0|reports 40001\n|");
-    assert!(rt; fs::read(&rt, "out")?.as_slice() == octets.as_slice());
-    fs::remove_dir_all(&rt, folder.as_path())?;
-    Ok(())
+    assert!(rt; fs::write(&rt, "large", octets.as_slice()).is_ok());
+    assert!(rt; gives(&rt, &["combine", "out", "large"], "0|reports 40001\n|"));
+    assert!(rt; holds(&rt, "out", octets.as_slice()));
+    assert!(rt; fs::remove_dir_all(&rt, folder.as_path()).is_ok());
 }
 
 #[test]
-fn prints_notes_in_the_inputs_order(rt: HostRuntime) -> Result<(), Fail> {
-    let folder = enter(&rt, "notes")?;
+fn prints_notes_in_the_inputs_order(rt: HostRuntime) {
+    let Ok(folder) = enter(&rt, "notes") else {
+        panic!(rt; "a folder");
+    };
     let words = ["meter", SPEC, "skipped"];
-    assert!(rt; ran(&rt, &words)?.as_str() == "0|green 0 0\nyellow 0 0\nred 0 0\n|");
+    assert!(rt; gives(&rt, &words, "0|green 0 0\nyellow 0 0\nred 0 0\n|"));
     let words = ["bill", "other plan", "skipped", "one", "unknown", "skipped"];
-    assert!(rt; ran(&rt, &words)?.as_str() == NOTED);
-    fs::remove_dir_all(&rt, folder.as_path())?;
-    Ok(())
+    assert!(rt; gives(&rt, &words, NOTED));
+    assert!(rt; fs::remove_dir_all(&rt, folder.as_path()).is_ok());
 }
 
 // A plan with the traffic of no report, and its statement with the notes of three inputs.
@@ -271,8 +339,10 @@ const NOTED: &str =
     "0|tcacct statement 1\nperiod 3600000\nreports 7\ndisputed 0\nunassigned 7\naccount gamma\ntotal 0 0 0 0 0 0\nend\n|tcacct: skipped: notes 0 1 1\ntcacct: unknown: notes 0 1 0\ntcacct: skipped: notes 0 1 1\n";
 
 #[test]
-fn keeps_the_status_where_writes_fail(rt: HostRuntime) -> Result<(), Fail> {
-    let folder = enter(&rt, "full")?;
+fn keeps_the_status_where_writes_fail(rt: HostRuntime) {
+    let Ok(folder) = enter(&rt, "full") else {
+        panic!(rt; "a folder");
+    };
     let lines: [(&[&str], u8); 4] = [
         (&["tcacct", "bill", "plan", "skipped"], 0),
         (&["tcacct", "meter", SPEC, "none"], 1),
@@ -287,12 +357,11 @@ fn keeps_the_status_where_writes_fail(rt: HostRuntime) -> Result<(), Fail> {
     let words = ["tcacct", "meter", SPEC, "one"];
     assert!(rt; run(&rt, &words, &mut Host::new(Full), &mut errors) == 1);
     assert!(rt; errors.as_slice() == b"tcacct: meter: write 1\n".as_slice());
-    fs::remove_dir_all(&rt, folder.as_path())?;
-    Ok(())
+    assert!(rt; fs::remove_dir_all(&rt, folder.as_path()).is_ok());
 }
 
 #[test]
-fn ends_by_the_command_line(rt: HostRuntime) -> Result<(), Fail> {
+fn ends_by_the_command_line(rt: HostRuntime) {
     for (word, status) in [("--help", 0u8), ("help", 0), ("audit", 2), ("--quiet", 2)] {
         let mut out = Host::new(Vec::new(rt.alloc()));
         let mut errors = Vec::new(rt.alloc());
@@ -300,7 +369,6 @@ fn ends_by_the_command_line(rt: HostRuntime) -> Result<(), Fail> {
         assert!(rt; errors.is_empty() == (status == 0));
         assert!(rt; out.into_inner().is_empty() == (status == 2));
     }
-    Ok(())
 }
 
 // A command line of one octet, which is no text.
@@ -329,16 +397,15 @@ impl Env for NotText {
 }
 
 #[test]
-fn refuses_words_that_are_no_text(rt: HostRuntime) -> Result<(), Fail> {
+fn refuses_words_that_are_no_text(rt: HostRuntime) {
     let mut errors = Vec::new(rt.alloc());
     match words_of(&(NotText, rt.alloc())) {
         Err(fault) => assert!(rt; end(&Ending::NoCommand(fault), &mut errors) == 2),
-        Ok(_) => return Err("words".into()),
+        Ok(_) => panic!(rt; "words"),
     }
     let text = b"error: a word of the command line is not UTF-8\n";
     assert!(rt; errors.as_slice() == text.as_slice());
     let mut errors = Vec::new(rt.alloc());
     assert!(rt; end(&Ending::NoCommand(LineFault::Memory), &mut errors) == 1);
     assert!(rt; errors.as_slice() == b"tcacct: tcacct: memory 1\n".as_slice());
-    Ok(())
 }

@@ -1,3 +1,4 @@
+use Rattle.std.proofs.lemmas.Grind.{common_steps}
 use Rattle.std.proofs.Common.{◌≡◌, ◌∷◌, [], sym, ◌∙◌, arith}
 use Rattle.std.specs.Prelude.{map}
 use Rattle.std.proofs.lemmas.List.{append-nil, append_assoc, nil_from_length}
@@ -23,3 +24,9 @@ returns c =
     let rest = c.loop-account.account-iterator.rest in
     let none : rest.items ≡ [] = nil_from_length rest.items (omega (arith, rest.ok.0, c.in-None.ensures.steps.0)) in
     c.new.ensures ∙ sym (append-nil c.loop-account.list.items) ∙ (rw none at c.loop-account.invariant.tallies)
+
+pub returns-in_err-finish : goal.returns-in_err-finish
+returns-in_err-finish c = grind (arith, common_steps)
+
+pub returns-in_err-push : goal.returns-in_err-push
+returns-in_err-push c = grind (arith, common_steps)

@@ -1,3 +1,4 @@
+use Rattle.std.proofs.lemmas.Grind.{common_steps}
 use Rattle.std.proofs.Common.{◌≡◌, ◌<◌, None, Some, length, sym, ap, ◌∙◌, subst, arith, rules}
 use Rattle.tca_log.specs.Disputes.{undisputed}
 use Rattle.tca_accounts.specs.Plans.{account_of}
@@ -74,3 +75,12 @@ overflow_add-unassigned c =
 
 pub returns-clause-unassigned : goal.returns-clause-unassigned
 returns-clause-unassigned c = omega (arith, ap (none_in c.args.plan.now) c.in-None.ensures.steps.0, c.loop-report.invariant.unassigned)
+
+pub returns-in_err-add-clause-unassigned : goal.returns-in_err-add-clause-unassigned
+returns-in_err-add-clause-unassigned c = grind (arith, common_steps)
+
+pub returns-in_err-add-clause-running : goal.returns-in_err-add-clause-running
+returns-in_err-add-clause-running c = grind (arith, common_steps)
+
+pub returns-clause-running : goal.returns-clause-running
+returns-clause-running c = grind (arith, common_steps)

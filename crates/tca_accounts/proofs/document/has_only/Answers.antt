@@ -1,4 +1,5 @@
-use Rattle.std.proofs.Common.{◌&&◌, ◌≡◌, ◌∙◌, [], ap, rules, sym, false, List, ℕ}
+use Rattle.std.proofs.lemmas.Grind.{common_steps}
+use Rattle.std.proofs.Common.{◌&&◌, ◌≡◌, ◌∙◌, [], ap, rules, sym, false, List, ℕ, arith}
 use Rattle.std.specs.List.{list_all, list_any}
 use Rattle.std.specs.Str.{bytes_eq}
 use Rattle.std.specs.Map.{keys_of}
@@ -21,3 +22,6 @@ returns-then-not-is_known c =
     let here : known keys c.in-Some.name.now ≡ false =
     ap (λ (t : List ℕ). list_any (λ k. bytes_eq (key_name k) t) keys) (sym c.as_str.ensures.value) ∙ sym c.is_known.ensures ∙ c.if-not-is_known.true in
     sym (same ∙ start ∙ ap (list_all (known keys)) c.in-Some.ensures.steps ∙ ap (λ b. b && list_all (known keys) c.next.new.self) here)
+
+pub loop-name-preserved : goal.loop-name-preserved
+loop-name-preserved c = grind (arith, common_steps)

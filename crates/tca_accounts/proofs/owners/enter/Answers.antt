@@ -1,4 +1,5 @@
-use Rattle.std.proofs.Common.{◌≡◌, ℕ, ◌+◌, ◌∷◌, map, drop, Some, None, is_none, sym, ap, subst, ◌∙◌, false, true, slice_index_or}
+use Rattle.std.proofs.lemmas.Grind.{common_steps}
+use Rattle.std.proofs.Common.{◌≡◌, ℕ, ◌+◌, ◌∷◌, map, drop, Some, None, is_none, sym, ap, subst, ◌∙◌, false, true, slice_index_or, arith}
 use Rattle.tca_accounts.specs.Owners.{Gains, owner_in}
 use Rattle.tca_accounts.proofs.Owning.{cut, from_some, from_none, goes_on, stands, step}
 use Rattle.tca_accounts.proofs.owners.enter.Goals as goal
@@ -30,3 +31,18 @@ returns-then-not-branch-clause-twice c e more =
     let split : drop i pairs ≡ k ∷ drop (i + 1) pairs = cut pairs i k0 c.loop-pair-test.true in
     let x = from_some (owner_in old k) there in
     c.loop-pair.invariant.are_new more ∙ rw split (stands old k c.args.account x.0 (map f (drop (i + 1) pairs)) more x.1)
+
+pub returns-in_err-insert-clause-entered : goal.returns-in_err-insert-clause-entered
+returns-in_err-insert-clause-entered c = grind (arith, common_steps)
+
+pub returns-in_err-insert-clause-twice : goal.returns-in_err-insert-clause-twice
+returns-in_err-insert-clause-twice c = grind (arith, common_steps)
+
+pub returns-then-not-branch-clause-entered : goal.returns-then-not-branch-clause-entered
+returns-then-not-branch-clause-entered c = grind (arith, common_steps)
+
+pub returns-clause-entered : goal.returns-clause-entered
+returns-clause-entered c = grind (arith, common_steps)
+
+pub returns-clause-twice : goal.returns-clause-twice
+returns-clause-twice c = grind (arith, common_steps)

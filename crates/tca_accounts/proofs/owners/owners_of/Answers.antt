@@ -1,3 +1,4 @@
+use Rattle.std.proofs.lemmas.Grind.{common_steps}
 use Rattle.std.proofs.Common.{◌≡◌, ℕ, ◌+◌, List, ◌∷◌, ◌++◌, [], map, drop, length, sym, ap, ◌∙◌, arith}
 use Rattle.std.proofs.Math.Seq.{drop-length}
 use Rattle.tca_accounts.specs.Plans.{PlannedAccount}
@@ -42,3 +43,9 @@ returns c =
     let at : n ≡ length accounts = omega (arith, c.loop-n-test.false, c.loop-n.auto.n-end) in
     let none : owned n (drop n accounts) ≡ [] = ap (owned n) (ap (λ (m : ℕ). drop m accounts) at ∙ drop-length accounts) in
     all_entered accounts c.loop-n.owners (owned n (drop n accounts)) none c.loop-n.invariant
+
+pub returns-in_err-owners : goal.returns-in_err-owners
+returns-in_err-owners c = grind (arith, common_steps)
+
+pub returns-in_err-enter : goal.returns-in_err-enter
+returns-in_err-enter c = grind (arith, common_steps)

@@ -1,3 +1,4 @@
+use Rattle.std.proofs.lemmas.Grind.{common_steps}
 use Rattle.std.proofs.Common.{◌≡◌, ◌∙◌, ◌++◌, Ok, arith, rules, ap, sym, length, List, drop, ◌+◌}
 use Rattle.std.proofs.lemmas.List.{length_push}
 use Rattle.toml.specs.View.{items_view, view}
@@ -21,3 +22,27 @@ loop-value-preserved c =
       decides =
           c.loop-value.invariant.decides ∙ step ∙ ap (λ (done : List PlannedAccount). accounts_from (i + 1) (items_view (drop (i + 1) vs)) >>= λ rest. Ok (done ++ rest)) (sym pushed);
     }
+
+pub returns-in_err-account-in-Ok-clause-exact : goal.returns-in_err-account-in-Ok-clause-exact
+returns-in_err-account-in-Ok-clause-exact c = grind (arith, common_steps)
+
+pub returns-in_err-account-in-Ok-clause-count : goal.returns-in_err-account-in-Ok-clause-count
+returns-in_err-account-in-Ok-clause-count c = grind (arith, common_steps)
+
+pub returns-in_err-push-in-Ok-clause-exact : goal.returns-in_err-push-in-Ok-clause-exact
+returns-in_err-push-in-Ok-clause-exact c = grind (arith, common_steps)
+
+pub returns-in_err-push-in-Ok-clause-count : goal.returns-in_err-push-in-Ok-clause-count
+returns-in_err-push-in-Ok-clause-count c = grind (arith, common_steps)
+
+pub returns-in-Err-clause-exact : goal.returns-in-Err-clause-exact
+returns-in-Err-clause-exact c = grind (arith, common_steps)
+
+pub returns-in-Err-clause-count : goal.returns-in-Err-clause-count
+returns-in-Err-clause-count c = grind (arith, common_steps)
+
+pub returns-clause-exact : goal.returns-clause-exact
+returns-clause-exact c = grind (arith, common_steps)
+
+pub returns-clause-count : goal.returns-clause-count
+returns-clause-count c = grind (arith, common_steps)

@@ -1,4 +1,5 @@
-use Rattle.std.proofs.Common.{◌≡◌, ◌&&◌, Ok, true, false, rules}
+use Rattle.std.proofs.lemmas.Grind.{common_steps}
+use Rattle.std.proofs.Common.{◌≡◌, ◌&&◌, Ok, true, false, rules, arith}
 use Rattle.toml.specs.View.{items_view}
 use Rattle.tca_accounts.specs.Documents.{accounts_from}
 use Rattle.tca_accounts.specs.Readings.{are_few, names_differ, of_accounts, pairs_differ}
@@ -19,3 +20,15 @@ returns c =
     let pairs : Ok true ≡ of_accounts pairs_differ 0 ds = search rules in
     let names : Ok true ≡ of_accounts names_differ 0 ds = search rules in
     all_right (accounts_from 0 ds) few pairs names
+
+pub returns-in_err-has_few_pairs : goal.returns-in_err-has_few_pairs
+returns-in_err-has_few_pairs c = grind (arith, common_steps)
+
+pub returns-then-not-branch : goal.returns-then-not-branch
+returns-then-not-branch c = grind (arith, common_steps)
+
+pub returns-in_err-pairs : goal.returns-in_err-pairs
+returns-in_err-pairs c = grind (arith, common_steps)
+
+pub returns-in_err-names : goal.returns-in_err-names
+returns-in_err-names c = grind (arith, common_steps)

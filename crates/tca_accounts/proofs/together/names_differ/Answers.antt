@@ -1,3 +1,4 @@
+use Rattle.std.proofs.lemmas.Grind.{common_steps}
 use Rattle.std.proofs.Common.{◌∙◌, ◌+◌, ◌&&◌, arith, ap, sym, drop}
 use Rattle.std.specs.List.{list_any}
 use Rattle.std.specs.Str.{bytes_eq}
@@ -35,3 +36,9 @@ loop-value-preserved c =
       place = omega arith;
       decides = c.loop-value.invariant.decides ∙ ap (given (λ all. c.loop-value.differ && names_differ all)) at ∙ step;
     }
+
+pub returns-in_err-name : goal.returns-in_err-name
+returns-in_err-name c = grind (arith, common_steps)
+
+pub returns : goal.returns
+returns c = grind (arith, common_steps)

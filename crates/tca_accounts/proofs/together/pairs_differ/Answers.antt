@@ -1,3 +1,4 @@
+use Rattle.std.proofs.lemmas.Grind.{common_steps}
 use Rattle.std.proofs.Common.{◌∙◌, ◌+◌, ◌&&◌, arith, ap, sym, drop, subst}
 use Rattle.std.specs.Result.{IsOk}
 use Rattle.std.proofs.lemmas.Result.{err_from_is_err_and}
@@ -35,3 +36,9 @@ loop-value-preserved c =
       all = others_ok (account_in n (view v)) _ (subst IsOk at c.loop-value.invariant.all);
       decides = c.loop-value.invariant.decides ∙ ap (given (λ all. c.loop-value.differ && pairs_differ all)) at ∙ step;
     }
+
+pub returns-in_err-pairs : goal.returns-in_err-pairs
+returns-in_err-pairs c = grind (arith, common_steps)
+
+pub returns : goal.returns
+returns c = grind (arith, common_steps)

@@ -1,3 +1,4 @@
+use Rattle.std.proofs.lemmas.Grind.{common_steps}
 use Rattle.std.proofs.Common.{◌∙◌, ap, arith, length}
 use Rattle.tca_gossip.specs.Replicas.{ReplicaView, with_origin}
 use Rattle.std.proofs.Common.{take}
@@ -29,3 +30,12 @@ returns-in-Err-clause-stop c =
 
 pub returns-clause-state : goal.returns-clause-state
 returns-clause-state c = report_ends c.args.contents.now.replica c.loop-report.contents.replica c.args.origin c.args.reports.now c.loop-report.report-index c.loop-report-test.false c.loop-report.invariant.state
+
+pub offset_bounds-reports-report-index : goal.offset_bounds-reports-report-index
+offset_bounds-reports-report-index c = grind (arith, common_steps)
+
+pub overflow_add-taken : goal.overflow_add-taken
+overflow_add-taken c = grind (arith, common_steps)
+
+pub returns-clause-count : goal.returns-clause-count
+returns-clause-count c = grind (arith, common_steps)

@@ -1,3 +1,4 @@
+use Rattle.std.proofs.lemmas.Grind.{common_steps}
 use Rattle.std.proofs.Common.{◌≤◌, subst, arith, length, List}
 use Rattle.tca_report.specs.report.Reports.{PacketReport}
 use Rattle.tca_gossip.specs.Replicas.{chain_of}
@@ -44,3 +45,6 @@ returns-clause-state c = rests_end c.args.contents.now.replica c.loop-run.conten
 
 pub returns-clause-count : goal.returns-clause-count
 returns-clause-count c = count_end (chain_of c.args.contents.now.replica) c.args.runs.now c.loop-run.run-index c.loop-run.count c.loop-run-test.false c.loop-run.invariant.count_is
+
+pub offset_bounds-runs-run-index : goal.offset_bounds-runs-run-index
+offset_bounds-runs-run-index c = grind (arith, common_steps)

@@ -1,3 +1,5 @@
+use Rattle.std.proofs.lemmas.Grind.{common_steps}
+use Rattle.std.proofs.Common.{arith}
 use Rattle.tca_gossip.specs.Kept.{kept_of}
 use Rattle.tca_gossip.proofs.AbsorbSteps.{limit_at}
 use Rattle.tca_gossip.proofs.RunsAtOnce.{kept_first, list_first, kept_next, list_next, kept_last, list_last}
@@ -24,3 +26,12 @@ returns-clause-kept c = kept_last c.args.chains.now c.loop-run.chains (kept_of c
 
 pub returns-clause-list : goal.returns-clause-list
 returns-clause-list c = list_last c.args.list.now.items c.loop-run.list.items (kept_of c.args.chains.now) c.args.runs.now c.loop-run.run-index c.loop-run-test.false c.loop-run.invariant.list_is
+
+pub offset_bounds-runs-run-index : goal.offset_bounds-runs-run-index
+offset_bounds-runs-run-index c = grind (arith, common_steps)
+
+pub returns-in_err-extend_one-clause-kept : goal.returns-in_err-extend_one-clause-kept
+returns-in_err-extend_one-clause-kept c = grind (arith, common_steps)
+
+pub returns-in_err-extend_one-clause-list : goal.returns-in_err-extend_one-clause-list
+returns-in_err-extend_one-clause-list c = grind (arith, common_steps)

@@ -1,3 +1,4 @@
+use Rattle.std.proofs.lemmas.Grind.{common_steps}
 use Rattle.std.proofs.Common.{◌≡◌, ◌++◌, ◌∙◌, List, ap, arith, length}
 use Rattle.tca_report.specs.report.Reports.{PacketReport}
 use Rattle.tca_gossip.specs.Replicas.{of, with_origin}
@@ -21,3 +22,15 @@ returns-clause-list c =
     let rest : c.split_at.result.1.now ≡ rest_of (kept_of c.args.chains.now) c.args.run.now =
     rest_found (kept_of c.args.chains.now) c.args.run.now c.kept-have.result.now c.reports-reports.result.now c.split_at.result.1.now c.origin-origin.result c.start.result c.saturating_sub.result c.min-skip.result c.origin-origin.ensures.value c.reports-reports.ensures c.kept-have.ensures.items c.start.ensures c.saturating_sub.ensures c.min-skip.ensures c.split_at.ensures.back in
     c.in_ok-extend_from_slice.ensures.items ∙ ap (λ (l : List PacketReport). c.args.list.now.items ++ l) rest
+
+pub overflow_cast-start : goal.overflow_cast-start
+overflow_cast-start c = grind (arith, common_steps)
+
+pub split_at-requires : goal.split_at-requires
+split_at-requires c = grind (arith, common_steps)
+
+pub returns-in_err-extend-clause-kept : goal.returns-in_err-extend-clause-kept
+returns-in_err-extend-clause-kept c = grind (arith, common_steps)
+
+pub returns-in_err-extend-clause-list : goal.returns-in_err-extend-clause-list
+returns-in_err-extend-clause-list c = grind (arith, common_steps)

@@ -1,4 +1,5 @@
-use Rattle.std.proofs.Common.{◌∙◌, ap, subst, sym, drop}
+use Rattle.std.proofs.lemmas.Grind.{common_steps}
+use Rattle.std.proofs.Common.{◌∙◌, ap, subst, sym, drop, arith}
 use Rattle.tca_join.proofs.Differ.{rest_is}
 use Rattle.tca_gossip.specs.Runs.{AreRuns, summary_count}
 use Rattle.tca_gossip.proofs.DeltaSteps.{delta_skip, delta_add, delta_ends, right_delta}
@@ -33,3 +34,33 @@ pub returns : goal.returns
 returns c =
     let h = rw c.entries-entry-items.ensures.all at c.loop-entry-test.false in
     c.ascending.ensures ∙ delta_ends (summary_count c.args.since.now) c.args.chains.now c.loop-entry.entry-index c.loop-entry.runs.items h c.loop-entry.invariant
+
+pub loop-entry-init : goal.loop-entry-init
+loop-entry-init c = grind (arith, common_steps)
+
+pub offset_bounds-entry-items-entry-index : goal.offset_bounds-entry-items-entry-index
+offset_bounds-entry-items-entry-index c = grind (arith, common_steps)
+
+pub overflow_cast-from : goal.overflow_cast-from
+overflow_cast-from c = grind (arith, common_steps)
+
+pub overflow_cast-from-then-from-items : goal.overflow_cast-from-then-from-items
+overflow_cast-from-then-from-items c = grind (arith, common_steps)
+
+pub offset_bounds-items-from : goal.offset_bounds-items-from
+offset_bounds-items-from c = grind (arith, common_steps)
+
+pub slice_bounds-from_slice-count : goal.slice_bounds-from_slice-count
+slice_bounds-from_slice-count c = grind (arith, common_steps)
+
+pub slice_bounds-from_slice-start : goal.slice_bounds-from_slice-start
+slice_bounds-from_slice-start c = grind (arith, common_steps)
+
+pub slice_bounds-from_slice-end : goal.slice_bounds-from_slice-end
+slice_bounds-from_slice-end c = grind (arith, common_steps)
+
+pub returns-in_err-reports : goal.returns-in_err-reports
+returns-in_err-reports c = grind (arith, common_steps)
+
+pub returns-in_err-push : goal.returns-in_err-push
+returns-in_err-push c = grind (arith, common_steps)

@@ -1,3 +1,4 @@
+use Rattle.std.proofs.lemmas.Grind.{common_steps}
 use Rattle.std.proofs.Common.{◌≡◌, ◌∙◌, ap, sym, take, false, arith}
 use Rattle.tca_report.specs.report.Reports.{report_cmp}
 use Rattle.tca_join.specs.Sets.{has}
@@ -40,3 +41,27 @@ returns-in-Err-clause-stop c = (
 pub returns-clause-state : goal.returns-clause-state
 returns-clause-state c =
     c.loop-report.invariant.state ∙ ap (λ n. take_all c.args.contents.now.replica (take n c.args.reports.now)) (sym c.loop-report.invariant.count) ∙ take_all_is c.args.contents.now.replica (take c.loop-report.taken c.args.reports.now)
+
+pub offset_bounds-reports-report-index : goal.offset_bounds-reports-report-index
+offset_bounds-reports-report-index c = grind (arith, common_steps)
+
+pub overflow_add-taken : goal.overflow_add-taken
+overflow_add-taken c = grind (arith, common_steps)
+
+pub overflow_add-fresh : goal.overflow_add-fresh
+overflow_add-fresh c = grind (arith, common_steps)
+
+pub returns-in-Err-clause-within : goal.returns-in-Err-clause-within
+returns-in-Err-clause-within c = grind (arith, common_steps)
+
+pub returns-in-Err-clause-fresh : goal.returns-in-Err-clause-fresh
+returns-in-Err-clause-fresh c = grind (arith, common_steps)
+
+pub returns-clause-within : goal.returns-clause-within
+returns-clause-within c = grind (arith, common_steps)
+
+pub returns-clause-fresh : goal.returns-clause-fresh
+returns-clause-fresh c = grind (arith, common_steps)
+
+pub returns-clause-stop : goal.returns-clause-stop
+returns-clause-stop c = grind (arith, common_steps)

@@ -1,4 +1,5 @@
-use Rattle.std.proofs.Common.{◌≡◌, ◌∷◌, sym, ◌∙◌}
+use Rattle.std.proofs.lemmas.Grind.{common_steps}
+use Rattle.std.proofs.Common.{◌≡◌, ◌∷◌, sym, ◌∙◌, arith}
 use Rattle.tca_gossip.proofs.Naming.{apart_there, apart_back, twice}
 use Rattle.tca_gossip.proofs.world.are_distinct.Goals as goal
 
@@ -20,3 +21,12 @@ loop-name-preserved c =
       there = λ apart. apart_there rest name others parts (c.loop-name.invariant.there apart);
       back = λ apart. c.loop-name.invariant.back (apart_back rest name others parts (sym c.contains.ensures.value ∙ c.if-contains.false) apart);
     }
+
+pub loop-name-init : goal.loop-name-init
+loop-name-init c = grind (arith, common_steps)
+
+pub loop-name-smaller : goal.loop-name-smaller
+loop-name-smaller c = grind (arith, common_steps)
+
+pub returns : goal.returns
+returns c = grind (arith, common_steps)

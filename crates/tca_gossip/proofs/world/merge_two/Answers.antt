@@ -1,3 +1,4 @@
+use Rattle.std.proofs.lemmas.Grind.{common_steps}
 use Rattle.std.proofs.Common.{◌≡◌, vec_len, rules, sym, arith}
 use Rattle.std.specs.List.{insert}
 use Rattle.std.proofs.lemmas.Result.{on_ok_weaker, on_err_weaker, IfErr-weaker}
@@ -35,3 +36,9 @@ returns-clause-fault c =
     (λ e. OfBoth c.args.replicas.now.items c.args.into c.args.other (λ v u. IsJoinFault (merge_clash report_eq.ghosts.eq v u) (merge_full v u) e))
     (two_refused c.args.replicas.now.items c.args.into c.args.other c.place_without-at.result c.requires.apart c.place_without-at.ensures.before c.place_without-at.ensures.after c.requires.into_there c.remove-own.result c.index.result.now c.remove-own.ensures.value (rw c.remove-own.ensures.items at c.index.ensures) c.merge-result.new.self c.insert.new.self.items (rw c.remove-own.ensures.items at put) report_eq.ghosts.eq)
     c.merge-result.ensures.fault
+
+pub remove-own-requires : goal.remove-own-requires
+remove-own-requires c = grind (arith, common_steps)
+
+pub insert-requires : goal.insert-requires
+insert-requires c = grind (arith, common_steps)

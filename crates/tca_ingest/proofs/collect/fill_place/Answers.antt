@@ -1,3 +1,4 @@
+use Rattle.std.proofs.lemmas.Grind.{common_steps}
 use Rattle.std.proofs.Common.{◌≡◌, ℕ, List, Some, [], slice_index_or, rules, sym, subst, arith}
 use denote.Bor.{Bor}
 use Rattle.tca_ingest.specs.Works.{IsResult, IsResultAt}
@@ -15,3 +16,30 @@ returns-clause-results c =
 pub returns-clause-empty : goal.returns-clause-empty
 returns-clause-empty c =
     rw (← c.of_job.view_is) (λ d. empty_there c.args.places.now.items c.of_job.inside.job c.index.result.now (omega (arith, c.if-at-len.false, c.len.ensures)) c.index.ensures (sym c.if-is_some.ensures) d)
+
+pub overflow_cast-at : goal.overflow_cast-at
+overflow_cast-at c = grind (arith, common_steps)
+
+pub index-requires : goal.index-requires
+index-requires c = grind (arith, common_steps)
+
+pub returns-then-at-inputs-clause-results : goal.returns-then-at-inputs-clause-results
+returns-then-at-inputs-clause-results c = grind (arith, common_steps)
+
+pub returns-then-at-inputs-clause-fault : goal.returns-then-at-inputs-clause-fault
+returns-then-at-inputs-clause-fault c = grind (arith, common_steps)
+
+pub offset_bounds-inputs-at : goal.offset_bounds-inputs-at
+offset_bounds-inputs-at c = grind (arith, common_steps)
+
+pub bounds-inputs-at : goal.bounds-inputs-at
+bounds-inputs-at c = grind (arith, common_steps)
+
+pub returns-then-ne-clause-results : goal.returns-then-ne-clause-results
+returns-then-ne-clause-results c = grind (arith, common_steps)
+
+pub returns-then-ne-clause-fault : goal.returns-then-ne-clause-fault
+returns-then-ne-clause-fault c = grind (arith, common_steps)
+
+pub index_mut-requires : goal.index_mut-requires
+index_mut-requires c = grind (arith, common_steps)

@@ -1,3 +1,4 @@
+use Rattle.std.proofs.lemmas.Grind.{common_steps}
 use Rattle.std.proofs.Common.{◌≡◌, Some, length, rules, sym, ◌∙◌, subst, ◌++◌, ◌∷◌, [], arith}
 use Rattle.std.specs.List.{AllZip}
 use Rattle.std.proofs.lemmas.Iterator.Adapters.{YieldsList-from_vec}
@@ -33,3 +34,30 @@ returns-clause-done c =
     (λ input place d fits is. subst (IsResultAt input.now) is fits)
     c.args.inputs.now c.args.places.items c.loop-place.done.items c.requires.results
     (subst (λ places. AllZip (λ place d. place ≡ Some d.result) places c.loop-place.done.items) whole c.loop-place.invariant.2)
+
+pub returns-in_err-done-clause-done : goal.returns-in_err-done-clause-done
+returns-in_err-done-clause-done c = grind (arith, common_steps)
+
+pub returns-in_err-done-clause-jobs : goal.returns-in_err-done-clause-jobs
+returns-in_err-done-clause-jobs c = grind (arith, common_steps)
+
+pub returns-in_err-done-clause-fault : goal.returns-in_err-done-clause-fault
+returns-in_err-done-clause-fault c = grind (arith, common_steps)
+
+pub loop-place-init : goal.loop-place-init
+loop-place-init c = grind (arith, common_steps)
+
+pub returns-in_default-clause-fault : goal.returns-in_default-clause-fault
+returns-in_default-clause-fault c = grind (arith, common_steps)
+
+pub returns-in_err-put-clause-done : goal.returns-in_err-put-clause-done
+returns-in_err-put-clause-done c = grind (arith, common_steps)
+
+pub returns-in_err-put-clause-jobs : goal.returns-in_err-put-clause-jobs
+returns-in_err-put-clause-jobs c = grind (arith, common_steps)
+
+pub returns-in_err-put-clause-fault : goal.returns-in_err-put-clause-fault
+returns-in_err-put-clause-fault c = grind (arith, common_steps)
+
+pub returns-clause-jobs : goal.returns-clause-jobs
+returns-clause-jobs c = grind (arith, common_steps)

@@ -1,3 +1,4 @@
+use Rattle.std.proofs.lemmas.Grind.{common_steps}
 use Rattle.std.proofs.Common.{◌≡◌, ◌<◌, ◌≤◌, Some, length, get_or, slice_get, sym, ap, ◌∙◌, subst, arith}
 use Rattle.std.proofs.lemmas.List.{get_or_default}
 use Rattle.tca_ingest.specs.EntryViews.{entry_view, entry_views}
@@ -23,3 +24,36 @@ loop-i-preserved g c =
       at = found_more (entry_views journal) (entry_views calls) places l.i place (entry_view x) among placed (view_at calls l.i x low c.index-calls-i.is) there l.invariant.at (subst (λ n. n ≤ place) (sym l.invariant.next) c.if-place-next.false) found;
       next = next_more places l.i place placed there;
     }
+
+pub loop-i-init : goal.loop-i-init
+loop-i-init g c = grind (arith, common_steps)
+
+pub offset_bounds-places-i : goal.offset_bounds-places-i
+offset_bounds-places-i g c = grind (arith, common_steps)
+
+pub bounds-places-i : goal.bounds-places-i
+bounds-places-i g c = grind (arith, common_steps)
+
+pub returns-then-place-next : goal.returns-then-place-next
+returns-then-place-next g c = grind (arith, common_steps)
+
+pub offset_bounds-journal-place : goal.offset_bounds-journal-place
+offset_bounds-journal-place g c = grind (arith, common_steps)
+
+pub bounds-journal-place : goal.bounds-journal-place
+bounds-journal-place g c = grind (arith, common_steps)
+
+pub offset_bounds-calls-i : goal.offset_bounds-calls-i
+offset_bounds-calls-i g c = grind (arith, common_steps)
+
+pub bounds-calls-i : goal.bounds-calls-i
+bounds-calls-i g c = grind (arith, common_steps)
+
+pub returns-then-not-is_same : goal.returns-then-not-is_same
+returns-then-not-is_same g c = grind (arith, common_steps)
+
+pub overflow_add-next : goal.overflow_add-next
+overflow_add-next g c = grind (arith, common_steps)
+
+pub returns : goal.returns
+returns g c = grind (arith, common_steps)

@@ -1,4 +1,5 @@
-use Rattle.std.proofs.Common.{◌≡◌, ◌≢◌, ◌∙◌, Err, rules, sym, subst, ap}
+use Rattle.std.proofs.lemmas.Grind.{common_steps}
+use Rattle.std.proofs.Common.{◌≡◌, ◌≢◌, ◌∙◌, Err, rules, sym, subst, ap, arith}
 use Rattle.tca_report.specs.input.Wants.{WantsMemory}
 use Rattle.tca_report.specs.declared.input.InputFault.TheVariants.{Memory}
 use Rattle.tca_ingest.specs.declared.job.JobFault.TheVariants.{Input}
@@ -16,3 +17,6 @@ invariant_of-result g c = elim c.match-gather.branch [
       subst (IsResult c.args.input.now) (sym is) (own, wanted)
   | in-Ok w ↦ elim w.match-take_inside.branch [ in-Ok-take_inside w' ↦ search rules | in-Err-take_inside w' ↦ search rules ]
 ]
+
+pub returns : goal.returns
+returns g c = grind (arith, common_steps)

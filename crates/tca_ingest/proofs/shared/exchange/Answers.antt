@@ -1,4 +1,5 @@
-use Rattle.std.proofs.Common.{◌≡◌, ℕ, List, [], Result, Ok, Err, ◌⊎◌, inl, inr, sym, ap, ◌∙◌}
+use Rattle.std.proofs.lemmas.Grind.{common_steps}
+use Rattle.std.proofs.Common.{◌≡◌, ℕ, List, [], Result, Ok, Err, ◌⊎◌, inl, inr, sym, ap, ◌∙◌, arith}
 use Rattle.std.specs.Prelude.{IfOk, OnErr}
 use Rattle.tca_gossip.specs.Runs.{RunView}
 use Rattle.tca_ingest.specs.Entries.{EntryView, Took, Absorbed, Answered, Asked, Sent, pass_of}
@@ -64,3 +65,33 @@ returns-clause-err g c =
     let asked : entry_view c.in_ok-asked.asked.entry ≡ Asked c.args.mine.now.number c.in-Asked.summary = ap entry_view c.in-Asked.is ∙ ap (λ (n : ℕ). Asked n c.in-Asked.summary) (sym (ap (λ e. pass_of (entry_view e)) c.in-Asked.is) ∙ noted.whose) in
     let sent = c.in_ok-sent.ensures.exact in
     err_so c.absorb.result _ _ (λ same. inr (c.in-Asked.summary, same ∙ noted.calls ∙ ap (with_call c.args.mine.now) asked, inr (sent.0, c.in_ok-sent.ensures.noted.calls ∙ ap (with_call c.args.theirs.now) (sent.1 ∙ ap (λ (s : List (ℕ × ℕ)). Sent c.args.theirs.now.number s sent.0) c.in-Asked.summary-is)))) c.absorb.ensures.err
+
+pub returns-in_err-asked-clause-ok : goal.returns-in_err-asked-clause-ok
+returns-in_err-asked-clause-ok g c = grind (arith, common_steps)
+
+pub returns-in_err-asked-clause-fault : goal.returns-in_err-asked-clause-fault
+returns-in_err-asked-clause-fault g c = grind (arith, common_steps)
+
+pub returns-in_err-asked-clause-err : goal.returns-in_err-asked-clause-err
+returns-in_err-asked-clause-err g c = grind (arith, common_steps)
+
+pub unreachable-requires : goal.unreachable-requires
+unreachable-requires g c = grind (arith, common_steps)
+
+pub unreachable-unreachable : goal.unreachable-unreachable
+unreachable-unreachable g c = grind (arith, common_steps)
+
+pub returns-in_err-sent-clause-ok : goal.returns-in_err-sent-clause-ok
+returns-in_err-sent-clause-ok g c = grind (arith, common_steps)
+
+pub returns-in_err-sent-clause-fault : goal.returns-in_err-sent-clause-fault
+returns-in_err-sent-clause-fault g c = grind (arith, common_steps)
+
+pub unreachable-requires-in_default-entry : goal.unreachable-requires-in_default-entry
+unreachable-requires-in_default-entry g c = grind (arith, common_steps)
+
+pub unreachable-unreachable-in_default-entry : goal.unreachable-unreachable-in_default-entry
+unreachable-unreachable-in_default-entry g c = grind (arith, common_steps)
+
+pub returns-clause-fault : goal.returns-clause-fault
+returns-clause-fault g c = grind (arith, common_steps)

@@ -1,8 +1,7 @@
 //! Two replicas by a table: what each does, and what it is told.
 use super::outcomes::{Outcome, absorbed, bill, holds, merged, took};
 use super::{Part, Play, Row, delta, reports};
-use std::alloc::Global;
-use std::test::Fail;
+use std::alloc::{AllocError, Global};
 use tca_gossip::{Delta, Replica};
 
 #[derive(Clone, Copy)]
@@ -41,36 +40,50 @@ fn absorb(replica: &mut Replica, delta: &Delta) -> Outcome {
     }
 }
 
-fn learn(replica: &mut Replica, other: &Replica) -> Result<Outcome, Fail> {
+fn learn(replica: &mut Replica, other: &Replica) -> Result<Outcome, AllocError> {
     let counts = replica.summary()?;
     let sent = other.delta(&counts)?;
     Ok(absorb(replica, &sent))
 }
 
-fn done(alloc: Global, own: &mut Replica, other: &Replica, act: Act) -> Result<Outcome, Fail> {
-    Ok(match act {
-        Act::Take(rows) => took(&own.take(&reports(alloc, rows)?)),
-        Act::Absorb(parts) => absorb(own, &delta(alloc, parts)?.ok_or("a delta")?),
-        Act::Learn => learn(own, other)?,
-        Act::Merge => merged(own.merge(other)),
-        Act::Show => holds(own),
-        Act::Bill => bill(own)?,
-    })
+fn take(alloc: Global, own: &mut Replica, rows: &[Row]) -> Option<Outcome> {
+    let Some(list) = reports(alloc, rows) else {
+        return None;
+    };
+    Some(took(&own.take(&list)))
+}
+
+fn absorb_parts(alloc: Global, own: &mut Replica, parts: &[Part]) -> Option<Outcome> {
+    let Some(Some(sent)) = delta(alloc, parts) else {
+        return None;
+    };
+    Some(absorb(own, &sent))
+}
+
+fn done(alloc: Global, own: &mut Replica, other: &Replica, act: Act) -> Option<Outcome> {
+    match act {
+        Act::Take(rows) => take(alloc, own, rows),
+        Act::Absorb(parts) => absorb_parts(alloc, own, parts),
+        Act::Learn => learn(own, other).ok(),
+        Act::Merge => Some(merged(own.merge(other))),
+        Act::Show => Some(holds(own)),
+        Act::Bill => bill(own).ok(),
+    }
 }
 
 impl Play for Table {
-    fn play(&self, alloc: Global, one: &mut Replica, two: &mut Replica) -> Result<bool, Fail> {
+    fn play(&self, alloc: Global, one: &mut Replica, two: &mut Replica) -> Option<bool> {
         for line in self.lines {
             let (who, what, wanted) = *line;
             let outcome = if who == Who::One {
-                done(alloc, one, two, what)?
+                done(alloc, one, two, what)
             } else {
-                done(alloc, two, one, what)?
+                done(alloc, two, one, what)
             };
-            if outcome != wanted {
-                return Ok(false);
+            if outcome != Some(wanted) {
+                return Some(false);
             }
         }
-        Ok(true)
+        Some(true)
     }
 }

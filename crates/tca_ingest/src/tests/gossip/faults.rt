@@ -2,13 +2,14 @@
 use std::alloc::Global;
 use std::fmt::Display;
 use std::format;
-use std::test::Fail;
 use tca_gossip::{AbsorbFault, WorldFault};
 use tca_log::LogFault;
 
-fn says<F: Display>(alloc: Global, fault: &F, text: &str) -> Result<bool, Fail> {
-    let said = format!(in alloc; "{fault}")?;
-    Ok(said.as_str() == text)
+fn says<F: Display>(alloc: Global, fault: &F, text: &str) -> bool {
+    match format!(in alloc; "{fault}") {
+        Ok(said) => said.as_str() == text,
+        Err(_) => false,
+    }
 }
 
 const GAP: AbsorbFault = AbsorbFault::Gap {
@@ -36,45 +37,42 @@ fn faults_have_numbers(rt: HostRuntime) {
     assert!(rt; WorldFault::Memory.number() == 2);
 }
 
-fn absorb_faults_say(alloc: Global) -> Result<bool, Fail> {
-    Ok(
-        says(
-            alloc,
-            &GAP,
-            "the run of origin 2 starts at place 1, past the 0 reports that are held",
-        )? && says(
-            alloc,
-            &FORKED,
-            "the run of origin 2 differs from the chain at place 7",
-        )? && says(
-            alloc,
-            &AHEAD,
-            "a run of this replica's own name ends at place 6, past its 1 reports",
-        )? && says(
-            alloc,
-            &STOPPED,
-            "stopped after 3 new reports: the log is full: it has at most 4194304 reports",
-        )?,
+fn absorb_faults_say(alloc: Global) -> bool {
+    says(
+        alloc,
+        &GAP,
+        "the run of origin 2 starts at place 1, past the 0 reports that are held",
+    ) && says(
+        alloc,
+        &FORKED,
+        "the run of origin 2 differs from the chain at place 7",
+    ) && says(
+        alloc,
+        &AHEAD,
+        "a run of this replica's own name ends at place 6, past its 1 reports",
+    ) && says(
+        alloc,
+        &STOPPED,
+        "stopped after 3 new reports: the log is full: it has at most 4194304 reports",
     )
 }
 
 #[test]
-fn faults_have_texts(rt: HostRuntime) -> Result<(), Fail> {
+fn faults_have_texts(rt: HostRuntime) {
     let alloc = rt.alloc();
-    assert!(rt; absorb_faults_say(alloc)?);
+    assert!(rt; absorb_faults_say(alloc));
     assert!(rt;
         says(
             alloc,
             &WorldFault::NameTwice,
             "a name of a replica stands twice"
-        )?
+        )
     );
     assert!(rt;
         says(
             alloc,
             &WorldFault::Memory,
             "no memory for the replicas of the world"
-        )?
+        )
     );
-    Ok(())
 }

@@ -3,7 +3,6 @@ use super::outcomes::{Outcome, outcome_of};
 use super::plain::{NAMES, Plain};
 use super::{PLAN, report};
 use std::alloc::Global;
-use std::test::Fail;
 use tca_accounts::{Bill, Plan, bill_all};
 use tca_gossip::{Replica, Reply, Step, World};
 use tca_report::Report;
@@ -36,24 +35,32 @@ impl Numbers {
 
 // Some of 20 reports of ten identities, whose order in time is not that of their places. Two thirds are the first content of an
 // identity, and dispute nothing.
-fn some_reports(alloc: Global, numbers: &mut Numbers) -> Result<Vec<Report>, Fail> {
+fn some_reports(alloc: Global, numbers: &mut Numbers) -> Option<Vec<Report>> {
     let mut list = Vec::new(alloc);
     for _ in 0..numbers.below(4) {
         let bound = if numbers.below(3) == 0 { 20 } else { 10 };
         let number = numbers.below(bound) % 20;
-        list.push(report((number % 10, number * 7 % 20 * 150, 700 + number * 10))?)?;
+        let row = (number % 10, number * 7 % 20 * 150, 700 + number * 10);
+        let Some(report) = report(row) else {
+            return None;
+        };
+        if list.push(report).is_err() {
+            return None;
+        }
     }
-    Ok(list)
+    Some(list)
 }
 
-fn some_step(alloc: Global, names: u32, numbers: &mut Numbers) -> Result<Step, Fail> {
+fn some_step(alloc: Global, names: u32, numbers: &mut Numbers) -> Option<Step> {
     let at = numbers.name(names);
     let message = numbers.below(12);
-    Ok(match numbers.below(8) {
-        0 | 1 => Step::Take {
-            at,
-            reports: some_reports(alloc, numbers)?,
-        },
+    Some(match numbers.below(8) {
+        0 | 1 => {
+            let Some(reports) = some_reports(alloc, numbers) else {
+                return None;
+            };
+            Step::Take { at, reports }
+        }
         2 => Step::Ask { at },
         3 | 4 => Step::Answer { at, message },
         5 | 6 => Step::Deliver { message, to: at },
@@ -64,23 +71,30 @@ fn some_step(alloc: Global, names: u32, numbers: &mut Numbers) -> Result<Step, F
     })
 }
 
-fn some_steps(alloc: Global, names: u32, numbers: &mut Numbers) -> Result<Vec<Step>, Fail> {
+fn some_steps(alloc: Global, names: u32, numbers: &mut Numbers) -> Option<Vec<Step>> {
     let mut steps = Vec::new(alloc);
     for _ in 0..12 {
-        steps.push(some_step(alloc, names, numbers)?)?;
+        let Some(step) = some_step(alloc, names, numbers) else {
+            return None;
+        };
+        if steps.push(step).is_err() {
+            return None;
+        }
     }
-    Ok(steps)
+    Some(steps)
 }
 
 // Whether the replies are those of plain lists that do the same.
-fn are_of(plain: &mut Plain, steps: &[Step], replies: &[Reply]) -> Result<bool, Fail> {
+fn are_of(plain: &mut Plain, steps: &[Step], replies: &[Reply]) -> bool {
     for i in 0..steps.len() {
-        let wanted = plain.step(&steps[i])?;
+        let Ok(wanted) = plain.step(&steps[i]) else {
+            return false;
+        };
         if i >= replies.len() || outcome_of(&replies[i]) != wanted {
-            return Ok(false);
+            return false;
         }
     }
-    Ok(replies.len() == steps.len())
+    replies.len() == steps.len()
 }
 
 // Whether a log has these reports, in this order, and no others.
@@ -94,14 +108,16 @@ fn has_all(replica: &Replica, list: &[Report]) -> bool {
     left.next().is_none()
 }
 
-fn has_chains(replica: &Replica, plain: &Plain) -> Result<bool, Fail> {
+fn has_chains(replica: &Replica, plain: &Plain) -> bool {
     for origin in NAMES {
-        let chain = plain.chain(replica.name(), origin)?;
+        let Ok(chain) = plain.chain(replica.name(), origin) else {
+            return false;
+        };
         if replica.chain(origin) != chain.as_slice() {
-            return Ok(false);
+            return false;
         }
     }
-    Ok(true)
+    true
 }
 
 fn are_alike(one: &Bill, other: &Bill) -> bool {
@@ -120,58 +136,64 @@ fn are_alike(one: &Bill, other: &Bill) -> bool {
 }
 
 // Whether a replica holds what the lists say, and has the bill of its log.
-fn shows(alloc: Global, replica: &Replica, plain: &Plain, plan: &Plan) -> Result<bool, Fail> {
-    let log = plain.log(replica.name())?;
-    let whole = bill_all(alloc, plan, replica.log())?;
-    let totals = replica.totals()?;
-    Ok(has_all(replica, &log) && has_chains(replica, plain)? && are_alike(&totals, &whole))
+fn shows(alloc: Global, replica: &Replica, plain: &Plain, plan: &Plan) -> bool {
+    let Ok(log) = plain.log(replica.name()) else {
+        return false;
+    };
+    let Ok(whole) = bill_all(alloc, plan, replica.log()) else {
+        return false;
+    };
+    let Ok(totals) = replica.totals() else {
+        return false;
+    };
+    has_all(replica, &log) && has_chains(replica, plain) && are_alike(&totals, &whole)
 }
 
-fn all_show(alloc: Global, world: &World, plain: &Plain, plan: &Plan) -> Result<bool, Fail> {
+fn all_show(alloc: Global, world: &World, plain: &Plain, plan: &Plan) -> bool {
     for name in NAMES {
         if let Some(replica) = world.replica(name) {
-            if !shows(alloc, replica, plain, plan)? {
-                return Ok(false);
+            if !shows(alloc, replica, plain, plan) {
+                return false;
             }
         }
     }
-    Ok(true)
+    true
 }
 
 // Whether twelve steps get the replies of plain lists, and leave what these hold.
-fn agrees(
-    alloc: Global,
-    world: &mut World,
-    plain: &mut Plain,
-    numbers: &mut Numbers,
-) -> Result<bool, Fail> {
-    let plan = Plan::from_text(alloc, PLAN.as_bytes())?;
-    let steps = some_steps(alloc, plain.names(), numbers)?;
-    let replies = world.run(&steps)?;
-    Ok(are_of(plain, &steps, &replies)? && all_show(alloc, world, plain, &plan)?)
+fn agrees(alloc: Global, world: &mut World, plain: &mut Plain, numbers: &mut Numbers) -> bool {
+    let Ok(plan) = Plan::from_text(alloc, PLAN.as_bytes()) else {
+        return false;
+    };
+    let Some(steps) = some_steps(alloc, plain.names(), numbers) else {
+        return false;
+    };
+    let Ok(replies) = world.run(&steps) else {
+        return false;
+    };
+    are_of(plain, &steps, &replies) && all_show(alloc, world, plain, &plan)
 }
 
 // Whether a world of so many names does, and again from there.
-fn goes(alloc: Global, names: u32, numbers: &mut Numbers) -> Result<bool, Fail> {
+fn goes(alloc: Global, names: u32, numbers: &mut Numbers) -> bool {
     let all = NAMES;
-    let some = all.get(..names as usize).ok_or("at most five names")?;
-    let plan = Plan::from_text(alloc, PLAN.as_bytes())?;
+    let Some(some) = all.get(..names as usize) else {
+        return false;
+    };
+    let Ok(plan) = Plan::from_text(alloc, PLAN.as_bytes()) else {
+        return false;
+    };
     let mut plain = Plain::new(alloc, names);
-    let mut world = World::new(alloc, some, &plan)?;
-    Ok(
-        agrees(alloc, &mut world, &mut plain, numbers)?
-            && agrees(alloc, &mut world, &mut plain, numbers)?,
-    )
+    let Ok(mut world) = World::new(alloc, some, &plan) else {
+        return false;
+    };
+    agrees(alloc, &mut world, &mut plain, numbers) && agrees(alloc, &mut world, &mut plain, numbers)
 }
 
 #[test]
-fn any_list_of_steps_gets_the_replies_of_plain_lists(rt: HostRuntime) -> Result<(), Fail> {
+fn any_list_of_steps_gets_the_replies_of_plain_lists(rt: HostRuntime) {
     let mut numbers = Numbers { state: 29 };
     for list in 0..4000 {
-        assert!(rt;
-            goes(rt.alloc(), list % 4 + 2, &mut numbers)?,
-            "list {list}"
-        );
+        assert!(rt; goes(rt.alloc(), list % 4 + 2, &mut numbers), "list {list}");
     }
-    Ok(())
 }

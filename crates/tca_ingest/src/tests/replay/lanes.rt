@@ -6,6 +6,7 @@ use std::alloc::Global;
 use std::sync::Arc;
 use std::sync::atomic::{AtomicU64, Ordering};
 use std::test::Fail;
+use tca_accounts::Tally;
 use tca_meters::{Colour, Levels, Meter, SrTcm};
 use tca_replay::Lane;
 use tca_report::Report;
@@ -54,62 +55,82 @@ impl Meter for Counting {
 }
 
 // A report of 100 octets at one of the tens of milliseconds, or one of another place a little later.
-fn row(at: u32, later: u32) -> Result<Report, Fail> {
+fn row(at: u32, later: u32) -> Option<Report> {
     let place = at % 100 + 100 * (later % 10);
     let late = at % 100 * 10 + later % 10;
-    Ok(report(place, late, 100, 0).ok_or("a report")?)
+    report(place, late, 100, 0)
 }
 
 // Resumes the lane, and answers the steps where they are those that the meter counted and the tally is that of a fresh lane.
-fn steps(
-    alloc: Global,
-    lane: &mut Lane<Counting>,
-    offers: &Arc<AtomicU64, Global>,
-) -> Result<u64, Fail> {
+fn steps(alloc: Global, lane: &mut Lane<Counting>, offers: &Arc<AtomicU64, Global>) -> Option<u64> {
     let before = offers.load(Ordering::SeqCst);
     let steps = lane.resume().steps;
     let counted = offers.load(Ordering::SeqCst).wrapping_sub(before);
-    let tally = lane.tally(alloc)?;
-    let fresh = fresh_tally(alloc, single_rate()?, lane.rows())?;
+    let Ok(tally) = lane.tally(alloc) else {
+        return None;
+    };
+    let Some(fresh) = single_rate_tally(alloc, lane) else {
+        return None;
+    };
     if steps != counted || !are_alike(&tally, &fresh) {
-        return Err("other steps or another tally".into());
+        return None;
     }
-    Ok(steps)
+    Some(steps)
 }
 
-fn single_rate() -> Result<SrTcm, Fail> {
-    Ok(SrTcm::new(1000, 2000, 1000, false).ok().ok_or("a meter")?)
+fn single_rate() -> Option<SrTcm> {
+    SrTcm::new(1000, 2000, 1000, false).ok()
 }
 
-fn new_counting(offers: &Arc<AtomicU64, Global>) -> Result<Counting, Fail> {
-    let meter = single_rate()?;
-    let offers = Arc::try_clone(offers)?;
-    Ok(Counting { meter, offers })
+// The tally of a fresh lane with the rows of this one.
+fn single_rate_tally(alloc: Global, lane: &Lane<Counting>) -> Option<Tally> {
+    let Some(meter) = single_rate() else {
+        return None;
+    };
+    fresh_tally(alloc, meter, lane.rows()).ok()
 }
 
-// Puts five rows into a lane that has none, and resumes it.
-fn put_five(
-    alloc: Global,
-    lane: &mut Lane<Counting>,
-    offers: &Arc<AtomicU64, Global>,
-) -> Result<(), Fail> {
+fn new_counting(offers: &Arc<AtomicU64, Global>) -> Option<Counting> {
+    let Some(meter) = single_rate() else {
+        return None;
+    };
+    let Ok(offers) = Arc::try_clone(offers) else {
+        return None;
+    };
+    Some(Counting { meter, offers })
+}
+
+// Puts a row, if there is memory for it.
+fn put_row(lane: &mut Lane<Counting>, at: u32, later: u32) -> bool {
+    let Some(row) = row(at, later) else {
+        return false;
+    };
+    put(lane, row).is_ok()
+}
+
+// Puts five rows into a lane that has none, and resumes it. Answers whether that was five steps.
+fn put_five(alloc: Global, lane: &mut Lane<Counting>, offers: &Arc<AtomicU64, Global>) -> bool {
     for at in 0..5 {
-        put(lane, row(at, 0)?)?;
+        if !put_row(lane, at, 0) {
+            return false;
+        }
     }
-    if steps(alloc, lane, offers)? != 5 {
-        return Err("five rows are not five steps".into());
-    }
-    Ok(())
+    steps(alloc, lane, offers) == Some(5)
 }
 
 // A lane of five rows, resumed.
-fn five_rows(alloc: Global, offers: &Arc<AtomicU64, Global>, k: u32) -> Result<Lane<Counting>, Fail>
+fn five_rows(alloc: Global, offers: &Arc<AtomicU64, Global>, k: u32) -> Option<Lane<Counting>>
     requires some { 0 < k }
     requires few { k ≤ 65536 }
 {
-    let mut lane = Lane::new(alloc, new_counting(offers)?, Colour::Green, HOUR, k);
-    put_five(alloc, &mut lane, offers)?;
-    Ok(lane)
+    let Some(meter) = new_counting(offers) else {
+        return None;
+    };
+    let mut lane = Lane::new(alloc, meter, Colour::Green, HOUR, k);
+    if !put_five(alloc, &mut lane, offers) {
+        return None;
+    }
+    Some(lane)
 }
 
 // Exchanges a row, and answers the steps.
@@ -118,9 +139,14 @@ fn exchanged(
     lane: &mut Lane<Counting>,
     offers: &Arc<AtomicU64, Global>,
     at: u32,
-) -> Result<u64, Fail> {
-    withdraw(lane, &row(at, 0)?);
-    put(lane, row(at, 1)?)?;
+) -> Option<u64> {
+    let Some(before) = row(at, 0) else {
+        return None;
+    };
+    withdraw(lane, &before);
+    if !put_row(lane, at, 1) {
+        return None;
+    }
     steps(alloc, lane, offers)
 }
 
@@ -130,37 +156,37 @@ fn exchange_within(
     lane: &mut Lane<Counting>,
     offers: &Arc<AtomicU64, Global>,
     exchanges: &[(u32, u64)],
-) -> Result<bool, Fail> {
+) -> bool {
     for exchange in exchanges {
         let (at, most) = *exchange;
-        if exchanged(alloc, lane, offers, at)? > most {
-            return Ok(false);
+        let Some(taken) = exchanged(alloc, lane, offers, at) else {
+            return false;
+        };
+        if taken > most {
+            return false;
         }
     }
-    Ok(steps(alloc, lane, offers)? == 0)
+    steps(alloc, lane, offers) == Some(0)
 }
 
 // The same of a lane of five rows, with a mark after each so many.
-fn exchanges_take(
-    alloc: Global,
-    offers: &Arc<AtomicU64, Global>,
-    k: u32,
-    exchanges: &[(u32, u64)],
-) -> Result<bool, Fail>
+fn exchanges_take(alloc: Global, k: u32, exchanges: &[(u32, u64)]) -> bool
     requires some { 0 < k }
     requires few { k ≤ 65536 }
 {
-    let mut lane = five_rows(alloc, offers, k)?;
-    exchange_within(alloc, &mut lane, offers, exchanges)
+    let Ok(offers) = Arc::new(alloc, AtomicU64::new(0)) else {
+        return false;
+    };
+    let Some(mut lane) = five_rows(alloc, &offers, k) else {
+        return false;
+    };
+    exchange_within(alloc, &mut lane, &offers, exchanges)
 }
 
 #[test]
-fn an_exchanged_row_is_metered_from_the_mark_before(rt: HostRuntime) -> Result<(), Fail> {
-    let alloc = rt.alloc();
-    let offers = Arc::new(alloc, AtomicU64::new(0))?;
-    assert!(rt; exchanges_take(alloc, &offers, 2, &[(3, 4), (0, 7)])?);
-    assert!(rt; exchanges_take(alloc, &offers, 1, &[(3, 3)])?);
-    Ok(())
+fn an_exchanged_row_is_metered_from_the_mark_before(rt: HostRuntime) {
+    assert!(rt; exchanges_take(rt.alloc(), 2, &[(3, 4), (0, 7)]));
+    assert!(rt; exchanges_take(rt.alloc(), 1, &[(3, 3)]));
 }
 
 // Puts one row more, and answers the steps.
@@ -168,8 +194,10 @@ fn with_sixth(
     alloc: Global,
     lane: &mut Lane<Counting>,
     offers: &Arc<AtomicU64, Global>,
-) -> Result<u64, Fail> {
-    put(lane, row(5, 0)?)?;
+) -> Option<u64> {
+    if !put_row(lane, 5, 0) {
+        return None;
+    }
     steps(alloc, lane, offers)
 }
 
@@ -177,8 +205,8 @@ fn with_sixth(
 fn a_row_at_the_end_is_metered_from_the_mark_before(rt: HostRuntime) -> Result<(), Fail> {
     let alloc = rt.alloc();
     let offers = Arc::new(alloc, AtomicU64::new(0))?;
-    let mut lane = five_rows(alloc, &offers, 2)?;
-    assert!(rt; with_sixth(alloc, &mut lane, &offers)? <= 3);
+    let mut lane = five_rows(alloc, &offers, 2).ok_or("a lane of five rows")?;
+    assert!(rt; matches!(with_sixth(alloc, &mut lane, &offers), Some(steps) if steps <= 3));
     assert!(rt; lane.len() == 6);
     Ok(())
 }
@@ -188,12 +216,18 @@ fn come_and_go(
     alloc: Global,
     lane: &mut Lane<Counting>,
     offers: &Arc<AtomicU64, Global>,
-) -> Result<u64, Fail> {
-    let (one, other) = (row(4, 1)?, row(4, 0)?);
-    put(lane, one)?;
+) -> Option<u64> {
+    let (Some(one), Some(other)) = (row(4, 1), row(4, 0)) else {
+        return None;
+    };
+    if put(lane, one).is_err() {
+        return None;
+    }
     withdraw(lane, &one);
     withdraw(lane, &other);
-    put(lane, other)?;
+    if put(lane, other).is_err() {
+        return None;
+    }
     steps(alloc, lane, offers)
 }
 
@@ -202,18 +236,30 @@ fn keeps_its_tally(
     alloc: Global,
     lane: &mut Lane<Counting>,
     offers: &Arc<AtomicU64, Global>,
-) -> Result<bool, Fail> {
-    let before = fresh_tally(alloc, single_rate()?, lane.rows())?;
-    let few = come_and_go(alloc, lane, offers)? <= 3;
-    let after = fresh_tally(alloc, single_rate()?, lane.rows())?;
-    Ok(few && are_alike(&before, &after))
+) -> bool {
+    let Some(before) = single_rate_tally(alloc, lane) else {
+        return false;
+    };
+    let Some(steps) = come_and_go(alloc, lane, offers) else {
+        return false;
+    };
+    let Some(after) = single_rate_tally(alloc, lane) else {
+        return false;
+    };
+    steps <= 3 && are_alike(&before, &after)
+}
+
+fn five_keep_their_tally(alloc: Global) -> bool {
+    let Ok(offers) = Arc::new(alloc, AtomicU64::new(0)) else {
+        return false;
+    };
+    let Some(mut lane) = five_rows(alloc, &offers, 2) else {
+        return false;
+    };
+    keeps_its_tally(alloc, &mut lane, &offers)
 }
 
 #[test]
-fn a_row_that_came_and_went_changes_no_tally(rt: HostRuntime) -> Result<(), Fail> {
-    let alloc = rt.alloc();
-    let offers = Arc::new(alloc, AtomicU64::new(0))?;
-    let mut lane = five_rows(alloc, &offers, 2)?;
-    assert!(rt; keeps_its_tally(alloc, &mut lane, &offers)?);
-    Ok(())
+fn a_row_that_came_and_went_changes_no_tally(rt: HostRuntime) {
+    assert!(rt; five_keep_their_tally(rt.alloc()));
 }

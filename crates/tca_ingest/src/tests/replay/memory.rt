@@ -5,7 +5,6 @@ use super::books::{PLAN, figures, take};
 use super::{HOUR, are_alike, fresh_tally, report};
 use linked_list_allocator::LocalHeap;
 use std::alloc::{AllocError, Allocator, Global};
-use std::test::Fail;
 use tca_accounts::{Plan, bill_all};
 use tca_log::{Log, LogFault};
 use tca_meters::{Colour, SrTcm};
@@ -22,7 +21,7 @@ enum Step {
     Before,
     // The call was refused, and what it left is as it was; the heap then held this many octets.
     Refused(usize),
-    // What the call left is not as it was, or not as it should be.
+    // What the call left is not as it was, or not as it should be; or there was no memory to tell.
     Wrong,
     Done,
 }
@@ -125,21 +124,31 @@ fn rows_step(alloc: Global, size: usize, meter: SrTcm) -> Result<Step, AllocErro
     put_six(alloc, &small, &mut lane, meter)
 }
 
-#[test]
-fn a_refused_row_leaves_the_tally(rt: HostRuntime) -> Result<(), Fail> {
-    let alloc = rt.alloc();
-    let meter = SrTcm::new(1000, 2000, 1000, false).ok().ok_or("a meter")?;
+// Those of heaps of rising sizes, up to the first that has room for all.
+fn rows_steps(alloc: Global) -> Heaps {
+    let Ok(meter) = SrTcm::new(1000, 2000, 1000, false) else {
+        return NONE;
+    };
     let mut heaps = NONE;
     for size in 1..2048 {
-        heaps = heaps.and(rows_step(alloc, STEP * size, meter)?);
+        let step = match rows_step(alloc, STEP * size, meter) {
+            Ok(step) => step,
+            Err(_) => Step::Wrong,
+        };
+        heaps = heaps.and(step);
         if heaps.done {
             break;
         }
     }
+    heaps
+}
+
+#[test]
+fn a_refused_row_leaves_the_tally(rt: HostRuntime) {
+    let heaps = rows_steps(rt.alloc());
     // Refused to the list of chunks, to the chunk, to the spans, to the marks, and to each of the two as they grow.
     assert!(rt; heaps.kept >= 6);
     assert!(rt; heaps.done && !heaps.wrong);
-    Ok(())
 }
 
 // Takes reports until there is no room for one. The answer is whether there was room for all.
@@ -164,22 +173,26 @@ fn take_all<A: Allocator + Copy>(
 type Billed = (([u64; 3], u32, u32), u32);
 
 // Those of the bill of the log.
-fn billed(alloc: Global, log: &Log) -> Result<Billed, Fail> {
-    let plan = Plan::from_text(alloc, PLAN.as_bytes())?;
-    let whole = bill_all(alloc, &plan, log)?;
-    Ok((figures(&whole), whole.unassigned))
+fn billed(alloc: Global, log: &Log) -> Option<Billed> {
+    let Ok(plan) = Plan::from_text(alloc, PLAN.as_bytes()) else {
+        return None;
+    };
+    let Ok(whole) = bill_all(alloc, &plan, log) else {
+        return None;
+    };
+    Some((figures(&whole), whole.unassigned))
 }
 
 // Whether a settled book's totals are the bill of the log.
-fn bills_alike<A: Allocator + Copy>(
-    alloc: Global,
-    log: &Log,
-    book: &mut Book<A>,
-) -> Result<bool, Fail> {
-    let whole = billed(alloc, log)?;
+fn bills_alike<A: Allocator + Copy>(alloc: Global, log: &Log, book: &mut Book<A>) -> bool {
+    let Some(whole) = billed(alloc, log) else {
+        return false;
+    };
     book.settle();
-    let totals = book.totals(alloc)?;
-    Ok(figures(&totals) == whole.0 && totals.unassigned == whole.1)
+    let Ok(totals) = book.totals(alloc) else {
+        return false;
+    };
+    figures(&totals) == whole.0 && totals.unassigned == whole.1
 }
 
 fn reports(alloc: Global) -> Result<Vec<Report>, AllocError> {
@@ -205,57 +218,63 @@ fn filled<A: Allocator + Copy>(
     log: &mut Log,
     book: &mut Book<A>,
     list: &[Report],
-) -> Result<Step, Fail>
+) -> Step
     requires { Fits log.old book.old }
 {
-    let all = take_all(log, book, list)?;
+    let Ok(all) = take_all(log, book, list) else {
+        return Step::Wrong;
+    };
     let octets = small.used();
-    if !bills_alike(alloc, log, book)? {
-        return Ok(Step::Wrong);
+    if !bills_alike(alloc, log, book) {
+        return Step::Wrong;
     }
-    Ok(if all {
+    if all {
         Step::Done
     } else {
         Step::Refused(octets)
-    })
+    }
 }
 
 // The same of a book in a small heap of this size.
-fn ready_step(alloc: Global, size: usize, list: &[Report]) -> Result<Step, Fail> {
-    let plan = Plan::from_text(alloc, PLAN.as_bytes())?;
-    let small = LocalHeap::new(alloc, size)?;
+fn ready_step(alloc: Global, size: usize, list: &[Report]) -> Step {
+    let Ok(plan) = Plan::from_text(alloc, PLAN.as_bytes()) else {
+        return Step::Wrong;
+    };
+    let Ok(small) = LocalHeap::new(alloc, size) else {
+        return Step::Wrong;
+    };
     let Ok(mut book) = Book::new(&small, plan, 1) else {
-        return Ok(Step::Before);
+        return Step::Before;
     };
     let mut log = Log::new(alloc);
     filled(alloc, &small, &mut log, &mut book, list)
 }
 
 // Those of heaps of rising sizes, up to the first that has room for all.
-fn ready_steps(alloc: Global, list: &[Report]) -> Result<Heaps, Fail> {
+fn ready_steps(alloc: Global) -> Heaps {
+    let Ok(list) = reports(alloc) else {
+        return NONE;
+    };
     let mut heaps = NONE;
     for size in 1..2048 {
-        heaps = heaps.and(ready_step(alloc, STEP * size, list)?);
+        heaps = heaps.and(ready_step(alloc, STEP * size, &list));
         if heaps.done {
             break;
         }
     }
-    Ok(heaps)
+    heaps
 }
 
 #[test]
-fn a_report_without_room_leaves_the_totals(rt: HostRuntime) -> Result<(), Fail> {
-    let alloc = rt.alloc();
-    let list = reports(alloc)?;
-    let heaps = ready_steps(alloc, &list)?;
+fn a_report_without_room_leaves_the_totals(rt: HostRuntime) {
+    let heaps = ready_steps(rt.alloc());
     assert!(rt; heaps.kept >= 4);
     assert!(rt; heaps.before && heaps.done);
     assert!(rt; !heaps.wrong);
-    Ok(())
 }
 
 // A log of the first reports of a list.
-fn log_of(alloc: Global, list: &[Report], count: usize) -> Result<Log, Fail> {
+fn log_of(alloc: Global, list: &[Report], count: usize) -> Result<Log, LogFault> {
     let mut log = Log::new(alloc);
     for report in list.iter().take(count) {
         log.add(*report)?;
@@ -270,59 +289,67 @@ fn refitted<'a>(
     book: &mut Book<&'a LocalHeap>,
     first: &Log,
     whole: &Log,
-) -> Result<Step, Fail> {
+) -> Step {
     if book.refit(small, first).is_err() {
-        return Ok(Step::Before);
+        return Step::Before;
     }
     let refused = book.refit(small, whole).is_err();
     let octets = small.used();
     let log = if refused { first } else { whole };
-    if !bills_alike(alloc, log, book)? {
-        return Ok(Step::Wrong);
+    if !bills_alike(alloc, log, book) {
+        return Step::Wrong;
     }
-    Ok(if refused {
+    if refused {
         Step::Refused(octets)
     } else {
         Step::Done
-    })
+    }
 }
 
 // The same of a book in a small heap of this size.
-fn refit_step(alloc: Global, size: usize, first: &Log, whole: &Log) -> Result<Step, Fail> {
-    let plan = Plan::from_text(alloc, PLAN.as_bytes())?;
-    let small = LocalHeap::new(alloc, size)?;
+fn refit_step(alloc: Global, size: usize, first: &Log, whole: &Log) -> Step {
+    let Ok(plan) = Plan::from_text(alloc, PLAN.as_bytes()) else {
+        return Step::Wrong;
+    };
+    let Ok(small) = LocalHeap::new(alloc, size) else {
+        return Step::Wrong;
+    };
     let Ok(mut book) = Book::new(&small, plan, 1) else {
-        return Ok(Step::Before);
+        return Step::Before;
     };
     refitted(alloc, &small, &mut book, first, whole)
 }
 
 // Those of heaps of rising sizes, up to the first that has room for the whole.
-fn refit_steps(alloc: Global, first: &Log, whole: &Log) -> Result<Heaps, Fail> {
+fn refit_steps(alloc: Global, first: &Log, whole: &Log) -> Heaps {
     let mut heaps = NONE;
     for size in 1..2048 {
-        heaps = heaps.and(refit_step(alloc, STEP * size, first, whole)?);
+        heaps = heaps.and(refit_step(alloc, STEP * size, first, whole));
         if heaps.done {
             break;
         }
     }
-    Ok(heaps)
+    heaps
 }
 
 // Those of a log of the first three reports, and one of all.
-fn refits(alloc: Global, list: &[Report]) -> Result<Heaps, Fail> {
-    let first = log_of(alloc, list, 3)?;
-    let whole = log_of(alloc, list, 5)?;
+fn refits(alloc: Global) -> Heaps {
+    let Ok(list) = reports(alloc) else {
+        return NONE;
+    };
+    let Ok(first) = log_of(alloc, &list, 3) else {
+        return NONE;
+    };
+    let Ok(whole) = log_of(alloc, &list, 5) else {
+        return NONE;
+    };
     refit_steps(alloc, &first, &whole)
 }
 
 #[test]
-fn a_refused_refit_leaves_the_totals(rt: HostRuntime) -> Result<(), Fail> {
-    let alloc = rt.alloc();
-    let list = reports(alloc)?;
-    let heaps = refits(alloc, &list)?;
+fn a_refused_refit_leaves_the_totals(rt: HostRuntime) {
+    let heaps = refits(rt.alloc());
     assert!(rt; heaps.refused > 4);
     assert!(rt; heaps.before && heaps.done);
     assert!(rt; !heaps.wrong);
-    Ok(())
 }

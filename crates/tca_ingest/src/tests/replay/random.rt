@@ -3,7 +3,6 @@ ghost use Rattle.std.specs.Prelude.{◌<◌, ◌≤◌};
 
 use super::{HOUR, are_alike, fresh_tally, put, report};
 use std::alloc::{AllocError, Global};
-use std::test::Fail;
 use tca_meters::{Colour, SrTcm};
 use tca_replay::Lane;
 use tca_report::Report;
@@ -69,15 +68,19 @@ fn resumes(
     meter: SrTcm,
     k: u32,
     least: Option<usize>,
-) -> Result<bool, AllocError> {
+) -> bool {
     let steps = lane.resume().steps as usize;
     let few = match least {
         Some(row) => steps.saturating_add(row) <= lane.len().saturating_add(k as usize),
         None => steps == 0,
     };
-    let tally = lane.tally(alloc)?;
-    let fresh = fresh_tally(alloc, meter, lane.rows())?;
-    Ok(few && are_alike(&tally, &fresh))
+    let Ok(tally) = lane.tally(alloc) else {
+        return false;
+    };
+    let Ok(fresh) = fresh_tally(alloc, meter, lane.rows()) else {
+        return false;
+    };
+    few && are_alike(&tally, &fresh)
 }
 
 // Whether a lane agrees throughout a list of 24 changes and some resumes between them.
@@ -87,41 +90,42 @@ fn changed_agrees(
     meter: SrTcm,
     k: u32,
     numbers: &mut Numbers,
-) -> Result<bool, AllocError> {
+) -> bool {
     let mut least = None;
     let mut alike = true;
     for _ in 0..24 {
         if let Some(report) = one_of(numbers.below(24)) {
-            least = Some(change(lane, report, least)?);
+            let Ok(row) = change(lane, report, least) else {
+                return false;
+            };
+            least = Some(row);
         }
         if numbers.below(4) == 0 {
-            alike = resumes(alloc, lane, meter, k, least)? && alike;
+            alike = resumes(alloc, lane, meter, k, least) && alike;
             least = None;
         }
     }
-    Ok(resumes(alloc, lane, meter, k, least)? && alike)
+    resumes(alloc, lane, meter, k, least) && alike
 }
 
 // The same of a lane that has no rows at first.
-fn agrees(alloc: Global, meter: SrTcm, k: u32, numbers: &mut Numbers) -> Result<bool, AllocError>
+fn agrees(alloc: Global, k: u32, numbers: &mut Numbers) -> bool
     requires some { 0 < k }
     requires few { k ≤ 65536 }
 {
+    let Ok(meter) = SrTcm::new(1000, 2000, 1000, true) else {
+        return false;
+    };
     let mut lane = Lane::new(alloc, meter, Colour::Green, HOUR, k);
     changed_agrees(alloc, &mut lane, meter, k, numbers)
 }
 
 #[test]
-fn any_list_of_changes_leaves_the_tally_of_its_rows(rt: HostRuntime) -> Result<(), Fail> {
-    let meter = SrTcm::new(1000, 2000, 1000, true).ok().ok_or("a meter")?;
+fn any_list_of_changes_leaves_the_tally_of_its_rows(rt: HostRuntime) {
     let mut numbers = Numbers { seed: 8 };
     for k in [1, 2, 3, 256] {
         for list in 0..1000 {
-            assert!(rt;
-                agrees(rt.alloc(), meter, k, &mut numbers)?,
-                "list {list} at {k}"
-            );
+            assert!(rt; agrees(rt.alloc(), k, &mut numbers), "list {list} at {k}");
         }
     }
-    Ok(())
 }

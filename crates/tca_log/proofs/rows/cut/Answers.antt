@@ -1,7 +1,7 @@
 use Rattle.std.proofs.Common.{◌≡◌, ◌<◌, ◌≤◌, List, [], ◌∷◌, ◌++◌, length, append_assoc, sym, ap, ◌∙◌, arith}
 use Rattle.std.proofs.lemmas.List.{append-nil}
 use Rattle.std.proofs.lemmas.List.Elements.{All-append}
-use Rattle.std.proofs.lemmas.Grind.{flat_map-append}
+use Rattle.std.proofs.lemmas.Grind.{flat_map-append, common_steps}
 use Rattle.tca_log.specs.Rows.Chunks.{joined}
 use Rattle.tca_log.proofs.OrderedRows.Small.{all_one}
 use Rattle.tca_log.proofs.rows.cut.Goals as goal
@@ -25,3 +25,42 @@ loop-part-preserved g c =
       some = rw items (All-append (λ (l : List K). 0 < length l) old (chunk ∷ []) c.loop-part.invariant.some (all_one (λ (l : List K). 0 < length l) chunk (rw same some)));
       small = rw items (All-append (λ (l : List K). length l ≤ 256) old (chunk ∷ []) c.loop-part.invariant.small (all_one (λ (l : List K). length l ≤ 256) chunk (rw same few)));
     }
+
+pub chunks-part-items-requires : goal.chunks-part-items-requires
+chunks-part-items-requires g c = grind (arith, common_steps)
+
+pub loop-part-init-derived : goal.loop-part-init-derived
+loop-part-init-derived g c = grind (arith, common_steps)
+
+pub of-requires : goal.of-requires
+of-requires g c = grind (arith, common_steps)
+
+pub returns-in_err-of-clause-joined : goal.returns-in_err-of-clause-joined
+returns-in_err-of-clause-joined g c = grind (arith, common_steps)
+
+pub returns-in_err-of-clause-some : goal.returns-in_err-of-clause-some
+returns-in_err-of-clause-some g c = grind (arith, common_steps)
+
+pub returns-in_err-of-clause-small : goal.returns-in_err-of-clause-small
+returns-in_err-of-clause-small g c = grind (arith, common_steps)
+
+pub loop-part-preserved-derived : goal.loop-part-preserved-derived
+loop-part-preserved-derived g c = grind (arith, common_steps)
+
+pub returns-in_err-push-clause-joined : goal.returns-in_err-push-clause-joined
+returns-in_err-push-clause-joined g c = grind (arith, common_steps)
+
+pub returns-in_err-push-clause-some : goal.returns-in_err-push-clause-some
+returns-in_err-push-clause-some g c = grind (arith, common_steps)
+
+pub returns-in_err-push-clause-small : goal.returns-in_err-push-clause-small
+returns-in_err-push-clause-small g c = grind (arith, common_steps)
+
+pub returns-clause-joined : goal.returns-clause-joined
+returns-clause-joined g c = grind (arith, common_steps)
+
+pub returns-clause-some : goal.returns-clause-some
+returns-clause-some g c = grind (arith, common_steps)
+
+pub returns-clause-small : goal.returns-clause-small
+returns-clause-small g c = grind (arith, common_steps)

@@ -1,3 +1,4 @@
+use Rattle.std.proofs.lemmas.Grind.{common_steps}
 use Rattle.std.proofs.Common.{◌≡◌, ◌+◌, ◌≤◌, ◌∷◌, ◌∙◌, [], length, set, rules, sym, ap, arith}
 use Rattle.std.specs.List.{insert}
 use Rattle.tca_log.proofs.OrderedRows.Whole.{here, rises_here, put_here, split_here, first_chunk, first_put, no_items}
@@ -68,3 +69,81 @@ returns-in-Some-clause-small g c =
     let empty : c.args.chunks.now.items ≡ [] = no_items c.args.chunks.now.items (omega (arith, c.len.ensures)) in
     let done : c.push-in-Some.new.self.items ≡ (c.args.key ∷ []) ∷ [] = search rules in
     rw done (all_one IsSmall (c.args.key ∷ []) (omega arith))
+
+pub push-requires : goal.push-requires
+push-requires g c = grind (arith, common_steps)
+
+pub returns-in-Some-clause-spare : goal.returns-in-Some-clause-spare
+returns-in-Some-clause-spare g c = grind (arith, common_steps)
+
+pub returns-in-Some-clause-room : goal.returns-in-Some-clause-room
+returns-in-Some-clause-room g c = grind (arith, common_steps)
+
+pub returns-in_default-clause-joined : goal.returns-in_default-clause-joined
+returns-in_default-clause-joined g c = grind (arith, common_steps)
+
+pub returns-in_default-clause-chunks : goal.returns-in_default-clause-chunks
+returns-in_default-clause-chunks g c = grind (arith, common_steps)
+
+pub returns-in_default-clause-small : goal.returns-in_default-clause-small
+returns-in_default-clause-small g c = grind (arith, common_steps)
+
+pub returns-in_default-clause-spare : goal.returns-in_default-clause-spare
+returns-in_default-clause-spare g c = grind (arith, common_steps)
+
+pub returns-in_default-clause-room : goal.returns-in_default-clause-room
+returns-in_default-clause-room g c = grind (arith, common_steps)
+
+pub position-at-requires : goal.position-at-requires
+position-at-requires g c = grind (arith, common_steps)
+
+pub index-requires : goal.index-requires
+index-requires g c = grind (arith, common_steps)
+
+pub index_mut-requires : goal.index_mut-requires
+index_mut-requires g c = grind (arith, common_steps)
+
+pub put-requires-clause-room : goal.put-requires-clause-room
+put-requires-clause-room g c = grind (arith, common_steps)
+
+pub overflow_add-is_last : goal.overflow_add-is_last
+overflow_add-is_last g c = grind (arith, common_steps)
+
+pub index_mut-requires-in-Some-take : goal.index_mut-requires-in-Some-take
+index_mut-requires-in-Some-take g c = grind (arith, common_steps)
+
+pub put_splitting-requires-clause-empty : goal.put_splitting-requires-clause-empty
+put_splitting-requires-clause-empty g c = grind (arith, common_steps)
+
+pub overflow_add-at : goal.overflow_add-at
+overflow_add-at g c = grind (arith, common_steps)
+
+pub insert-requires : goal.insert-requires
+insert-requires g c = grind (arith, common_steps)
+
+pub returns-then-len-lt-CHUNK-clause-spare : goal.returns-then-len-lt-CHUNK-clause-spare
+returns-then-len-lt-CHUNK-clause-spare g c = grind (arith, common_steps)
+
+pub returns-then-len-lt-CHUNK-clause-room : goal.returns-then-len-lt-CHUNK-clause-room
+returns-then-len-lt-CHUNK-clause-room g c = grind (arith, common_steps)
+
+pub returns-in-Some-take-clause-spare : goal.returns-in-Some-take-clause-spare
+returns-in-Some-take-clause-spare g c = grind (arith, common_steps)
+
+pub returns-in-Some-take-clause-room : goal.returns-in-Some-take-clause-room
+returns-in-Some-take-clause-room g c = grind (arith, common_steps)
+
+pub returns-in_default-take-clause-joined : goal.returns-in_default-take-clause-joined
+returns-in_default-take-clause-joined g c = grind (arith, common_steps)
+
+pub returns-in_default-take-clause-chunks : goal.returns-in_default-take-clause-chunks
+returns-in_default-take-clause-chunks g c = grind (arith, common_steps)
+
+pub returns-in_default-take-clause-small : goal.returns-in_default-take-clause-small
+returns-in_default-take-clause-small g c = grind (arith, common_steps)
+
+pub returns-in_default-take-clause-spare : goal.returns-in_default-take-clause-spare
+returns-in_default-take-clause-spare g c = grind (arith, common_steps)
+
+pub returns-in_default-take-clause-room : goal.returns-in_default-take-clause-room
+returns-in_default-take-clause-room g c = grind (arith, common_steps)

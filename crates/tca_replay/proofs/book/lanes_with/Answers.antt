@@ -1,3 +1,4 @@
+use Rattle.std.proofs.lemmas.Grind.{common_steps}
 use Rattle.std.proofs.Common.{◌≡◌, ◌∷◌, arith}
 use Rattle.std.specs.Prelude.{is_none}
 use Rattle.tca_log.specs.Disputes.{undisputed}
@@ -35,3 +36,21 @@ loop-report-preserved g c =
     let all = undisputed c.args.log.now in
     let f : AreFilled c.args.plan.now c.args.k all (x ∷ c.next.new.self) l.unassigned l.lanes.items = rw c.in-Some.ensures.steps at l.invariant in
     rw (c.in_ok-unassigned.ensures.lanes, c.in_ok-unassigned.ensures.none) (filled_more c.args.plan.now c.args.k all x c.next.new.self l.unassigned l.lanes.items f c.settled-report-items.ensures.rises)
+
+pub lanes_of-requires-clause-some_rows : goal.lanes_of-requires-clause-some_rows
+lanes_of-requires-clause-some_rows g c = grind (arith, common_steps)
+
+pub lanes_of-requires-clause-few_rows : goal.lanes_of-requires-clause-few_rows
+lanes_of-requires-clause-few_rows g c = grind (arith, common_steps)
+
+pub returns-in_err-lanes : goal.returns-in_err-lanes
+returns-in_err-lanes g c = grind (arith, common_steps)
+
+pub fill-requires-clause-lanes : goal.fill-requires-clause-lanes
+fill-requires-clause-lanes g c = grind (arith, common_steps)
+
+pub returns-in_err-unassigned : goal.returns-in_err-unassigned
+returns-in_err-unassigned g c = grind (arith, common_steps)
+
+pub returns : goal.returns
+returns g c = grind (arith, common_steps)

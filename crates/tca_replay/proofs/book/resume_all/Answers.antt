@@ -1,3 +1,4 @@
+use Rattle.std.proofs.lemmas.Grind.{common_steps}
 use Rattle.std.proofs.Common.{◌≡◌, ◌<◌, ◌≤◌, List, length, get_or, set, ap, ◌∙◌, arith}
 use Rattle.tca_meters.specs.declared.any_meter.AnyMeter.{AnyMeter}
 use Rattle.tca_replay.specs.Lanes.{LaneView, lane_resumed}
@@ -35,3 +36,9 @@ pub returns-clause-all : goal.returns-clause-all
 returns-clause-all g c =
     let xs = c.args.lanes.now.items in
     omega (arith, c.loop-n.invariant.all, sum_all (λ (x : LaneView AnyMeter). changed_rows x x.changed) c.loop-n.n xs (omega (arith, c.len-n-end.ensures, c.args.lanes.now.ok.0)))
+
+pub loop-n-init : goal.loop-n-init
+loop-n-init g c = grind (arith, common_steps)
+
+pub index_mut-lane-requires : goal.index_mut-lane-requires
+index_mut-lane-requires g c = grind (arith, common_steps)

@@ -1,4 +1,5 @@
-use Rattle.std.proofs.Common.{◌≡◌, ◌≢◌, true, false, sym, ap, ◌∙◌, rules}
+use Rattle.std.proofs.lemmas.Grind.{common_steps}
+use Rattle.std.proofs.Common.{◌≡◌, ◌≢◌, true, false, sym, ap, ◌∙◌, rules, arith}
 use Rattle.std.specs.Prelude.{Err}
 use Rattle.tca_report.specs.input.Inputs.{is_export}
 use Rattle.tca_report.specs.declared.export.ExportFault.TheVariants as export
@@ -43,3 +44,39 @@ returns-in-Err-Memory-clause-memory_wanted c = λ e.
     let is : is_export c.args.octets.now ≡ true = sym c.has_magic.ensures.exact ∙ c.if-not-has_magic.false in
     let wanted = c.in-Err-Memory.ensures.memory (ap (λ (f : ExportFault). Err f) c.in-Err-Memory.field-0-is) in
     AnExport is wanted.0 wanted.1 wanted.2 wanted.3
+
+pub returns-then-not-has_magic-clause-exact : goal.returns-then-not-has_magic-clause-exact
+returns-then-not-has_magic-clause-exact c = grind (arith, common_steps)
+
+pub returns-then-not-has_magic-clause-refused : goal.returns-then-not-has_magic-clause-refused
+returns-then-not-has_magic-clause-refused c = grind (arith, common_steps)
+
+pub returns-then-not-has_magic-clause-memory : goal.returns-then-not-has_magic-clause-memory
+returns-then-not-has_magic-clause-memory c = grind (arith, common_steps)
+
+pub returns-in-Ok-clause-exact : goal.returns-in-Ok-clause-exact
+returns-in-Ok-clause-exact c = grind (arith, common_steps)
+
+pub returns-in-Ok-clause-first : goal.returns-in-Ok-clause-first
+returns-in-Ok-clause-first c = grind (arith, common_steps)
+
+pub returns-in-Ok-clause-memory : goal.returns-in-Ok-clause-memory
+returns-in-Ok-clause-memory c = grind (arith, common_steps)
+
+pub returns-in-Ok-clause-memory_last : goal.returns-in-Ok-clause-memory_last
+returns-in-Ok-clause-memory_last c = grind (arith, common_steps)
+
+pub returns-in-Ok-clause-memory_wanted : goal.returns-in-Ok-clause-memory_wanted
+returns-in-Ok-clause-memory_wanted c = grind (arith, common_steps)
+
+pub returns-in-Err-Memory-clause-exact : goal.returns-in-Err-Memory-clause-exact
+returns-in-Err-Memory-clause-exact c = grind (arith, common_steps)
+
+pub returns-in-Err-Memory-clause-first : goal.returns-in-Err-Memory-clause-first
+returns-in-Err-Memory-clause-first c = grind (arith, common_steps)
+
+pub returns-in-Err-Memory-clause-memory : goal.returns-in-Err-Memory-clause-memory
+returns-in-Err-Memory-clause-memory c = grind (arith, common_steps)
+
+pub returns-in-Err-Memory-clause-memory_last : goal.returns-in-Err-Memory-clause-memory_last
+returns-in-Err-Memory-clause-memory_last c = grind (arith, common_steps)

@@ -1,3 +1,4 @@
+use Rattle.std.proofs.lemmas.Grind.{common_steps}
 use Rattle.std.proofs.Common.{◌≡◌, ◌∷◌, [], ◌+◌, ℕ, sym, ap, ◌∙◌, arith, get_or, drop}
 use Rattle.std.specs.Prelude.{Some, option_map}
 use Rattle.std.proofs.lemmas.List.{length-drop}
@@ -36,3 +37,6 @@ returns-clause-whole c =
 
 pub returns-clause-spots : goal.returns-clause-spots
 returns-clause-spots c = sym (found_end c.loop-spec.spots c.args.choice.now c.args.specs.now c.loop-spec.spec-index c.loop-spec.used c.loop-spec.rest.now c.loop-spec-test.false) ∙ c.loop-spec.invariant.spots
+
+pub returns-in_default-clause-spots : goal.returns-in_default-clause-spots
+returns-in_default-clause-spots c = grind (arith, common_steps)

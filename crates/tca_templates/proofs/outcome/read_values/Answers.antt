@@ -1,4 +1,5 @@
-use Rattle.std.proofs.Common.{List, map, ◌++◌, refl, sym, ap, ◌∙◌}
+use Rattle.std.proofs.lemmas.Grind.{common_steps}
+use Rattle.std.proofs.Common.{List, map, ◌++◌, refl, sym, ap, ◌∙◌, arith}
 use Rattle.std.specs.Prelude.{◌≡◌, Ok, Err}
 use Rattle.tca_templates.specs.declared.fault.DecodeFault.TheVariants.{Memory}
 use Rattle.std.proofs.lemmas.Result.{err_from_is_err_and}
@@ -27,3 +28,18 @@ returns-in_err-aside-clause-wanted c =
     rw (p.1, p.2) (λ memory.
     let same : c.in_err-aside.field-0.0 ≡ Memory = cc in
     c.in_err-aside.ensures.wanted (ap (λ f. Err f) same) start (rw c.new.ensures.items refl))
+
+pub returns-in_err-aside-clause-before : goal.returns-in_err-aside-clause-before
+returns-in_err-aside-clause-before c = grind (arith, common_steps)
+
+pub returns-in_err-aside-clause-memory : goal.returns-in_err-aside-clause-memory
+returns-in_err-aside-clause-memory c = grind (arith, common_steps)
+
+pub returns-clause-before : goal.returns-clause-before
+returns-clause-before c = grind (arith, common_steps)
+
+pub returns-clause-wanted : goal.returns-clause-wanted
+returns-clause-wanted c = grind (arith, common_steps)
+
+pub returns-clause-memory : goal.returns-clause-memory
+returns-clause-memory c = grind (arith, common_steps)

@@ -1,4 +1,5 @@
-use Rattle.std.proofs.Common.{◌≡◌, ◌+◌, refl, sym, ap, ◌∙◌}
+use Rattle.std.proofs.lemmas.Grind.{common_steps}
+use Rattle.std.proofs.Common.{◌≡◌, ◌+◌, refl, sym, ap, ◌∙◌, arith}
 use Rattle.std.proofs.lemmas.Result.{err_from_is_err_and}
 use Rattle.std.specs.Prelude.{Some, Err, true, false}
 use Rattle.std.specs.Option.{is_some}
@@ -126,3 +127,117 @@ returns-in_err-count-clause-wanted g c =
     (ap (λ (ts : Templates). known (m.header.domain, c.args.set.id) ts) come.templates ∙ sym c.in-Some.ensures)
     (wanted_at (data_front m.header t) given.records given.records (c.args.set.at + 4) (body_of m.octets.now c.args.set) c.set_body-body.result.now refl (sym c.set_body-body.ensures)
     (c.in_err-count.ensures.wanted (ap (λ f. Err f) same) start given.records (come.records, come.count))))
+
+pub returns-in_err-read_templates-clause-few : goal.returns-in_err-read_templates-clause-few
+returns-in_err-read_templates-clause-few g c = grind (arith, common_steps)
+
+pub returns-in_err-read_templates-clause-before : goal.returns-in_err-read_templates-clause-before
+returns-in_err-read_templates-clause-before g c = grind (arith, common_steps)
+
+pub returns-in_err-read_templates-clause-memory : goal.returns-in_err-read_templates-clause-memory
+returns-in_err-read_templates-clause-memory g c = grind (arith, common_steps)
+
+pub returns-then-set-eq2-clause-wanted : goal.returns-then-set-eq2-clause-wanted
+returns-then-set-eq2-clause-wanted g c = grind (arith, common_steps)
+
+pub returns-then-set-eq2-clause-few : goal.returns-then-set-eq2-clause-few
+returns-then-set-eq2-clause-few g c = grind (arith, common_steps)
+
+pub returns-then-set-eq2-clause-skipped : goal.returns-then-set-eq2-clause-skipped
+returns-then-set-eq2-clause-skipped g c = grind (arith, common_steps)
+
+pub returns-then-set-eq2-clause-before : goal.returns-then-set-eq2-clause-before
+returns-then-set-eq2-clause-before g c = grind (arith, common_steps)
+
+pub returns-then-set-eq2-clause-memory : goal.returns-then-set-eq2-clause-memory
+returns-then-set-eq2-clause-memory g c = grind (arith, common_steps)
+
+pub returns-in_err-read_templates-2-clause-few : goal.returns-in_err-read_templates-2-clause-few
+returns-in_err-read_templates-2-clause-few g c = grind (arith, common_steps)
+
+pub returns-then-set-eq3-clause-wanted : goal.returns-then-set-eq3-clause-wanted
+returns-then-set-eq3-clause-wanted g c = grind (arith, common_steps)
+
+pub returns-then-set-eq3-clause-few : goal.returns-then-set-eq3-clause-few
+returns-then-set-eq3-clause-few g c = grind (arith, common_steps)
+
+pub returns-then-set-eq3-clause-skipped : goal.returns-then-set-eq3-clause-skipped
+returns-then-set-eq3-clause-skipped g c = grind (arith, common_steps)
+
+pub returns-then-set-eq3-clause-before : goal.returns-then-set-eq3-clause-before
+returns-then-set-eq3-clause-before g c = grind (arith, common_steps)
+
+pub returns-then-set-eq3-clause-memory : goal.returns-then-set-eq3-clause-memory
+returns-then-set-eq3-clause-memory g c = grind (arith, common_steps)
+
+pub returns-then-set-lt256-clause-wanted : goal.returns-then-set-lt256-clause-wanted
+returns-then-set-lt256-clause-wanted g c = grind (arith, common_steps)
+
+pub returns-then-set-lt256-clause-few : goal.returns-then-set-lt256-clause-few
+returns-then-set-lt256-clause-few g c = grind (arith, common_steps)
+
+pub returns-then-set-lt256-clause-skipped : goal.returns-then-set-lt256-clause-skipped
+returns-then-set-lt256-clause-skipped g c = grind (arith, common_steps)
+
+pub returns-then-set-lt256-clause-before : goal.returns-then-set-lt256-clause-before
+returns-then-set-lt256-clause-before g c = grind (arith, common_steps)
+
+pub returns-then-set-lt256-clause-memory : goal.returns-then-set-lt256-clause-memory
+returns-then-set-lt256-clause-memory g c = grind (arith, common_steps)
+
+pub returns-then-is_some-clause-wanted : goal.returns-then-is_some-clause-wanted
+returns-then-is_some-clause-wanted g c = grind (arith, common_steps)
+
+pub returns-then-is_some-clause-few : goal.returns-then-is_some-clause-few
+returns-then-is_some-clause-few g c = grind (arith, common_steps)
+
+pub returns-then-is_some-clause-skipped : goal.returns-then-is_some-clause-skipped
+returns-then-is_some-clause-skipped g c = grind (arith, common_steps)
+
+pub returns-then-is_some-clause-before : goal.returns-then-is_some-clause-before
+returns-then-is_some-clause-before g c = grind (arith, common_steps)
+
+pub returns-then-is_some-clause-memory : goal.returns-then-is_some-clause-memory
+returns-then-is_some-clause-memory g c = grind (arith, common_steps)
+
+pub returns-in_default-clause-wanted : goal.returns-in_default-clause-wanted
+returns-in_default-clause-wanted g c = grind (arith, common_steps)
+
+pub returns-in_default-clause-few : goal.returns-in_default-clause-few
+returns-in_default-clause-few g c = grind (arith, common_steps)
+
+pub returns-in_default-clause-skipped : goal.returns-in_default-clause-skipped
+returns-in_default-clause-skipped g c = grind (arith, common_steps)
+
+pub returns-in_default-clause-before : goal.returns-in_default-clause-before
+returns-in_default-clause-before g c = grind (arith, common_steps)
+
+pub returns-in_default-clause-memory : goal.returns-in_default-clause-memory
+returns-in_default-clause-memory g c = grind (arith, common_steps)
+
+pub returns-in_err-count-clause-few : goal.returns-in_err-count-clause-few
+returns-in_err-count-clause-few g c = grind (arith, common_steps)
+
+pub returns-in_err-count-clause-skipped : goal.returns-in_err-count-clause-skipped
+returns-in_err-count-clause-skipped g c = grind (arith, common_steps)
+
+pub returns-in_err-count-clause-before : goal.returns-in_err-count-clause-before
+returns-in_err-count-clause-before g c = grind (arith, common_steps)
+
+pub returns-in_err-count-clause-memory : goal.returns-in_err-count-clause-memory
+returns-in_err-count-clause-memory g c = grind (arith, common_steps)
+
+pub returns-clause-wanted : goal.returns-clause-wanted
+returns-clause-wanted g c = grind (arith, common_steps)
+
+pub returns-clause-few : goal.returns-clause-few
+returns-clause-few g c = grind (arith, common_steps)
+
+pub returns-clause-skipped : goal.returns-clause-skipped
+returns-clause-skipped g c = grind (arith, common_steps)
+
+pub returns-clause-before : goal.returns-clause-before
+returns-clause-before g c = grind (arith, common_steps)
+
+pub returns-clause-memory : goal.returns-clause-memory
+returns-clause-memory g c = grind (arith, common_steps)

@@ -1,3 +1,4 @@
+use Rattle.std.proofs.lemmas.Grind.{common_steps}
 use Rattle.std.proofs.Common.{◌≡◌, suc, take, subst, refl, ◌<◌, ◌+◌, sym, ap, ◌∙◌, arith, add-one, List, length, drop, get_or}
 use Rattle.std.specs.Prelude.{Ok, Err}
 use Rattle.std.proofs.lemmas.List.{length-drop}
@@ -105,3 +106,27 @@ returns-in_err-aside-clause-wanted g c =
       read = reading_found (templates_of c.args.templates.now) m.header m.octets.now (take i m.sets.items) w.0 (templates_have c.args.templates.now) w.3;
       wanted = subst (λ (s : SetSpan). IsWantedInSet m.header m.octets.now w.0 s) here (c.in_err-aside.ensures.wanted (ap (λ f. Err f) same) start w.0 w.1);
     })
+
+pub returns-in_err-aside-clause-few : goal.returns-in_err-aside-clause-few
+returns-in_err-aside-clause-few g c = grind (arith, common_steps)
+
+pub returns-in_err-aside-clause-skipped : goal.returns-in_err-aside-clause-skipped
+returns-in_err-aside-clause-skipped g c = grind (arith, common_steps)
+
+pub returns-in_err-aside-clause-before : goal.returns-in_err-aside-clause-before
+returns-in_err-aside-clause-before g c = grind (arith, common_steps)
+
+pub returns-in_err-aside-clause-memory : goal.returns-in_err-aside-clause-memory
+returns-in_err-aside-clause-memory g c = grind (arith, common_steps)
+
+pub returns-clause-wanted : goal.returns-clause-wanted
+returns-clause-wanted g c = grind (arith, common_steps)
+
+pub returns-clause-few : goal.returns-clause-few
+returns-clause-few g c = grind (arith, common_steps)
+
+pub returns-clause-before : goal.returns-clause-before
+returns-clause-before g c = grind (arith, common_steps)
+
+pub returns-clause-memory : goal.returns-clause-memory
+returns-clause-memory g c = grind (arith, common_steps)

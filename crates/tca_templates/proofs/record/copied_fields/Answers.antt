@@ -1,3 +1,4 @@
+use Rattle.std.proofs.lemmas.Grind.{common_steps}
 use Rattle.std.proofs.Common.{◌≡◌, ◌+◌, ◌++◌, ◌∷◌, [], ℕ, List, true, false, sym, ap, ◌∙◌, arith, drop, map, get_or}
 use Rattle.std.specs.Prelude.{Some}
 use Rattle.std.specs.Option.{is_some}
@@ -44,3 +45,12 @@ pub returns : goal.returns
 returns c =
     let s = c.loop-spec.invariant.so_far in
     sym (ap fields_or (sym s.1 ∙ fields_all (map value_view c.loop-spec.copy.items) s.0 c.args.specs.now c.loop-spec.spec-index c.loop-spec.rest.now c.loop-spec-test.false))
+
+pub returns-in_err-copy : goal.returns-in_err-copy
+returns-in_err-copy c = grind (arith, common_steps)
+
+pub returns-in_err-value : goal.returns-in_err-value
+returns-in_err-value c = grind (arith, common_steps)
+
+pub returns-in_err-push : goal.returns-in_err-push
+returns-in_err-push c = grind (arith, common_steps)

@@ -1,3 +1,4 @@
+use Rattle.std.proofs.lemmas.Grind.{common_steps}
 use Rattle.std.proofs.Common.{[], ◌≡◌, ◌<◌, ◌≤◌, ◌+◌, ℕ, Some, refl, sym, ap, ◌∙◌, arith, length}
 use Rattle.std.proofs.lemmas.List.{length-drop}
 use Rattle.std.proofs.lemmas.Result.{err_from_is_err_and}
@@ -58,3 +59,15 @@ returns-in_err-take-clause-wanted g c =
     rw p.1 (λ start records at taken.
     let w = c.loop-rest.invariant.so_far start records at taken in
     walked_wants g.T.TakesRecords.took c.args.header (template_of t) start c.loop-rest.taker c.loop-rest.count w.0 _ rest _ _ _ w.1 le (size_fixed t.specs.items rest c.requires.laid.fixed le))
+
+pub returns-in_err-take-clause-exact : goal.returns-in_err-take-clause-exact
+returns-in_err-take-clause-exact g c = grind (arith, common_steps)
+
+pub returns-in_err-take-clause-few : goal.returns-in_err-take-clause-few
+returns-in_err-take-clause-few g c = grind (arith, common_steps)
+
+pub returns-clause-wanted : goal.returns-clause-wanted
+returns-clause-wanted g c = grind (arith, common_steps)
+
+pub returns-clause-few : goal.returns-clause-few
+returns-clause-few g c = grind (arith, common_steps)

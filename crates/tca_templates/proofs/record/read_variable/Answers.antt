@@ -1,3 +1,4 @@
+use Rattle.std.proofs.lemmas.Grind.{common_steps}
 use Rattle.std.proofs.Common.{[], ◌<◌, ◌≤◌, List, refl, sym, ap, ◌∙◌, arith, length}
 use Rattle.std.specs.Prelude.{option_map}
 use Rattle.std.proofs.lemmas.List.{length-drop}
@@ -105,3 +106,18 @@ returns-in_err-take-clause-wanted g c =
     let read = size_located t.specs.items rest c.in-Some.size (c.in-Some.ensures.whole ∙ ap (λ (ss : List FieldSpec). option_map (λ x. x.1) (fields_on [] 0 ss rest)) c.deref.ensures.value) in
     λ memory start records taken.
     walked_wants g.T.TakesRecords.took c.args.header (template_of t) start c.loop-rest.taker c.loop-rest.count c.loop-rest.at _ rest _ _ _ (c.loop-rest.invariant.so_far start records taken) le read
+
+pub returns-in_default-clause-few : goal.returns-in_default-clause-few
+returns-in_default-clause-few g c = grind (arith, common_steps)
+
+pub returns-in_err-take-clause-exact : goal.returns-in_err-take-clause-exact
+returns-in_err-take-clause-exact g c = grind (arith, common_steps)
+
+pub returns-in_err-take-clause-few : goal.returns-in_err-take-clause-few
+returns-in_err-take-clause-few g c = grind (arith, common_steps)
+
+pub returns-clause-wanted : goal.returns-clause-wanted
+returns-clause-wanted g c = grind (arith, common_steps)
+
+pub returns-clause-few : goal.returns-clause-few
+returns-clause-few g c = grind (arith, common_steps)

@@ -1,3 +1,4 @@
+use Rattle.std.proofs.lemmas.Grind.{common_steps}
 use Rattle.std.proofs.Common.{◌≡◌, suc, ◌-◌, ◌+◌, ◌++◌, ◌∷◌, [], List, length, drop, sym, ap, ◌∙◌, arith, append_assoc}
 use Rattle.std.specs.Option.{is_some}
 use Rattle.tca_templates.specs.declared.template.FieldSpec.{FieldSpec}
@@ -25,3 +26,24 @@ loop-preserved c =
           (append_assoc c.loop.specs.items (x.0 ∷ []) (specs_in n (drop x.1 rest)) ∙ ap (λ (l : List FieldSpec). c.loop.specs.items ++ l) (sym next) ∙ c.loop.invariant.so_far);
       left = rw c.split_at.ensures.back (omega (arith, ap length next, c.loop.invariant.left));
     }
+
+pub returns-in_err-specs-clause-options : goal.returns-in_err-specs-clause-options
+returns-in_err-specs-clause-options c = grind (arith, common_steps)
+
+pub returns-in_err-specs-clause-specs : goal.returns-in_err-specs-clause-specs
+returns-in_err-specs-clause-specs c = grind (arith, common_steps)
+
+pub returns-in_err-push-clause-options : goal.returns-in_err-push-clause-options
+returns-in_err-push-clause-options c = grind (arith, common_steps)
+
+pub returns-in_err-push-clause-specs : goal.returns-in_err-push-clause-specs
+returns-in_err-push-clause-specs c = grind (arith, common_steps)
+
+pub invariant_of-result : goal.invariant_of-result
+invariant_of-result c = grind (arith, common_steps)
+
+pub returns-clause-options : goal.returns-clause-options
+returns-clause-options c = grind (arith, common_steps)
+
+pub returns-clause-specs : goal.returns-clause-specs
+returns-clause-specs c = grind (arith, common_steps)

@@ -1,4 +1,5 @@
-use Rattle.std.proofs.Common.{◌≡◌, ℕ, List, [], ◌∷◌, ◌++◌, take, sym, ap, subst, ◌∙◌}
+use Rattle.std.proofs.lemmas.Grind.{common_steps}
+use Rattle.std.proofs.Common.{◌≡◌, ℕ, List, [], ◌∷◌, ◌++◌, take, sym, ap, subst, ◌∙◌, arith}
 use Rattle.std.specs.List.{concat, AllByRecursion}
 use Rattle.std.proofs.lemmas.List.{map_push, take-append-drop}
 use Rattle.std.proofs.lemmas.Result.{err_from_is_err_and}
@@ -34,3 +35,9 @@ returns-in_err-push-in-Ok-Some-clause-needed c =
     let p = err_from_is_err_and c.from_residual-in_err-push-in-Ok-Some.result c.from_residual-in_err-push-in-Ok-Some.ensures.1 in
     let frame = rw c.in-Ok-Some.field-0-is at c.in-Ok-Some.ensures.frame in
     rw p.1 (not_part_of_one c.args.octets.now (octets_of c.loop-length.messages.items) c.loop-length.rest.now c.in-Ok-Some.length c.loop-length.invariant.whole c.loop-length.invariant.each frame)
+
+pub overflow_sub-taken : goal.overflow_sub-taken
+overflow_sub-taken c = grind (arith, common_steps)
+
+pub returns-clause-stream : goal.returns-clause-stream
+returns-clause-stream c = grind (arith, common_steps)

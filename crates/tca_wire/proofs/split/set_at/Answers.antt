@@ -1,3 +1,4 @@
+use Rattle.std.proofs.lemmas.Grind.{common_steps}
 use Rattle.std.proofs.Common.{◌≡◌, ◌∙◌, ◌≤◌, List, ℕ, Ok, ap, arith, drop, length, rules}
 use Rattle.std.proofs.lemmas.List.{take_rest}
 use Rattle.byteorder.specs.Endian.{big_number}
@@ -22,3 +23,9 @@ pub returns-clause-exact : goal.returns-clause-exact
 returns-clause-exact c =
     judged_with c.args.octets.now _ _ _ c.read_u16-id.ensures (c.read_u16-length.ensures ∙ ap (big_number 2) (take_rest c.args.octets.now 2)) (omega arith) (omega arith)
     (omega arith)
+
+pub returns-then-length-lt4-clause-exact : goal.returns-then-length-lt4-clause-exact
+returns-then-length-lt4-clause-exact c = grind (arith, common_steps)
+
+pub returns-then-octets-length-clause-exact : goal.returns-then-octets-length-clause-exact
+returns-then-octets-length-clause-exact c = grind (arith, common_steps)

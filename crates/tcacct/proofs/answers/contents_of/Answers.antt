@@ -1,4 +1,5 @@
-use Rattle.std.proofs.Common.{◌≡◌, ◌∙◌, ◌++◌, ◌∷◌, [], Err, List, map, rules, ap, subst}
+use Rattle.std.proofs.lemmas.Grind.{common_steps}
+use Rattle.std.proofs.Common.{◌≡◌, ◌∙◌, ◌++◌, ◌∷◌, [], Err, List, map, rules, ap, subst, arith}
 use Rattle.std.proofs.Math.ListN.{drop_of_length-le}
 use Rattle.std.proofs.lemmas.List.{map-append}
 use Rattle.tca_report.specs.report.Reports.{PacketReport}
@@ -46,3 +47,39 @@ returns-clause-read c =
       noted = all_noted _ l.notes.items (rw (drop_of_length-le c.args.inputs.now c.loop-n-test.false) at l.invariant.noted);
       hold = all_held _ (map (λ v. v.items) l.lists.items) (rw (drop_of_length-le c.args.inputs.now c.loop-n-test.false) at l.invariant.hold);
     }
+
+pub returns-in_err-notes-clause-read : goal.returns-in_err-notes-clause-read
+returns-in_err-notes-clause-read c = grind (arith, common_steps)
+
+pub returns-in_err-notes-clause-refused : goal.returns-in_err-notes-clause-refused
+returns-in_err-notes-clause-refused c = grind (arith, common_steps)
+
+pub returns-in_err-lists-clause-read : goal.returns-in_err-lists-clause-read
+returns-in_err-lists-clause-read c = grind (arith, common_steps)
+
+pub returns-in_err-lists-clause-refused : goal.returns-in_err-lists-clause-refused
+returns-in_err-lists-clause-refused c = grind (arith, common_steps)
+
+pub loop-n-init : goal.loop-n-init
+loop-n-init c = grind (arith, common_steps)
+
+pub offset_bounds-inputs-n : goal.offset_bounds-inputs-n
+offset_bounds-inputs-n c = grind (arith, common_steps)
+
+pub bounds-inputs-n : goal.bounds-inputs-n
+bounds-inputs-n c = grind (arith, common_steps)
+
+pub returns-in_err-answer-clause-read : goal.returns-in_err-answer-clause-read
+returns-in_err-answer-clause-read c = grind (arith, common_steps)
+
+pub returns-in_err-answer-clause-refused : goal.returns-in_err-answer-clause-refused
+returns-in_err-answer-clause-refused c = grind (arith, common_steps)
+
+pub overflow_cast-n : goal.overflow_cast-n
+overflow_cast-n c = grind (arith, common_steps)
+
+pub returns-in_err-noted-clause-read : goal.returns-in_err-noted-clause-read
+returns-in_err-noted-clause-read c = grind (arith, common_steps)
+
+pub returns-then-is_err-clause-refused : goal.returns-then-is_err-clause-refused
+returns-then-is_err-clause-refused c = grind (arith, common_steps)

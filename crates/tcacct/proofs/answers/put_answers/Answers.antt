@@ -1,3 +1,4 @@
+use Rattle.std.proofs.lemmas.Grind.{common_steps}
 use Rattle.std.proofs.Common.{◌≡◌, ◌∙◌, ◌<◌, ◌≤◌, ◌+◌, ◌*◌, ℕ, suc, [], get_or, Err, Some, List, length, drop, length-set, ap, ap₂, sym, subst, rules, arith}
 use Rattle.std.specs.Borrow.{Bor}
 use Rattle.std.specs.Prelude.{slice_set}
@@ -67,3 +68,18 @@ returns-clause-put c =
     ∙ none_put place c.args.step l.places.items in
     subst (ArePut c.args.first c.args.step answers c.args.places.now.items) whole
     (are_put c.args.first c.args.step answers c.args.places.now.items c.requires.apart (λ k less. l.invariant.inside k (omega arith)))
+
+pub loop-input-init : goal.loop-input-init
+loop-input-init c = grind (arith, common_steps)
+
+pub offset_bounds-share-input-index : goal.offset_bounds-share-input-index
+offset_bounds-share-input-index c = grind (arith, common_steps)
+
+pub invariant_of-answer : goal.invariant_of-answer
+invariant_of-answer c = grind (arith, common_steps)
+
+pub returns-in_err-put_answer-clause-put : goal.returns-in_err-put_answer-clause-put
+returns-in_err-put_answer-clause-put c = grind (arith, common_steps)
+
+pub returns-in_err-put_answer-clause-refused : goal.returns-in_err-put_answer-clause-refused
+returns-in_err-put_answer-clause-refused c = grind (arith, common_steps)

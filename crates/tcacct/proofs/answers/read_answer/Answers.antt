@@ -1,4 +1,5 @@
-use Rattle.std.proofs.Common.{◌≡◌, None, Ok, Err, rules, subst, inl, inr}
+use Rattle.std.proofs.lemmas.Grind.{common_steps}
+use Rattle.std.proofs.Common.{◌≡◌, None, Ok, Err, rules, subst, inl, inr, arith}
 use Rattle.tca_ingest.specs.EntryViews.{entry_view}
 use Rattle.tca_ingest.specs.Entries.{Took}
 use Rattle.tca_ingest.specs.Works.{IsResult}
@@ -49,3 +50,15 @@ returns-in-Took-default-default-default-None-clause-holds c =
     let says : entry_view c.in-Ok.receipt.entry ≡ Took w.pass w.reports.items w.fresh None = search rules in
     let held = holds_if_taken c.args.answer.input c.in-Ok.notes c.in-Ok.receipt w.pass w.fresh w.reports.items (subst (IsResult c.args.answer.input) result is) says in
     subst (HoldsReports c.args.answer.input) (search rules) held
+
+pub unreachable-requires : goal.unreachable-requires
+unreachable-requires c = grind (arith, common_steps)
+
+pub unreachable-unreachable : goal.unreachable-unreachable
+unreachable-unreachable c = grind (arith, common_steps)
+
+pub returns-in-Err-Input-clause-told : goal.returns-in-Err-Input-clause-told
+returns-in-Err-Input-clause-told c = grind (arith, common_steps)
+
+pub returns-in-Err-Share-clause-told : goal.returns-in-Err-Share-clause-told
+returns-in-Err-Share-clause-told c = grind (arith, common_steps)

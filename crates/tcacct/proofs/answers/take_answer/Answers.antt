@@ -1,3 +1,4 @@
+use Rattle.std.proofs.lemmas.Grind.{common_steps}
 use Rattle.std.proofs.Common.{◌≡◌, ◌∙◌, ◌<◌, length, Some, ap, sym, rules, arith}
 use Rattle.std.specs.Prelude.{slice_get}
 use Rattle.std.proofs.lemmas.Option.{slice_get-get_or}
@@ -21,3 +22,18 @@ returns-clause-taken c =
     let inside : c.args.n < length places = search (arith, rules) in
     let was : c.index_mut.result.now ≡ Some c.in-Some.answer = search rules in
     slice_get-get_or places c.args.n c.index_mut.result.now inside ∙ ap Some (sym c.index_mut.ensures.value ∙ was)
+
+pub returns-then-n-len-clause-refused : goal.returns-then-n-len-clause-refused
+returns-then-n-len-clause-refused c = grind (arith, common_steps)
+
+pub index_mut-requires : goal.index_mut-requires
+index_mut-requires c = grind (arith, common_steps)
+
+pub returns-in_default-clause-refused : goal.returns-in_default-clause-refused
+returns-in_default-clause-refused c = grind (arith, common_steps)
+
+pub returns-then-ne-clause-refused : goal.returns-then-ne-clause-refused
+returns-then-ne-clause-refused c = grind (arith, common_steps)
+
+pub same-answer : goal.same-answer
+same-answer c = grind (arith, common_steps)

@@ -1,4 +1,5 @@
-use Rattle.std.proofs.Common.{◌≡◌, ◌∙◌, ◌++◌, ◌≤◌, Ok, Err, length, sym, ap, le-ltb}
+use Rattle.std.proofs.lemmas.Grind.{common_steps}
+use Rattle.std.proofs.Common.{◌≡◌, ◌∙◌, ◌++◌, ◌≤◌, Ok, Err, length, sym, ap, le-ltb, arith}
 use Rattle.tca_join.specs.Sets.{in_order}
 use Rattle.tca_report.specs.report.Reports.{report_cmp}
 use Rattle.tca_report.specs.input.Inputs.{input_of}
@@ -35,3 +36,24 @@ returns-in-Err-clause-exact c =
 pub returns-in-Err-clause-memory_last : goal.returns-in-Err-clause-memory_last
 returns-in-Err-clause-memory_last c =
     memory_of_gather c.args.n c.args.octets.now c.in-Err.fault c.input.result c.input.ensures.fault (λ m. c.in-Err.ensures.memory_last (ap Err m))
+
+pub returns-in-Err-clause-named : goal.returns-in-Err-clause-named
+returns-in-Err-clause-named c = grind (arith, common_steps)
+
+pub returns-in-Err-clause-no_write : goal.returns-in-Err-clause-no_write
+returns-in-Err-clause-no_write c = grind (arith, common_steps)
+
+pub returns-in-Err-clause-log_memory : goal.returns-in-Err-clause-log_memory
+returns-in-Err-clause-log_memory c = grind (arith, common_steps)
+
+pub returns-in-Ok-add_all-clause-rises : goal.returns-in-Ok-add_all-clause-rises
+returns-in-Ok-add_all-clause-rises c = grind (arith, common_steps)
+
+pub returns-in-Err-add_all-clause-named : goal.returns-in-Err-add_all-clause-named
+returns-in-Err-add_all-clause-named c = grind (arith, common_steps)
+
+pub returns-in-Err-add_all-clause-no_write : goal.returns-in-Err-add_all-clause-no_write
+returns-in-Err-add_all-clause-no_write c = grind (arith, common_steps)
+
+pub returns-in-Err-add_all-clause-memory_last : goal.returns-in-Err-add_all-clause-memory_last
+returns-in-Err-add_all-clause-memory_last c = grind (arith, common_steps)

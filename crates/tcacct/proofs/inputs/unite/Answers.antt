@@ -1,4 +1,5 @@
-use Rattle.std.proofs.Common.{◌≡◌, ◌∷◌, ◌++◌, [], refl, sym, subst, rules, true≢false}
+use Rattle.std.proofs.lemmas.Grind.{common_steps}
+use Rattle.std.proofs.Common.{◌≡◌, ◌∷◌, ◌++◌, [], refl, sym, subst, rules, true≢false, arith}
 use Rattle.std.proofs.Math.ListN.{drop_of_length-le}
 use Rattle.tcacct.proofs.InputLaws.{sound_if_read}
 use Rattle.tcacct.proofs.Uniting.{all_in, cut_here, goes_on, in_turn, none_taken, one_taken, refused}
@@ -48,3 +49,18 @@ returns-then-is_err-clause-refused c =
       turn = in_turn (λ v. v.items) c.args.inputs.now c.loop-n.n c.loop-n.log c.loop-n-test.true c.loop-n.invariant.taken c.index-inputs-n.result _ c.index-inputs-n.is refl (λ short. absurd (true≢false (sym short))) (λ short. sound_if_read _ noted.so_far noted.read);
       no_write = refl;
     })
+
+pub offset_bounds-inputs-n : goal.offset_bounds-inputs-n
+offset_bounds-inputs-n c = grind (arith, common_steps)
+
+pub bounds-inputs-n : goal.bounds-inputs-n
+bounds-inputs-n c = grind (arith, common_steps)
+
+pub overflow_cast-n : goal.overflow_cast-n
+overflow_cast-n c = grind (arith, common_steps)
+
+pub overflow_cast-n-then-is_err : goal.overflow_cast-n-then-is_err
+overflow_cast-n-then-is_err c = grind (arith, common_steps)
+
+pub same-log : goal.same-log
+same-log c = grind (arith, common_steps)

@@ -1,4 +1,5 @@
-use Rattle.std.proofs.Common.{◌≡◌}
+use Rattle.std.proofs.lemmas.Grind.{common_steps}
+use Rattle.std.proofs.Common.{◌≡◌, arith}
 use Rattle.tca_meters.specs.declared.colour.Colour.TheVariants.{Green}
 use Rattle.tca_meters.specs.Packets.{colours}
 use Rattle.tca_accounts.specs.Sums.{packet_of}
@@ -26,3 +27,6 @@ pub returns : goal.returns
 returns g c =
     let rule = g.M.Meter.rule c.args.meter.now in
     metering_done rule (colours rule (packet_of Green) c.args.reports) c.loop-report.metered (rw c.in-None.ensures.steps.0 at c.loop-report.invariant)
+
+pub meter_next-requires-clause-order : goal.meter_next-requires-clause-order
+meter_next-requires-clause-order g c = grind (arith, common_steps)

@@ -1,4 +1,5 @@
-use Rattle.std.proofs.Common.{◌≡◌, ◌∙◌, ◌<◌, ◌≤◌, ◌++◌, List, [], ◌∷◌, true, is_ok, length, map, take, drop, ap, ap₂, sym, subst}
+use Rattle.std.proofs.lemmas.Grind.{common_steps}
+use Rattle.std.proofs.Common.{◌≡◌, ◌∙◌, ◌<◌, ◌≤◌, ◌++◌, List, [], ◌∷◌, true, is_ok, length, map, take, drop, ap, ap₂, sym, subst, arith}
 use Rattle.std.specs.List.{AllPairs}
 use Rattle.std.proofs.Math.ListN.{drop_of_length-le}
 use Rattle.std.proofs.Math.Seq.{take-append_seam}
@@ -44,3 +45,27 @@ returns-clause-agreed c =
       each = pushed ∙ ap (λ (cs : List ClosedView). cs ++ c.args.first ∷ []) all;
       agree = subst (λ (cs : List ClosedView). AllPairs AgreeAll (replicas_of cs)) c.deref.ensures.value c.in_ok-close_all.ensures.ok;
     }
+
+pub loop-other-init : goal.loop-other-init
+loop-other-init c = grind (arith, common_steps)
+
+pub same-first : goal.same-first
+same-first c = grind (arith, common_steps)
+
+pub offset_bounds-other-items-other-index : goal.offset_bounds-other-items-other-index
+offset_bounds-other-items-other-index c = grind (arith, common_steps)
+
+pub returns-in_err-tell-clause-agreed : goal.returns-in_err-tell-clause-agreed
+returns-in_err-tell-clause-agreed c = grind (arith, common_steps)
+
+pub returns-in_err-tell-clause-refused : goal.returns-in_err-tell-clause-refused
+returns-in_err-tell-clause-refused c = grind (arith, common_steps)
+
+pub returns-then-is_err-clause-refused : goal.returns-then-is_err-clause-refused
+returns-then-is_err-clause-refused c = grind (arith, common_steps)
+
+pub returns-in_err-close_all-clause-agreed : goal.returns-in_err-close_all-clause-agreed
+returns-in_err-close_all-clause-agreed c = grind (arith, common_steps)
+
+pub returns-in_err-close_all-clause-refused : goal.returns-in_err-close_all-clause-refused
+returns-in_err-close_all-clause-refused c = grind (arith, common_steps)

@@ -1,4 +1,5 @@
-use Rattle.std.proofs.Common.{◌≡◌, ◌∙◌, ◌+◌, [], ◌∷◌, ◌++◌, take, ap, sym, subst, rules}
+use Rattle.std.proofs.lemmas.Grind.{common_steps}
+use Rattle.std.proofs.Common.{◌≡◌, ◌∙◌, ◌+◌, [], ◌∷◌, ◌++◌, take, ap, sym, subst, rules, arith}
 use Rattle.std.specs.List.{All}
 use Rattle.std.proofs.lemmas.List.{map-append, take_all, take_more}
 use Rattle.std.proofs.lemmas.Result.{IfOk-weaker}
@@ -33,3 +34,39 @@ returns-clause-absorbed g c =
       calls = all_last (λ p. calls_of p.number x.journal ≡ p.calls) c.args.passes.items l.mine (subst (All (λ p. calls_of p.number x.journal ≡ p.calls)) passes closing.each);
       absorbed = absorbed;
     }) c.closed.ensures.closing
+
+pub returns-in_err-mine-clause-replayed : goal.returns-in_err-mine-clause-replayed
+returns-in_err-mine-clause-replayed g c = grind (arith, common_steps)
+
+pub returns-in_err-mine-clause-absorbed : goal.returns-in_err-mine-clause-absorbed
+returns-in_err-mine-clause-absorbed g c = grind (arith, common_steps)
+
+pub returns-in_err-mine-clause-refused : goal.returns-in_err-mine-clause-refused
+returns-in_err-mine-clause-refused g c = grind (arith, common_steps)
+
+pub loop-other-init : goal.loop-other-init
+loop-other-init g c = grind (arith, common_steps)
+
+pub offset_bounds-others-other-index : goal.offset_bounds-others-other-index
+offset_bounds-others-other-index g c = grind (arith, common_steps)
+
+pub returns-in_err-bring-clause-replayed : goal.returns-in_err-bring-clause-replayed
+returns-in_err-bring-clause-replayed g c = grind (arith, common_steps)
+
+pub returns-in_err-bring-clause-absorbed : goal.returns-in_err-bring-clause-absorbed
+returns-in_err-bring-clause-absorbed g c = grind (arith, common_steps)
+
+pub returns-in_err-bring-clause-refused : goal.returns-in_err-bring-clause-refused
+returns-in_err-bring-clause-refused g c = grind (arith, common_steps)
+
+pub same-mine : goal.same-mine
+same-mine g c = grind (arith, common_steps)
+
+pub returns-then-is_err-clause-refused : goal.returns-then-is_err-clause-refused
+returns-then-is_err-clause-refused g c = grind (arith, common_steps)
+
+pub returns-clause-replayed : goal.returns-clause-replayed
+returns-clause-replayed g c = grind (arith, common_steps)
+
+pub returns-clause-refused : goal.returns-clause-refused
+returns-clause-refused g c = grind (arith, common_steps)

@@ -1,3 +1,4 @@
+use Rattle.std.proofs.lemmas.Grind.{common_steps}
 use Rattle.std.proofs.Common.{◌≡◌, ◌+◌, suc, true, is_ok, [], ◌∷◌, ◌++◌, length, ap, ◌∙◌, sym, subst, subst₂, length-append, arith}
 use Rattle.std.specs.List.{All, range_with_len}
 use Rattle.std.proofs.lemmas.List.{map-append}
@@ -26,3 +27,63 @@ loop-name-preserved g c =
       names = ap names_of pushed ∙ map-append (λ v. v.replica.name) l.others.items (other ∷ []) ∙ ap (λ ns. ns ++ other.replica.name ∷ []) l.invariant.names ∙ ap (λ n. range_with_len 2 (length l.others.items) ++ n ∷ []) named ∙ sym (range_more 2 (length l.others.items)) ∙ ap (range_with_len 2) more;
       right = subst (All (HasRightJournal plan)) (sym pushed) (All-append (HasRightJournal plan) l.others.items (other ∷ []) l.invariant.right (All-cons (HasRightJournal plan) other [] one (All-nil (HasRightJournal plan))));
     }
+
+pub overflow_add-name-end : goal.overflow_add-name-end
+overflow_add-name-end g c = grind (arith, common_steps)
+
+pub loop-name-init : goal.loop-name-init
+loop-name-init g c = grind (arith, common_steps)
+
+pub returns-in_err-copy-clause-many : goal.returns-in_err-copy-clause-many
+returns-in_err-copy-clause-many g c = grind (arith, common_steps)
+
+pub returns-in_err-copy-clause-names : goal.returns-in_err-copy-clause-names
+returns-in_err-copy-clause-names g c = grind (arith, common_steps)
+
+pub returns-in_err-copy-clause-right : goal.returns-in_err-copy-clause-right
+returns-in_err-copy-clause-right g c = grind (arith, common_steps)
+
+pub returns-in_err-copy-clause-refused : goal.returns-in_err-copy-clause-refused
+returns-in_err-copy-clause-refused g c = grind (arith, common_steps)
+
+pub read_by-requires-clause-name : goal.read_by-requires-clause-name
+read_by-requires-clause-name g c κs within = grind (arith, common_steps)
+
+pub read_by-requires-clause-parts : goal.read_by-requires-clause-parts
+read_by-requires-clause-parts g c κs within = grind (arith, common_steps)
+
+pub read_by-requires-clause-called : goal.read_by-requires-clause-called
+read_by-requires-clause-called g c κs within = grind (arith, common_steps)
+
+pub read_by-requires-clause-plan : goal.read_by-requires-clause-plan
+read_by-requires-clause-plan g c κs within = grind (arith, common_steps)
+
+pub read_by-requires-clause-above : goal.read_by-requires-clause-above
+read_by-requires-clause-above g c κs within = grind (arith, common_steps)
+
+pub read_by-requires-clause-limits : goal.read_by-requires-clause-limits
+read_by-requires-clause-limits g c κs within = grind (arith, common_steps)
+
+pub returns-in_err-other-clause-many : goal.returns-in_err-other-clause-many
+returns-in_err-other-clause-many g c = grind (arith, common_steps)
+
+pub returns-in_err-other-clause-names : goal.returns-in_err-other-clause-names
+returns-in_err-other-clause-names g c = grind (arith, common_steps)
+
+pub returns-in_err-other-clause-right : goal.returns-in_err-other-clause-right
+returns-in_err-other-clause-right g c = grind (arith, common_steps)
+
+pub returns-in_err-other-clause-refused : goal.returns-in_err-other-clause-refused
+returns-in_err-other-clause-refused g c = grind (arith, common_steps)
+
+pub returns-then-is_err-clause-refused : goal.returns-then-is_err-clause-refused
+returns-then-is_err-clause-refused g c = grind (arith, common_steps)
+
+pub returns-clause-many : goal.returns-clause-many
+returns-clause-many g c = grind (arith, common_steps)
+
+pub returns-clause-names : goal.returns-clause-names
+returns-clause-names g c = grind (arith, common_steps)
+
+pub returns-clause-right : goal.returns-clause-right
+returns-clause-right g c = grind (arith, common_steps)

@@ -1,3 +1,4 @@
+use Rattle.std.proofs.lemmas.Grind.{common_steps}
 use Rattle.std.proofs.Common.{◌≡◌, ◌∙◌, ◌+◌, Err, List, [], ◌∷◌, length, map, ap, sym, subst, subst₂, length-append, rules, arith, inr}
 use Rattle.std.specs.List.{All}
 use Rattle.std.proofs.lemmas.List.{length-map}
@@ -35,3 +36,87 @@ returns-clause-joined g c =
       agreed = agreed;
       many = omega arith;
     }
+
+pub returns-in_err-places-clause-joined : goal.returns-in_err-places-clause-joined
+returns-in_err-places-clause-joined g c = grind (arith, common_steps)
+
+pub returns-in_err-places-clause-read : goal.returns-in_err-places-clause-read
+returns-in_err-places-clause-read g c = grind (arith, common_steps)
+
+pub returns-in_err-places-clause-refused : goal.returns-in_err-places-clause-refused
+returns-in_err-places-clause-refused g c = grind (arith, common_steps)
+
+pub same-mine : goal.same-mine
+same-mine g c = grind (arith, common_steps)
+
+pub new-requires-clause-name : goal.new-requires-clause-name
+new-requires-clause-name g c = grind (arith, common_steps)
+
+pub new-requires-clause-parts : goal.new-requires-clause-parts
+new-requires-clause-parts g c = grind (arith, common_steps)
+
+pub new-requires-clause-called : goal.new-requires-clause-called
+new-requires-clause-called g c = grind (arith, common_steps)
+
+pub new-requires-clause-plan : goal.new-requires-clause-plan
+new-requires-clause-plan g c = grind (arith, common_steps)
+
+pub returns-in_err-shared-clause-joined : goal.returns-in_err-shared-clause-joined
+returns-in_err-shared-clause-joined g c = grind (arith, common_steps)
+
+pub returns-in_err-shared-clause-read : goal.returns-in_err-shared-clause-read
+returns-in_err-shared-clause-read g c = grind (arith, common_steps)
+
+pub returns-in_err-shared-clause-refused : goal.returns-in_err-shared-clause-refused
+returns-in_err-shared-clause-refused g c = grind (arith, common_steps)
+
+pub worked-requires-after_bounds : goal.worked-requires-after_bounds
+worked-requires-after_bounds g c κs within = grind (arith, common_steps)
+
+pub returns-in_err-passes-clause-joined : goal.returns-in_err-passes-clause-joined
+returns-in_err-passes-clause-joined g c = grind (arith, common_steps)
+
+pub returns-in_err-passes-clause-read : goal.returns-in_err-passes-clause-read
+returns-in_err-passes-clause-read g c = grind (arith, common_steps)
+
+pub returns-in_err-passes-clause-refused : goal.returns-in_err-passes-clause-refused
+returns-in_err-passes-clause-refused g c = grind (arith, common_steps)
+
+pub others_of-requires-after_bounds : goal.others_of-requires-after_bounds
+others_of-requires-after_bounds g c κs within = grind (arith, common_steps)
+
+pub returns-in_err-others-clause-joined : goal.returns-in_err-others-clause-joined
+returns-in_err-others-clause-joined g c = grind (arith, common_steps)
+
+pub returns-in_err-others-clause-read : goal.returns-in_err-others-clause-read
+returns-in_err-others-clause-read g c = grind (arith, common_steps)
+
+pub returns-in_err-others-clause-refused : goal.returns-in_err-others-clause-refused
+returns-in_err-others-clause-refused g c = grind (arith, common_steps)
+
+pub contents_of-requires : goal.contents_of-requires
+contents_of-requires g c = grind (arith, common_steps)
+
+pub returns-in_err-contents-clause-joined : goal.returns-in_err-contents-clause-joined
+returns-in_err-contents-clause-joined g c = grind (arith, common_steps)
+
+pub returns-in_err-contents-clause-read : goal.returns-in_err-contents-clause-read
+returns-in_err-contents-clause-read g c = grind (arith, common_steps)
+
+pub returns-in_err-contents-clause-refused : goal.returns-in_err-contents-clause-refused
+returns-in_err-contents-clause-refused g c = grind (arith, common_steps)
+
+pub returns-in_err-first-clause-joined : goal.returns-in_err-first-clause-joined
+returns-in_err-first-clause-joined g c = grind (arith, common_steps)
+
+pub returns-in_err-first-clause-read : goal.returns-in_err-first-clause-read
+returns-in_err-first-clause-read g c = grind (arith, common_steps)
+
+pub returns-in_err-all-clause-joined : goal.returns-in_err-all-clause-joined
+returns-in_err-all-clause-joined g c = grind (arith, common_steps)
+
+pub returns-in_err-all-clause-read : goal.returns-in_err-all-clause-read
+returns-in_err-all-clause-read g c = grind (arith, common_steps)
+
+pub returns-clause-read : goal.returns-clause-read
+returns-clause-read g c = grind (arith, common_steps)

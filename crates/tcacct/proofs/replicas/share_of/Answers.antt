@@ -1,3 +1,4 @@
+use Rattle.std.proofs.lemmas.Grind.{common_steps}
 use Rattle.std.proofs.Common.{◌≡◌, ◌∙◌, ◌+◌, ◌%◌, ◌==◌, ℕ, true, false, List, [], ◌∷◌, ◌++◌, map, drop, ap, sym, rules, arith}
 use Rattle.std.specs.Borrow.{Bor}
 use Rattle.std.proofs.Math.ListN.{drop_of_length-le}
@@ -38,3 +39,24 @@ returns-clause-share c =
     ∙ ap (λ (r : List (List ℕ)). so_far ++ r) (sym (share_ends l.n c.args.remainder c.args.divisor))
     ∙ (rw (drop_of_length-le c.args.inputs.now c.loop-n-test.false) at l.invariant.whole)
     ∙ share_is c.args.remainder c.args.divisor (octets_of c.args.inputs.now)
+
+pub loop-n-init : goal.loop-n-init
+loop-n-init c = grind (arith, common_steps)
+
+pub offset_bounds-inputs-n : goal.offset_bounds-inputs-n
+offset_bounds-inputs-n c = grind (arith, common_steps)
+
+pub bounds-inputs-n : goal.bounds-inputs-n
+bounds-inputs-n c = grind (arith, common_steps)
+
+pub nonzero_rem-n : goal.nonzero_rem-n
+nonzero_rem-n c = grind (arith, common_steps)
+
+pub returns-in_err-push-clause-share : goal.returns-in_err-push-clause-share
+returns-in_err-push-clause-share c = grind (arith, common_steps)
+
+pub returns-in_err-push-clause-within : goal.returns-in_err-push-clause-within
+returns-in_err-push-clause-within c = grind (arith, common_steps)
+
+pub returns-clause-within : goal.returns-clause-within
+returns-clause-within c = grind (arith, common_steps)

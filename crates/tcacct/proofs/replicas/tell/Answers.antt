@@ -1,4 +1,5 @@
-use Rattle.std.proofs.Common.{◌≡◌, ◌∙◌, ℕ, List, take, ap}
+use Rattle.std.proofs.lemmas.Grind.{common_steps}
+use Rattle.std.proofs.Common.{◌≡◌, ◌∙◌, ℕ, List, take, ap, arith}
 use Rattle.std.proofs.Math.Seq.{take-length}
 use Rattle.tca_gossip.specs.Coupling.{counts_of}
 use Rattle.tca_gossip.specs.Replicas.{appended, chain_of}
@@ -16,3 +17,21 @@ returns-clause-told c =
     ∙ ap (λ n. appended into (take n (rests (chain_of into) delta))) c.in_ok-absorb.ensures.outcome.1
     ∙ ap (appended into) (take-length (rests (chain_of into) delta))
     ∙ ap (λ (runs : List RunView). appended into (rests (chain_of into) runs)) lacking
+
+pub returns-in_err-summary-clause-told : goal.returns-in_err-summary-clause-told
+returns-in_err-summary-clause-told c = grind (arith, common_steps)
+
+pub returns-in_err-summary-clause-refused : goal.returns-in_err-summary-clause-refused
+returns-in_err-summary-clause-refused c = grind (arith, common_steps)
+
+pub returns-in_err-delta-clause-told : goal.returns-in_err-delta-clause-told
+returns-in_err-delta-clause-told c = grind (arith, common_steps)
+
+pub returns-in_err-delta-clause-refused : goal.returns-in_err-delta-clause-refused
+returns-in_err-delta-clause-refused c = grind (arith, common_steps)
+
+pub returns-in_err-absorb-clause-told : goal.returns-in_err-absorb-clause-told
+returns-in_err-absorb-clause-told c = grind (arith, common_steps)
+
+pub returns-in_err-absorb-clause-refused : goal.returns-in_err-absorb-clause-refused
+returns-in_err-absorb-clause-refused c = grind (arith, common_steps)

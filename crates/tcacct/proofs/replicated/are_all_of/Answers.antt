@@ -1,4 +1,5 @@
-use Rattle.std.proofs.Common.{◌≡◌, ◌∙◌, ◌∷◌, ◌++◌, ◌+◌, [], List, take, sym, ap, append_assoc, rules}
+use Rattle.std.proofs.lemmas.Grind.{common_steps}
+use Rattle.std.proofs.Common.{◌≡◌, ◌∙◌, ◌∷◌, ◌++◌, ◌+◌, [], List, take, sym, ap, append_assoc, rules, arith}
 use Rattle.std.proofs.lemmas.List.{take_more}
 use Rattle.tca_report.specs.report.Reports.{PacketReport}
 use Rattle.tcacct.proofs.replicated.are_all_of.Goals as goal
@@ -14,3 +15,27 @@ loop-report-preserved c =
     ∙ ap (λ (r : PacketReport). first ++ r ∷ c.next.new.self) same
     ∙ sym (append_assoc first (c.report-item.result ∷ []) c.next.new.self)
     ∙ ap (λ (rs : List PacketReport). rs ++ c.next.new.self) (sym more)
+
+pub loop-report-init : goal.loop-report-init
+loop-report-init c = grind (arith, common_steps)
+
+pub offset_bounds-reports-report-index : goal.offset_bounds-reports-report-index
+offset_bounds-reports-report-index c = grind (arith, common_steps)
+
+pub returns-in_default-clause-same : goal.returns-in_default-clause-same
+returns-in_default-clause-same c = grind (arith, common_steps)
+
+pub returns-in_default-clause-limit : goal.returns-in_default-clause-limit
+returns-in_default-clause-limit c = grind (arith, common_steps)
+
+pub returns-then-ne-clause-same : goal.returns-then-ne-clause-same
+returns-then-ne-clause-same c = grind (arith, common_steps)
+
+pub returns-then-ne-clause-limit : goal.returns-then-ne-clause-limit
+returns-then-ne-clause-limit c = grind (arith, common_steps)
+
+pub returns-clause-same : goal.returns-clause-same
+returns-clause-same c = grind (arith, common_steps)
+
+pub returns-clause-limit : goal.returns-clause-limit
+returns-clause-limit c = grind (arith, common_steps)

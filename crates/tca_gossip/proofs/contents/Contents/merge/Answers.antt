@@ -1,4 +1,5 @@
-use Rattle.std.proofs.Common.{◌≡◌, ◌∙◌, ◌++◌, Some, None, false, cond, nat_lt, length, sym, ap, rules}
+use Rattle.std.proofs.lemmas.Grind.{common_steps}
+use Rattle.std.proofs.Common.{◌≡◌, ◌∙◌, ◌++◌, Some, None, false, cond, nat_lt, length, sym, ap, rules, arith}
 use Rattle.tca_report.specs.report.Reports.{report_cmp}
 use Rattle.tca_report.specs.contracts.report.ReportPartialEq.TheImpl as report_eq
 use Rattle.tca_join.specs.Sets.{in_order}
@@ -49,3 +50,90 @@ returns-clause-ok c =
     let log : c.join_from-2.new.self ≡ in_order report_cmp (c.self.inside.log ++ c.other.inside.log) = rw c.in_ok-log.ensures at c.in_default-join_from-2.ensures.ok in
     let held : held_in c.join_from.new.self ≡ merged longer (held_in es) (held_in fs) = ap held_in chains ∙ held_merged es fs c.self.invariant.rises c.other.invariant.rises in
     rw (← c.self.view_is, ← c.other.view_is) (λ i. record { name = c.self.inside.name; plan = c.release.ensures.plan i; log = log i; chains = held i })
+
+pub same-self : goal.same-self
+same-self c = grind (arith, common_steps)
+
+pub returns-in-Some-clause-err : goal.returns-in-Some-clause-err
+returns-in-Some-clause-err c = grind (arith, common_steps)
+
+pub returns-in-Some-clause-fault : goal.returns-in-Some-clause-fault
+returns-in-Some-clause-fault c = grind (arith, common_steps)
+
+pub same-self-in-Some-refusal : goal.same-self-in-Some-refusal
+same-self-in-Some-refusal c = grind (arith, common_steps)
+
+pub returns-in-Some-refusal-clause-err : goal.returns-in-Some-refusal-clause-err
+returns-in-Some-refusal-clause-err c = grind (arith, common_steps)
+
+pub returns-in-Some-refusal-clause-fault : goal.returns-in-Some-refusal-clause-fault
+returns-in-Some-refusal-clause-fault c = grind (arith, common_steps)
+
+pub same-self-in_err-chains : goal.same-self-in_err-chains
+same-self-in_err-chains c = grind (arith, common_steps)
+
+pub returns-in_err-chains-clause-ok : goal.returns-in_err-chains-clause-ok
+returns-in_err-chains-clause-ok c = grind (arith, common_steps)
+
+pub returns-in_err-chains-clause-settled : goal.returns-in_err-chains-clause-settled
+returns-in_err-chains-clause-settled c = grind (arith, common_steps)
+
+pub returns-in_err-chains-clause-compatible : goal.returns-in_err-chains-clause-compatible
+returns-in_err-chains-clause-compatible c = grind (arith, common_steps)
+
+pub returns-in_err-chains-clause-within : goal.returns-in_err-chains-clause-within
+returns-in_err-chains-clause-within c = grind (arith, common_steps)
+
+pub returns-in_err-chains-clause-err : goal.returns-in_err-chains-clause-err
+returns-in_err-chains-clause-err c = grind (arith, common_steps)
+
+pub returns-in_err-chains-clause-fault : goal.returns-in_err-chains-clause-fault
+returns-in_err-chains-clause-fault c = grind (arith, common_steps)
+
+pub same-self-in-Err : goal.same-self-in-Err
+same-self-in-Err c = grind (arith, common_steps)
+
+pub returns-in-Err-clause-err : goal.returns-in-Err-clause-err
+returns-in-Err-clause-err c = grind (arith, common_steps)
+
+pub same-self-in_err-log : goal.same-self-in_err-log
+same-self-in_err-log c = grind (arith, common_steps)
+
+pub returns-in_err-log-clause-ok : goal.returns-in_err-log-clause-ok
+returns-in_err-log-clause-ok c = grind (arith, common_steps)
+
+pub returns-in_err-log-clause-settled : goal.returns-in_err-log-clause-settled
+returns-in_err-log-clause-settled c = grind (arith, common_steps)
+
+pub returns-in_err-log-clause-compatible : goal.returns-in_err-log-clause-compatible
+returns-in_err-log-clause-compatible c = grind (arith, common_steps)
+
+pub returns-in_err-log-clause-within : goal.returns-in_err-log-clause-within
+returns-in_err-log-clause-within c = grind (arith, common_steps)
+
+pub returns-in_err-log-clause-err : goal.returns-in_err-log-clause-err
+returns-in_err-log-clause-err c = grind (arith, common_steps)
+
+pub returns-in_err-log-clause-fault : goal.returns-in_err-log-clause-fault
+returns-in_err-log-clause-fault c = grind (arith, common_steps)
+
+pub same-self-in-Err-join_from : goal.same-self-in-Err-join_from
+same-self-in-Err-join_from c = grind (arith, common_steps)
+
+pub returns-in-Err-join_from-clause-fault : goal.returns-in-Err-join_from-clause-fault
+returns-in-Err-join_from-clause-fault c = grind (arith, common_steps)
+
+pub same-chains : goal.same-chains
+same-chains c = grind (arith, common_steps)
+
+pub same-log : goal.same-log
+same-log c = grind (arith, common_steps)
+
+pub returns-clause-settled : goal.returns-clause-settled
+returns-clause-settled c = grind (arith, common_steps)
+
+pub returns-clause-compatible : goal.returns-clause-compatible
+returns-clause-compatible c = grind (arith, common_steps)
+
+pub returns-clause-within : goal.returns-clause-within
+returns-clause-within c = grind (arith, common_steps)

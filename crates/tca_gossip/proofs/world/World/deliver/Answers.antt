@@ -1,4 +1,5 @@
-use Rattle.std.proofs.Common.{◌≡◌, Some, map, slice_get, sym, ap, ◌∙◌, subst}
+use Rattle.std.proofs.lemmas.Grind.{common_steps}
+use Rattle.std.proofs.Common.{◌≡◌, Some, map, slice_get, sym, ap, ◌∙◌, subst, arith}
 use Rattle.tca_gossip.specs.Answers.{cause_of, outcome_of}
 use Rattle.tca_gossip.specs.Replicas.{chain_of}
 use Rattle.tca_gossip.specs.Runs.{rests}
@@ -26,3 +27,21 @@ pub returns-in-None-get : goal.returns-in-None-get
 returns-in-None-get c m coupled =
     deliver_no_message c.args.self.now m coupled c.args.to c.args.message
     (ap (λ (z : WorldView). slice_get z.sent c.args.message) (sym c.self.view_is) ∙ ap (λ l. slice_get (map message_view l) c.args.message) (sym c.deref.ensures.value) ∙ no_message c.deref.result.now c.args.message c.in-None-get.ensures.lookup.3)
+
+pub get-requires : goal.get-requires
+get-requires c κs = grind (arith, common_steps)
+
+pub index_mut-requires : goal.index_mut-requires
+index_mut-requires c = grind (arith, common_steps)
+
+pub same-self : goal.same-self
+same-self c = grind (arith, common_steps)
+
+pub same-self-in-None-get : goal.same-self-in-None-get
+same-self-in-None-get c = grind (arith, common_steps)
+
+pub same-self-in-None : goal.same-self-in-None
+same-self-in-None c = grind (arith, common_steps)
+
+pub returns-in-None : goal.returns-in-None
+returns-in-None c = grind (arith, common_steps)

@@ -1,3 +1,4 @@
+use Rattle.std.proofs.lemmas.Grind.{common_steps}
 use Rattle.std.proofs.Common.{take, length, ap, ◌∙◌, arith}
 use Rattle.tca_ingest.specs.Entries.{Took, pass_of}
 use Rattle.tca_ingest.specs.EntryViews.{entry_views}
@@ -42,3 +43,69 @@ returns-clause-took g c =
       within = c.take-taken.ensures.within;
       stops = c.take-taken.ensures.stop;
     })
+
+pub same-self : goal.same-self
+same-self g c = grind (arith, common_steps)
+
+pub returns-then-is_full-clause-full : goal.returns-then-is_full-clause-full
+returns-then-is_full-clause-full g c = grind (arith, common_steps)
+
+pub returns-then-is_full-clause-fault : goal.returns-then-is_full-clause-fault
+returns-then-is_full-clause-fault g c = grind (arith, common_steps)
+
+pub returns-then-is_full-clause-err : goal.returns-then-is_full-clause-err
+returns-then-is_full-clause-err g c = grind (arith, common_steps)
+
+pub same-self-in_err-copies : goal.same-self-in_err-copies
+same-self-in_err-copies g c = grind (arith, common_steps)
+
+pub returns-in_err-copies-clause-appends : goal.returns-in_err-copies-clause-appends
+returns-in_err-copies-clause-appends g c = grind (arith, common_steps)
+
+pub returns-in_err-copies-clause-took : goal.returns-in_err-copies-clause-took
+returns-in_err-copies-clause-took g c = grind (arith, common_steps)
+
+pub returns-in_err-copies-clause-full : goal.returns-in_err-copies-clause-full
+returns-in_err-copies-clause-full g c = grind (arith, common_steps)
+
+pub returns-in_err-copies-clause-fault : goal.returns-in_err-copies-clause-fault
+returns-in_err-copies-clause-fault g c = grind (arith, common_steps)
+
+pub returns-in_err-copies-clause-err : goal.returns-in_err-copies-clause-err
+returns-in_err-copies-clause-err g c = grind (arith, common_steps)
+
+pub invariant_of-self : goal.invariant_of-self
+invariant_of-self g c = grind (arith, common_steps)
+
+pub returns-in_err-reserve-clause-appends : goal.returns-in_err-reserve-clause-appends
+returns-in_err-reserve-clause-appends g c = grind (arith, common_steps)
+
+pub returns-in_err-reserve-clause-took : goal.returns-in_err-reserve-clause-took
+returns-in_err-reserve-clause-took g c = grind (arith, common_steps)
+
+pub returns-in_err-reserve-clause-full : goal.returns-in_err-reserve-clause-full
+returns-in_err-reserve-clause-full g c = grind (arith, common_steps)
+
+pub returns-in_err-reserve-clause-fault : goal.returns-in_err-reserve-clause-fault
+returns-in_err-reserve-clause-fault g c = grind (arith, common_steps)
+
+pub returns-in_err-reserve-clause-err : goal.returns-in_err-reserve-clause-err
+returns-in_err-reserve-clause-err g c = grind (arith, common_steps)
+
+pub same-copies : goal.same-copies
+same-copies g c = grind (arith, common_steps)
+
+pub into_entries-entry-requires : goal.into_entries-entry-requires
+into_entries-entry-requires g c = grind (arith, common_steps)
+
+pub note-requires-clause-room : goal.note-requires-clause-room
+note-requires-clause-room g c = grind (arith, common_steps)
+
+pub note-requires-clause-counted : goal.note-requires-clause-counted
+note-requires-clause-counted g c = grind (arith, common_steps)
+
+pub returns-clause-appends : goal.returns-clause-appends
+returns-clause-appends g c = grind (arith, common_steps)
+
+pub returns-clause-full : goal.returns-clause-full
+returns-clause-full g c = grind (arith, common_steps)

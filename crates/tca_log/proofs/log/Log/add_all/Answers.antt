@@ -1,3 +1,4 @@
+use Rattle.std.proofs.lemmas.Grind.{common_steps}
 use Rattle.std.proofs.lemmas.Result.{err_from_is_err_and}
 use Rattle.std.proofs.Common.{◌≡◌, ◌≤◌, ◌+◌, ◌++◌, ℕ, List, subst, length, rules, ap, ◌∙◌, arith}
 use Rattle.std.proofs.lemmas.Bool.{false≢true}
@@ -70,3 +71,54 @@ returns-clause-count g c =
     let news = c.in_ok-news.ensures.news in
     let all = c.in_ok-take_in.ensures.ok ∙ ap (λ (l : List PacketReport). put_each report_cmp l c.self.inside.rows.rows) news ∙ union_is report_cmp report_total report_exact c.self.inside.rows.rows (in_order report_cmp c.args.reports.items) c.self.invariant.rises in
     omega (arith, size, ap length all, ap length news, c.len-new.ensures.length, ap length c.self.view_is)
+
+pub same-self : goal.same-self
+same-self g c = grind (arith, common_steps)
+
+pub returns-in_err-news-clause-ok : goal.returns-in_err-news-clause-ok
+returns-in_err-news-clause-ok g c = grind (arith, common_steps)
+
+pub returns-in_err-news-clause-count : goal.returns-in_err-news-clause-count
+returns-in_err-news-clause-count g c = grind (arith, common_steps)
+
+pub returns-in_err-news-clause-err : goal.returns-in_err-news-clause-err
+returns-in_err-news-clause-err g c = grind (arith, common_steps)
+
+pub same-self-then-new-eq0 : goal.same-self-then-new-eq0
+same-self-then-new-eq0 g c = grind (arith, common_steps)
+
+pub returns-then-new-eq0-clause-count : goal.returns-then-new-eq0-clause-count
+returns-then-new-eq0-clause-count g c = grind (arith, common_steps)
+
+pub returns-then-new-eq0-clause-nothing : goal.returns-then-new-eq0-clause-nothing
+returns-then-new-eq0-clause-nothing g c = grind (arith, common_steps)
+
+pub same-news : goal.same-news
+same-news g c = grind (arith, common_steps)
+
+pub take_in-requires-clause-log : goal.take_in-requires-clause-log
+take_in-requires-clause-log g c = grind (arith, common_steps)
+
+pub take_in-requires-clause-few : goal.take_in-requires-clause-few
+take_in-requires-clause-few g c = grind (arith, common_steps)
+
+pub invariant_of-self : goal.invariant_of-self
+invariant_of-self g c = grind (arith, common_steps)
+
+pub returns-in_err-take_in-clause-ok : goal.returns-in_err-take_in-clause-ok
+returns-in_err-take_in-clause-ok g c = grind (arith, common_steps)
+
+pub returns-in_err-take_in-clause-count : goal.returns-in_err-take_in-clause-count
+returns-in_err-take_in-clause-count g c = grind (arith, common_steps)
+
+pub returns-in_err-take_in-clause-err : goal.returns-in_err-take_in-clause-err
+returns-in_err-take_in-clause-err g c = grind (arith, common_steps)
+
+pub overflow_cast-result : goal.overflow_cast-result
+overflow_cast-result g c = grind (arith, common_steps)
+
+pub invariant_of-self-2 : goal.invariant_of-self-2
+invariant_of-self-2 g c = grind (arith, common_steps)
+
+pub returns-clause-nothing : goal.returns-clause-nothing
+returns-clause-nothing g c = grind (arith, common_steps)

@@ -1,3 +1,4 @@
+use Rattle.std.proofs.lemmas.Grind.{common_steps}
 use Rattle.std.proofs.Common.{length, sym, ap, subst, ◌∙◌, arith}
 use Rattle.tca_log.specs.Rows.Ordered.{without_each}
 use Rattle.tca_log.proofs.OrderedRows.Each.{beyond_held, beyond_new, beyond_none, beyond_shorter}
@@ -41,3 +42,6 @@ pub returns : goal.returns
 returns g c =
     let step = ap (λ l. length (without_each g.K.Ord.cmp c.args.rows.now.rows l)) c.in-None.ensures.steps.0 in
     omega (arith, c.loop-key.invariant.count, step, ap length (beyond_none g.K.Ord.cmp g.met.K.Ord.total c.args.rows.now.rows), ap length c.in-None.ensures.steps.0)
+
+pub has-requires : goal.has-requires
+has-requires g c = grind (arith, common_steps)

@@ -1,3 +1,4 @@
+use Rattle.std.proofs.lemmas.Grind.{common_steps}
 use Rattle.std.proofs.Common.{◌≡◌, List, [], ◌∷◌, ◌++◌, length, sym, ap, subst, ◌∙◌, arith, append_assoc, length-append}
 use Rattle.std.proofs.lemmas.List.{append-nil}
 use Rattle.std.specs.Prelude.{IfOk}
@@ -74,3 +75,15 @@ returns-clause-nothing g c none =
     let rest = c.loop-key.rest.items in
     let all : rest ≡ without_each R rows c.args.keys = sym (append-nil rest) ∙ ap (λ (l : List _). rest ++ l) (sym (ap (without_each R rows) c.in-None.ensures.steps.0 ∙ beyond_none R g.met.K.Ord.total rows)) ∙ c.loop-key.invariant.so_far in
     c.of_ascending.ensures.none (omega (arith, ap length all, c.requires.new, none))
+
+pub returns-in_err-rest-clause-rest : goal.returns-in_err-rest-clause-rest
+returns-in_err-rest-clause-rest g c = grind (arith, common_steps)
+
+pub returns-in_err-rest-clause-nothing : goal.returns-in_err-rest-clause-nothing
+returns-in_err-rest-clause-nothing g c = grind (arith, common_steps)
+
+pub has-requires : goal.has-requires
+has-requires g c = grind (arith, common_steps)
+
+pub returns-in_err-push-clause-rest : goal.returns-in_err-push-clause-rest
+returns-in_err-push-clause-rest g c = grind (arith, common_steps)

@@ -1,4 +1,5 @@
-use Rattle.std.proofs.Common.{refl}
+use Rattle.std.proofs.lemmas.Grind.{common_steps}
+use Rattle.std.proofs.Common.{refl, arith}
 use Rattle.tca_accounts.specs.Plans.{account_of}
 use Rattle.tca_replay.specs.Lanes.{lane_ready}
 use Rattle.tca_replay.specs.Books.{AreLanes, BookView, Fits}
@@ -27,3 +28,6 @@ returns-clause-fits g c rs fits =
     let old : Fits rs view = rw (← c.self.view_is) at fits in
     room_either c.make_room.result (λ lanes. Fits rs (record { plan = i.plan; k = i.k; lanes = lanes; reports = i.reports; disputed = i.disputed; unassigned = i.unassigned })) c.make_room.ensures.ok c.make_room.ensures.err
     (fits_ready view rs old c.args.report.now) old
+
+pub make_room-requires : goal.make_room-requires
+make_room-requires g c = grind (arith, common_steps)

@@ -1,3 +1,5 @@
+use Rattle.std.proofs.lemmas.Grind.{common_steps}
+use Rattle.std.proofs.Common.{arith}
 use Rattle.tca_replay.specs.Books.{BookView, Fits}
 use Rattle.tca_replay.proofs.Books.{lanes_resumed, fits_settled}
 use Rattle.tca_replay.proofs.Totals.{settled_all}
@@ -19,3 +21,12 @@ returns-clause-fits g c rs fits =
     let view : BookView = record { plan = i.plan; k = i.k; lanes = i.lanes.items; reports = i.reports; disputed = i.disputed; unassigned = i.unassigned } in
     let old : Fits rs view = rw (← c.self.view_is) at fits in
     rw c.resume_all.ensures.lanes (fits_settled view rs old)
+
+pub returns-clause-book : goal.returns-clause-book
+returns-clause-book g c = grind (arith, common_steps)
+
+pub returns-clause-steps : goal.returns-clause-steps
+returns-clause-steps g c = grind (arith, common_steps)
+
+pub returns-clause-all : goal.returns-clause-all
+returns-clause-all g c = grind (arith, common_steps)

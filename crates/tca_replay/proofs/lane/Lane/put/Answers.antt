@@ -1,4 +1,5 @@
-use Rattle.std.proofs.Common.{◌≡◌, true, false}
+use Rattle.std.proofs.lemmas.Grind.{common_steps}
+use Rattle.std.proofs.Common.{◌≡◌, true, false, arith}
 use Rattle.tca_report.specs.report.Reports.{report_cmp}
 use Rattle.tca_join.specs.Sets.{has}
 use Rattle.tca_replay.specs.Runs.{metering}
@@ -18,3 +19,12 @@ pub returns : goal.returns
 returns g c =
     let l = c.self.inside in
     rw (c.lower.ensures, ← c.self.view_is) (view_put l.meter l.terms.other l.terms.period l.every l.rows.rows c.put.new.self.rows l.changed l.ready c.args.report c.put.ensures)
+
+pub put-requires-clause-ready : goal.put-requires-clause-ready
+put-requires-clause-ready g c = grind (arith, common_steps)
+
+pub put-requires-clause-new : goal.put-requires-clause-new
+put-requires-clause-new g c = grind (arith, common_steps)
+
+pub put-requires-clause-few : goal.put-requires-clause-few
+put-requires-clause-few g c = grind (arith, common_steps)

@@ -1,4 +1,5 @@
-use Rattle.std.proofs.Common.{◌≡◌, true}
+use Rattle.std.proofs.lemmas.Grind.{common_steps}
+use Rattle.std.proofs.Common.{◌≡◌, true, arith}
 use Rattle.tca_report.specs.report.Reports.{report_cmp}
 use Rattle.tca_join.specs.Sets.{has}
 use Rattle.tca_replay.specs.Runs.{metering}
@@ -17,3 +18,6 @@ pub returns : goal.returns
 returns g c =
     let l = c.self.inside in
     rw (c.lower.ensures, ← c.self.view_is) (view_less l.meter l.terms.other l.terms.period l.every l.rows.rows c.withdraw.new.self.rows l.changed l.ready c.args.report.now c.withdraw.ensures.rows c.len-all.ensures.rises)
+
+pub withdraw-requires : goal.withdraw-requires
+withdraw-requires g c = grind (arith, common_steps)

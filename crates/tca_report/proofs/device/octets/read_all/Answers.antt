@@ -55,3 +55,138 @@ loop-from-preserved g = grind (arith, common_steps)
 
 pub returns-in-Err-clause-most : goal.returns-in-Err-clause-most
 returns-in-Err-clause-most g = grind (arith, common_steps)
+
+pub returns-in-Ok-eq0-clause-same_reader : goal.returns-in-Ok-eq0-clause-same_reader
+returns-in-Ok-eq0-clause-same_reader g c = grind (arith, common_steps)
+
+pub returns-in-Ok-eq0-clause-octets : goal.returns-in-Ok-eq0-clause-octets
+returns-in-Ok-eq0-clause-octets g c = grind (arith, common_steps)
+
+pub returns-in-Ok-eq0-clause-all : goal.returns-in-Ok-eq0-clause-all
+returns-in-Ok-eq0-clause-all g c = grind (arith, common_steps)
+
+pub returns-in-Ok-eq0-clause-reads : goal.returns-in-Ok-eq0-clause-reads
+returns-in-Ok-eq0-clause-reads g c = grind (arith, common_steps)
+
+pub returns-in-Ok-eq0-clause-counted : goal.returns-in-Ok-eq0-clause-counted
+returns-in-Ok-eq0-clause-counted g c = grind (arith, common_steps)
+
+pub returns-in-Ok-eq0-clause-turns : goal.returns-in-Ok-eq0-clause-turns
+returns-in-Ok-eq0-clause-turns g c = grind (arith, common_steps)
+
+pub returns-in-Ok-eq0-clause-memory : goal.returns-in-Ok-eq0-clause-memory
+returns-in-Ok-eq0-clause-memory g c = grind (arith, common_steps)
+
+pub returns-in-Ok-eq0-clause-failed : goal.returns-in-Ok-eq0-clause-failed
+returns-in-Ok-eq0-clause-failed g c = grind (arith, common_steps)
+
+pub returns-in-Ok-eq0-clause-quiet : goal.returns-in-Ok-eq0-clause-quiet
+returns-in-Ok-eq0-clause-quiet g c = grind (arith, common_steps)
+
+pub returns-in-Ok-clause-same_reader : goal.returns-in-Ok-clause-same_reader
+returns-in-Ok-clause-same_reader g c = grind (arith, common_steps)
+
+pub returns-in-Ok-clause-octets : goal.returns-in-Ok-clause-octets
+returns-in-Ok-clause-octets g c = grind (arith, common_steps)
+
+pub returns-in-Ok-clause-all : goal.returns-in-Ok-clause-all
+returns-in-Ok-clause-all g c = grind (arith, common_steps)
+
+pub returns-in-Ok-clause-reads : goal.returns-in-Ok-clause-reads
+returns-in-Ok-clause-reads g c = grind (arith, common_steps)
+
+pub returns-in-Ok-clause-counted : goal.returns-in-Ok-clause-counted
+returns-in-Ok-clause-counted g c = grind (arith, common_steps)
+
+pub returns-in-Ok-clause-memory : goal.returns-in-Ok-clause-memory
+returns-in-Ok-clause-memory g c = grind (arith, common_steps)
+
+pub returns-in-Ok-clause-failed : goal.returns-in-Ok-clause-failed
+returns-in-Ok-clause-failed g c = grind (arith, common_steps)
+
+pub returns-in-Ok-clause-quiet : goal.returns-in-Ok-clause-quiet
+returns-in-Ok-clause-quiet g c = grind (arith, common_steps)
+
+pub returns-then-is_err-clause-same_reader : goal.returns-then-is_err-clause-same_reader
+returns-then-is_err-clause-same_reader g c = grind (arith, common_steps)
+
+pub returns-then-is_err-clause-octets : goal.returns-then-is_err-clause-octets
+returns-then-is_err-clause-octets g c = grind (arith, common_steps)
+
+pub returns-then-is_err-clause-all : goal.returns-then-is_err-clause-all
+returns-then-is_err-clause-all g c = grind (arith, common_steps)
+
+pub returns-then-is_err-clause-reads : goal.returns-then-is_err-clause-reads
+returns-then-is_err-clause-reads g c = grind (arith, common_steps)
+
+pub returns-then-is_err-clause-counted : goal.returns-then-is_err-clause-counted
+returns-then-is_err-clause-counted g c = grind (arith, common_steps)
+
+pub returns-then-is_err-clause-turns : goal.returns-then-is_err-clause-turns
+returns-then-is_err-clause-turns g c = grind (arith, common_steps)
+
+pub returns-then-is_err-clause-memory : goal.returns-then-is_err-clause-memory
+returns-then-is_err-clause-memory g c = grind (arith, common_steps)
+
+pub returns-then-is_err-clause-failed : goal.returns-then-is_err-clause-failed
+returns-then-is_err-clause-failed g c = grind (arith, common_steps)
+
+pub returns-then-is_err-clause-quiet : goal.returns-then-is_err-clause-quiet
+returns-then-is_err-clause-quiet g c = grind (arith, common_steps)
+
+pub returns-in-Err-clause-same_reader : goal.returns-in-Err-clause-same_reader
+returns-in-Err-clause-same_reader g c = grind (arith, common_steps)
+
+pub returns-in-Err-clause-octets : goal.returns-in-Err-clause-octets
+returns-in-Err-clause-octets g c = grind (arith, common_steps)
+
+pub returns-in-Err-clause-all : goal.returns-in-Err-clause-all
+returns-in-Err-clause-all g c = grind (arith, common_steps)
+
+pub returns-in-Err-clause-reads : goal.returns-in-Err-clause-reads
+returns-in-Err-clause-reads g c = grind (arith, common_steps)
+
+pub returns-in-Err-clause-counted : goal.returns-in-Err-clause-counted
+returns-in-Err-clause-counted g c = grind (arith, common_steps)
+
+pub returns-in-Err-clause-turns : goal.returns-in-Err-clause-turns
+returns-in-Err-clause-turns g c = grind (arith, common_steps)
+
+pub returns-in-Err-clause-memory : goal.returns-in-Err-clause-memory
+returns-in-Err-clause-memory g c = grind (arith, common_steps)
+
+pub returns-in-Err-clause-failed : goal.returns-in-Err-clause-failed
+returns-in-Err-clause-failed g c = grind (arith, common_steps)
+
+pub returns-in-Err-clause-quiet : goal.returns-in-Err-clause-quiet
+returns-in-Err-clause-quiet g c = grind (arith, common_steps)
+
+pub returns-clause-same_reader : goal.returns-clause-same_reader
+returns-clause-same_reader g c = grind (arith, common_steps)
+
+pub returns-clause-octets : goal.returns-clause-octets
+returns-clause-octets g c = grind (arith, common_steps)
+
+pub returns-clause-all : goal.returns-clause-all
+returns-clause-all g c = grind (arith, common_steps)
+
+pub returns-clause-reads : goal.returns-clause-reads
+returns-clause-reads g c = grind (arith, common_steps)
+
+pub returns-clause-counted : goal.returns-clause-counted
+returns-clause-counted g c = grind (arith, common_steps)
+
+pub returns-clause-most : goal.returns-clause-most
+returns-clause-most g c = grind (arith, common_steps)
+
+pub returns-clause-turns : goal.returns-clause-turns
+returns-clause-turns g c = grind (arith, common_steps)
+
+pub returns-clause-memory : goal.returns-clause-memory
+returns-clause-memory g c = grind (arith, common_steps)
+
+pub returns-clause-failed : goal.returns-clause-failed
+returns-clause-failed g c = grind (arith, common_steps)
+
+pub returns-clause-quiet : goal.returns-clause-quiet
+returns-clause-quiet g c = grind (arith, common_steps)

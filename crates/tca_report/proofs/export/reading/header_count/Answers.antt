@@ -1,3 +1,4 @@
+use Rattle.std.proofs.lemmas.Grind.{common_steps}
 use Rattle.std.proofs.Common.{ap, length, rules, arith, length-drop, length-take, ℕ}
 use Rattle.tca_report.specs.export.Reading.{count_of}
 use Rattle.tca_report.proofs.export.reading.header_count.Goals as goal
@@ -8,3 +9,71 @@ returns-clause-exact c = search rules
 
 pub returns-clause-whole : goal.returns-clause-whole
 returns-clause-whole c = omega (arith, length-drop {A = ℕ}, length-take {A = ℕ}, ap length c.u32_at-count.ensures.rest)
+
+pub returns-then-octets-lt4-clause-exact : goal.returns-then-octets-lt4-clause-exact
+unfolding count_of
+returns-then-octets-lt4-clause-exact c = grind (arith, common_steps)
+
+pub returns-then-octets-lt4-clause-whole : goal.returns-then-octets-lt4-clause-whole
+unfolding count_of
+returns-then-octets-lt4-clause-whole c = grind (arith, common_steps)
+
+pub returns-then-octets-lt4-clause-no_memory : goal.returns-then-octets-lt4-clause-no_memory
+unfolding count_of
+returns-then-octets-lt4-clause-no_memory c = grind (arith, common_steps)
+
+pub returns-then-octets-ne84-clause-exact : goal.returns-then-octets-ne84-clause-exact
+unfolding count_of
+returns-then-octets-ne84-clause-exact c = grind (arith, common_steps)
+
+pub returns-then-octets-ne84-clause-whole : goal.returns-then-octets-ne84-clause-whole
+unfolding count_of
+returns-then-octets-ne84-clause-whole c = grind (arith, common_steps)
+
+pub returns-then-octets-ne84-clause-no_memory : goal.returns-then-octets-ne84-clause-no_memory
+unfolding count_of
+returns-then-octets-ne84-clause-no_memory c = grind (arith, common_steps)
+
+pub returns-then-octets-lt10-clause-exact : goal.returns-then-octets-lt10-clause-exact
+unfolding count_of
+returns-then-octets-lt10-clause-exact c = grind (arith, common_steps)
+
+pub returns-then-octets-lt10-clause-whole : goal.returns-then-octets-lt10-clause-whole
+unfolding count_of
+returns-then-octets-lt10-clause-whole c = grind (arith, common_steps)
+
+pub returns-then-octets-lt10-clause-no_memory : goal.returns-then-octets-lt10-clause-no_memory
+unfolding count_of
+returns-then-octets-lt10-clause-no_memory c = grind (arith, common_steps)
+
+pub returns-then-version-ne1-clause-exact : goal.returns-then-version-ne1-clause-exact
+unfolding count_of
+returns-then-version-ne1-clause-exact c = grind (arith, common_steps)
+
+pub returns-then-version-ne1-clause-whole : goal.returns-then-version-ne1-clause-whole
+unfolding count_of
+returns-then-version-ne1-clause-whole c = grind (arith, common_steps)
+
+pub returns-then-version-ne1-clause-no_memory : goal.returns-then-version-ne1-clause-no_memory
+unfolding count_of
+returns-then-version-ne1-clause-no_memory c = grind (arith, common_steps)
+
+pub returns-then-records-wanted-clause-exact : goal.returns-then-records-wanted-clause-exact
+unfolding count_of
+returns-then-records-wanted-clause-exact c = grind (arith, common_steps)
+
+pub returns-then-records-wanted-clause-whole : goal.returns-then-records-wanted-clause-whole
+unfolding count_of
+returns-then-records-wanted-clause-whole c = grind (arith, common_steps)
+
+pub returns-then-records-wanted-2-clause-exact : goal.returns-then-records-wanted-2-clause-exact
+unfolding count_of
+returns-then-records-wanted-2-clause-exact c = grind (arith, common_steps)
+
+pub returns-then-records-wanted-2-clause-whole : goal.returns-then-records-wanted-2-clause-whole
+unfolding count_of
+returns-then-records-wanted-2-clause-whole c = grind (arith, common_steps)
+
+pub returns-clause-no_memory : goal.returns-clause-no_memory
+unfolding count_of
+returns-clause-no_memory c = grind (arith, common_steps)

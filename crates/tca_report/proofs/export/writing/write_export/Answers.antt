@@ -1,3 +1,4 @@
+use Rattle.std.proofs.lemmas.Grind.{common_steps}
 use Rattle.std.proofs.Common.{◌+◌, ◌<◌, ◌≤◌, ◌++◌, List, ℕ, length, drop, arith, sym, ap, ◌∙◌}
 use Rattle.std.specs.List.{flat_map}
 use Rattle.std.proofs.lemmas.Result.{err_from_is_err_and}
@@ -64,3 +65,30 @@ returns-in_err-put_after-clause-went g c =
     let part : fault.written < c.loop-report.written + length c.loop-report.buffer.items = rw c.as_slice.ensures.value at c.in_err-put_after.ensures.part in
     let went = rw c.as_slice.ensures.value at c.in_err-put_after.ensures.went in
     rw (p.1, p.2) (part_went (export c.args.reports.now) c.loop-report.buffer.items more c.loop-report.written fault.written c.loop-report.invariant.left c.in_err-put_after.ensures.after (omega arith) _ _ _ c.loop-report.invariant.went went)
+
+pub returns-in_err-written-clause-ok : goal.returns-in_err-written-clause-ok
+returns-in_err-written-clause-ok g c = grind (arith, common_steps)
+
+pub returns-in_err-written-clause-count : goal.returns-in_err-written-clause-count
+returns-in_err-written-clause-count g c = grind (arith, common_steps)
+
+pub returns-in_err-put_after-clause-ok : goal.returns-in_err-put_after-clause-ok
+returns-in_err-put_after-clause-ok g c = grind (arith, common_steps)
+
+pub returns-in_err-put_after-clause-part : goal.returns-in_err-put_after-clause-part
+returns-in_err-put_after-clause-part g c = grind (arith, common_steps)
+
+pub returns-in_err-put_after-clause-count : goal.returns-in_err-put_after-clause-count
+returns-in_err-put_after-clause-count g c = grind (arith, common_steps)
+
+pub returns-clause-ok : goal.returns-clause-ok
+returns-clause-ok g c = grind (arith, common_steps)
+
+pub returns-clause-part : goal.returns-clause-part
+returns-clause-part g c = grind (arith, common_steps)
+
+pub returns-clause-went : goal.returns-clause-went
+returns-clause-went g c = grind (arith, common_steps)
+
+pub returns-clause-count : goal.returns-clause-count
+returns-clause-count g c = grind (arith, common_steps)

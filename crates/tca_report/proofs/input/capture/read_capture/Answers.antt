@@ -1,3 +1,4 @@
+use Rattle.std.proofs.lemmas.Grind.{common_steps}
 use Rattle.std.proofs.Common.{rules, ◌≡◌, ◌<◌, ◌++◌, ◌∙◌, ap, ap₂, sym, subst, true, false, arith, append_assoc, length, length-append, take, drop, List, ℕ}
 use Rattle.std.specs.Prelude.{Ok, Err, ◌==◌}
 use Rattle.tca_report.specs.report.Reports.{PacketReport}
@@ -99,3 +100,9 @@ returns-in-Err c =
 
 pub returns-in_default-clause-wanted : goal.returns-in_default-clause-wanted
 returns-in_default-clause-wanted c = search rules
+
+pub returns-in_default-clause-exact : goal.returns-in_default-clause-exact
+returns-in_default-clause-exact c = grind (arith, common_steps)
+
+pub returns-in_default-clause-memory : goal.returns-in_default-clause-memory
+returns-in_default-clause-memory c = grind (arith, common_steps)

@@ -1,3 +1,4 @@
+use Rattle.std.proofs.lemmas.Grind.{common_steps}
 use Rattle.std.proofs.Common.{arith}
 use Rattle.std.proofs.lemmas.Result.{err_from_is_err_and}
 use Rattle.tca_templates.proofs.SessionLaws.{templates_have, reading_found}
@@ -24,3 +25,30 @@ returns-clause-exact g c = rw (← c.self.view_is) (λ start taken.
       come.1,
       record { templates = come.2.templates; records = come.2.records; unplaced = come.2.unplaced; skipped = come.2.skipped; few = omega (arith, come.2.count, c.in_ok-aside.ensures.few) },
     ))
+
+pub returns-in_err-aside-clause-found : goal.returns-in_err-aside-clause-found
+returns-in_err-aside-clause-found g c = grind (arith, common_steps)
+
+pub returns-in_err-aside-clause-exact : goal.returns-in_err-aside-clause-exact
+returns-in_err-aside-clause-exact g c = grind (arith, common_steps)
+
+pub returns-in_err-aside-clause-skipped : goal.returns-in_err-aside-clause-skipped
+returns-in_err-aside-clause-skipped g c = grind (arith, common_steps)
+
+pub returns-in_err-aside-clause-wanted : goal.returns-in_err-aside-clause-wanted
+returns-in_err-aside-clause-wanted g c = grind (arith, common_steps)
+
+pub returns-in_err-aside-clause-memory : goal.returns-in_err-aside-clause-memory
+returns-in_err-aside-clause-memory g c = grind (arith, common_steps)
+
+pub returns-clause-first : goal.returns-clause-first
+returns-clause-first g c = grind (arith, common_steps)
+
+pub returns-clause-skipped : goal.returns-clause-skipped
+returns-clause-skipped g c = grind (arith, common_steps)
+
+pub returns-clause-wanted : goal.returns-clause-wanted
+returns-clause-wanted g c = grind (arith, common_steps)
+
+pub returns-clause-memory : goal.returns-clause-memory
+returns-clause-memory g c = grind (arith, common_steps)

@@ -1,3 +1,4 @@
+use Rattle.std.proofs.lemmas.Grind.{common_steps}
 use Rattle.std.proofs.Common.{◌∷◌, List, Option, refl, ap, sym, arith, length, ◌∙◌}
 use Rattle.std.specs.Slice.Iter.{iter_rest}
 use Rattle.tca_templates.specs.declared.template.Template.{Template}
@@ -37,3 +38,6 @@ returns-clause-steps c =
       sym c.self.view_is ∙ ap (λ (es : List (Key × Template)). listed (entries_of es)) (sym c.loop-slot.invariant ∙ none),
       ap (λ t. listed (entries_of (filled (iter_rest t)))) c.in_default.ensures.steps.1 ∙ ap (λ (es : List (Key × Template)). listed (entries_of es)) none,
     )
+
+pub returns-clause-goes : goal.returns-clause-goes
+returns-clause-goes c = grind (arith, common_steps)

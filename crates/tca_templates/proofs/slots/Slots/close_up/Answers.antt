@@ -1,3 +1,4 @@
+use Rattle.std.proofs.lemmas.Grind.{common_steps}
 use Rattle.std.proofs.Common.{rules, ◌≡◌, List, Option, length, arith, sym, ap, subst, filter, ◌∙◌}
 use Rattle.std.specs.Option.{is_some}
 use Rattle.std.proofs.lemmas.Fn.{filter_same}
@@ -34,3 +35,9 @@ returns c =
 
 pub overflow_sub-empty : goal.overflow_sub-empty
 overflow_sub-empty c = omega (arith, c.len.ensures, c.len-2.ensures.len, c.self.invariant.slotted.counted, filled_few c.self.inside.slots.items)
+
+pub returns-then-is_some : goal.returns-then-is_some
+returns-then-is_some c = grind (arith, common_steps)
+
+pub returns-then-empty-lt-FEWEST_EMPTY : goal.returns-then-empty-lt-FEWEST_EMPTY
+returns-then-empty-lt-FEWEST_EMPTY c = grind (arith, common_steps)

@@ -1,4 +1,5 @@
-use Rattle.std.proofs.Common.{◌≡◌, List, ap, sym, ◌∙◌}
+use Rattle.std.proofs.lemmas.Grind.{common_steps}
+use Rattle.std.proofs.Common.{◌≡◌, List, ap, sym, ◌∙◌, arith}
 use Rattle.std.specs.Prelude.{Some}
 use Rattle.std.specs.Map.{lookup}
 use Rattle.tca_templates.specs.declared.template.Template.{Template}
@@ -43,3 +44,27 @@ push-requires c =
     let key : Key = (c.args.domain, c.args.id) in
     let known = ap (λ (v : SlotsView). v.known) c.self.view_is in
     ap (lookup (same_key key)) (sym known) ∙ unknown key c.self.inside.slots.items (sym (c.self.invariant.slotted.found key) ∙ sym c.in_default.ensures.value)
+
+pub invariant_of-self : goal.invariant_of-self
+invariant_of-self c = grind (arith, common_steps)
+
+pub returns-in_err-make_room-clause-ok : goal.returns-in_err-make_room-clause-ok
+returns-in_err-make_room-clause-ok c = grind (arith, common_steps)
+
+pub returns-in_err-make_room-clause-err : goal.returns-in_err-make_room-clause-err
+returns-in_err-make_room-clause-err c = grind (arith, common_steps)
+
+pub returns-in_err-make_room-clause-before : goal.returns-in_err-make_room-clause-before
+returns-in_err-make_room-clause-before c = grind (arith, common_steps)
+
+pub returns-in-Some-clause-err : goal.returns-in-Some-clause-err
+returns-in-Some-clause-err c = grind (arith, common_steps)
+
+pub returns-clause-ok : goal.returns-clause-ok
+returns-clause-ok c = grind (arith, common_steps)
+
+pub returns-clause-err : goal.returns-clause-err
+returns-clause-err c = grind (arith, common_steps)
+
+pub returns-clause-before : goal.returns-clause-before
+returns-clause-before c = grind (arith, common_steps)

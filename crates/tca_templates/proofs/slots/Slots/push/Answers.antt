@@ -1,3 +1,4 @@
+use Rattle.std.proofs.lemmas.Grind.{common_steps}
 use Rattle.std.proofs.Common.{◌≡◌, ◌+◌, ℕ, List, ◌∷◌, ◌++◌, [], length, ap, arith, ◌∙◌}
 use Rattle.std.specs.Prelude.{Option, Some, None, is_some, if◌then◌else◌}
 use Rattle.std.specs.Map.{lookup}
@@ -45,3 +46,54 @@ returns-clause-ok c =
     ap (λ ts. entries_of (filled ts)) all ∙ ap entries_of (filled_push key c.args.template ss place)
     ∙ templates-insert (filled ss) key c.args.template
     ∙ ap (λ (es : List (Key × Template)). define key (template_of c.args.template) (entries_of es)) known
+
+pub invariant_of-self : goal.invariant_of-self
+invariant_of-self c = grind (arith, common_steps)
+
+pub returns-in_err-make_room-clause-ok : goal.returns-in_err-make_room-clause-ok
+returns-in_err-make_room-clause-ok c = grind (arith, common_steps)
+
+pub returns-in_err-make_room-clause-err : goal.returns-in_err-make_room-clause-err
+returns-in_err-make_room-clause-err c = grind (arith, common_steps)
+
+pub returns-in_err-make_room-clause-before : goal.returns-in_err-make_room-clause-before
+returns-in_err-make_room-clause-before c = grind (arith, common_steps)
+
+pub invariant_of-self-in_err-reserve : goal.invariant_of-self-in_err-reserve
+invariant_of-self-in_err-reserve c = grind (arith, common_steps)
+
+pub returns-in_err-reserve-clause-ok : goal.returns-in_err-reserve-clause-ok
+returns-in_err-reserve-clause-ok c = grind (arith, common_steps)
+
+pub returns-in_err-reserve-clause-err : goal.returns-in_err-reserve-clause-err
+returns-in_err-reserve-clause-err c = grind (arith, common_steps)
+
+pub returns-in_err-reserve-clause-before : goal.returns-in_err-reserve-clause-before
+returns-in_err-reserve-clause-before c = grind (arith, common_steps)
+
+pub invariant_of-self-in_err-insert : goal.invariant_of-self-in_err-insert
+invariant_of-self-in_err-insert c = grind (arith, common_steps)
+
+pub returns-in_err-insert-clause-ok : goal.returns-in_err-insert-clause-ok
+returns-in_err-insert-clause-ok c = grind (arith, common_steps)
+
+pub returns-in_err-insert-clause-err : goal.returns-in_err-insert-clause-err
+returns-in_err-insert-clause-err c = grind (arith, common_steps)
+
+pub returns-in_err-insert-clause-before : goal.returns-in_err-insert-clause-before
+returns-in_err-insert-clause-before c = grind (arith, common_steps)
+
+pub invariant_of-self-in_err-push : goal.invariant_of-self-in_err-push
+invariant_of-self-in_err-push c = grind (arith, common_steps)
+
+pub returns-in_err-push-clause-ok : goal.returns-in_err-push-clause-ok
+returns-in_err-push-clause-ok c = grind (arith, common_steps)
+
+pub returns-in_err-push-clause-err : goal.returns-in_err-push-clause-err
+returns-in_err-push-clause-err c = grind (arith, common_steps)
+
+pub returns-in_err-push-clause-before : goal.returns-in_err-push-clause-before
+returns-in_err-push-clause-before c = grind (arith, common_steps)
+
+pub returns-clause-err : goal.returns-clause-err
+returns-clause-err c = grind (arith, common_steps)

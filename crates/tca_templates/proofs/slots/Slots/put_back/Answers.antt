@@ -1,3 +1,4 @@
+use Rattle.std.proofs.lemmas.Grind.{common_steps}
 use Rattle.std.proofs.Common.{◌≡◌, ◌≤◌, ◌+◌, ℕ, List, ◌∷◌, ◌++◌, [], length, set, refl, ap, sym, subst, arith, length-append, ◌∙◌}
 use Rattle.std.specs.Prelude.{Option, Some, None, slice_get, is_some, if◌then◌else◌}
 use Rattle.std.proofs.lemmas.Option.{slice_get_read}
@@ -141,3 +142,15 @@ loop-place-preserved c =
           ∙ ap (λ (vs : List (Step Template)). filled (undone vs ss)) (sym items) ∙ c.loop-place.invariant.before;
       none = after.3;
     }
+
+pub invariant_of-self : goal.invariant_of-self
+invariant_of-self c = grind (arith, common_steps)
+
+pub returns-in_default : goal.returns-in_default
+returns-in_default c = grind (arith, common_steps)
+
+pub invariant_of-self-in_default-pop : goal.invariant_of-self-in_default-pop
+invariant_of-self-in_default-pop c = grind (arith, common_steps)
+
+pub returns : goal.returns
+returns c = grind (arith, common_steps)

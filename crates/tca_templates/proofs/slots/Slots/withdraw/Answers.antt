@@ -1,4 +1,5 @@
-use Rattle.std.proofs.Common.{◌≡◌, List, ap, sym, ◌∙◌}
+use Rattle.std.proofs.lemmas.Grind.{common_steps}
+use Rattle.std.proofs.Common.{◌≡◌, List, ap, sym, ◌∙◌, arith}
 use Rattle.std.specs.Prelude.{Some, None}
 use Rattle.tca_templates.specs.declared.template.Template.{Template}
 use Rattle.tca_templates.specs.Templates.{Key, withdraw}
@@ -49,3 +50,18 @@ returns-in_default-clause-ok c =
     let none = unknown key ss (sym (c.in_default.ensures.value ∙ room.slotted.found key)) in
     let known = ap (λ (v : SlotsView). v.known) c.self.view_is in
     ap entries_of (sym (absent_out key (filled ss) none)) ∙ templates-remove (filled ss) key ∙ ap (λ (es : List (Key × Template)). withdraw key (entries_of es)) known
+
+pub invariant_of-self : goal.invariant_of-self
+invariant_of-self c = grind (arith, common_steps)
+
+pub returns-in_err-make_room-clause-ok : goal.returns-in_err-make_room-clause-ok
+returns-in_err-make_room-clause-ok c = grind (arith, common_steps)
+
+pub returns-in_err-make_room-clause-before : goal.returns-in_err-make_room-clause-before
+returns-in_err-make_room-clause-before c = grind (arith, common_steps)
+
+pub invariant_of-self-in_default : goal.invariant_of-self-in_default
+invariant_of-self-in_default c = grind (arith, common_steps)
+
+pub returns-in_default-clause-before : goal.returns-in_default-clause-before
+returns-in_default-clause-before c = grind (arith, common_steps)

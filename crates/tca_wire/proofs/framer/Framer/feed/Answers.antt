@@ -1,3 +1,4 @@
+use Rattle.std.proofs.lemmas.Grind.{common_steps}
 use Rattle.std.proofs.Common.{◌≡◌, ◌<◌, ◌++◌, List, ℕ, length, sym, ap, ◌∙◌, arith, rules}
 use Rattle.std.proofs.lemmas.List.{length-append}
 use Rattle.std.proofs.lemmas.Result.{err_from_is_err_and}
@@ -39,3 +40,12 @@ invariant_of-self-else-is_some-2 c = search rules
 
 pub invariant_of-self-then-is_some-2 : goal.invariant_of-self-then-is_some-2
 invariant_of-self-then-is_some-2 c = search rules
+
+pub invariant_of-self-in-Err-frames_in : goal.invariant_of-self-in-Err-frames_in
+invariant_of-self-in-Err-frames_in c = grind (arith, common_steps)
+
+pub returns-in-Err-frames_in-clause-unchanged : goal.returns-in-Err-frames_in-clause-unchanged
+returns-in-Err-frames_in-clause-unchanged c = grind (arith, common_steps)
+
+pub returns-in-Err-frames_in-clause-some : goal.returns-in-Err-frames_in-clause-some
+returns-in-Err-frames_in-clause-some c = grind (arith, common_steps)

@@ -1,3 +1,4 @@
+use Rattle.std.proofs.lemmas.Grind.{common_steps}
 use Rattle.std.proofs.Common.{◌≡◌, ◌<◌, ◌≤◌, ◌∙◌, ap, ap₂, sym, refl, arith, length, length-drop, [], List}
 use Rattle.std.specs.Prelude.{Ok, Err}
 use Rattle.std.proofs.lemmas.Bool.Decides.{nat_tests}
@@ -49,3 +50,6 @@ returns-clause-exact c =
     let end : length octets ≤ reader.at = grind (arith, nat_tests, c.loop-reader-test.false) in
     all_gathered octets (Holds []) reader (all_read octets reader c.loop-reader.invariant.so_far end) refl
     ∙ ap₂ (λ (reports : List PacketReport) (notes : Notes). Ok (reports, notes)) (sym c.gathered.ensures.reports) (sym c.gathered.ensures.notes)
+
+pub returns-clause-wanted : goal.returns-clause-wanted
+returns-clause-wanted c = grind (arith, common_steps)

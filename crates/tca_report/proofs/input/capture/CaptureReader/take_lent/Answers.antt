@@ -1,3 +1,4 @@
+use Rattle.std.proofs.lemmas.Grind.{common_steps}
 use Rattle.std.proofs.Common.{◌≡◌, ◌∙◌, arith, ap, sym, subst, List, ℕ}
 use Rattle.std.specs.Prelude.{Err}
 use Rattle.std.specs.List.{AllByRecursion}
@@ -60,3 +61,15 @@ returns-in-None-clause-ok c = λ octets piece after b.
     let feeds = subst (λ (l : List (List ℕ)). Feeds b.framer piece l after) (sym c.messages.ensures) b.feeds in
     let now = c.in_ok-reader.ensures.exact b.read.so_far b.read.agrees in
     read_on octets piece b.framer after c.args.self ms b.read feeds c.in_ok-reader.reader now.0 (sym b.fault ∙ c.in-None.is) now.1 now.2 c.in_ok-reader.ensures.at
+
+pub returns-in_err-reader-clause-ok : goal.returns-in_err-reader-clause-ok
+returns-in_err-reader-clause-ok c = grind (arith, common_steps)
+
+pub returns-in-Some-clause-ok : goal.returns-in-Some-clause-ok
+returns-in-Some-clause-ok c = grind (arith, common_steps)
+
+pub returns-in-None-clause-err : goal.returns-in-None-clause-err
+returns-in-None-clause-err c = grind (arith, common_steps)
+
+pub returns-in-None-clause-wanted : goal.returns-in-None-clause-wanted
+returns-in-None-clause-wanted c = grind (arith, common_steps)

@@ -1,3 +1,4 @@
+use Rattle.std.proofs.lemmas.Grind.{common_steps}
 use Rattle.std.proofs.Common.{◌≡◌, ◌+◌, ◌^◌, ◌<◌, ◌++◌, [], List, ℕ, ◌∙◌, arith, ap, sym, subst, take, length, refl}
 use Rattle.std.specs.Prelude.{Ok, Err}
 use Rattle.std.specs.Int.{from_bool}
@@ -86,3 +87,21 @@ returns-clause-at c = omega (arith, c.from-3.ensures, ap (λ (h : Header). h.len
 
 pub returns-clause-frame : goal.returns-clause-frame
 returns-clause-frame c = front_frame c.args.octets.now c.in-Ok.message.header c.in-Ok.message.sets.items c.in-Ok.ensures.found
+
+pub returns-in-Err-clause-exact : goal.returns-in-Err-clause-exact
+returns-in-Err-clause-exact c = grind (arith, common_steps)
+
+pub returns-in-Err-clause-at : goal.returns-in-Err-clause-at
+returns-in-Err-clause-at c = grind (arith, common_steps)
+
+pub returns-in-Err-clause-frame : goal.returns-in-Err-clause-frame
+returns-in-Err-clause-frame c = grind (arith, common_steps)
+
+pub returns-in-Err-hand_records-clause-at : goal.returns-in-Err-hand_records-clause-at
+returns-in-Err-hand_records-clause-at c = grind (arith, common_steps)
+
+pub returns-in-Err-hand_records-clause-frame : goal.returns-in-Err-hand_records-clause-frame
+returns-in-Err-hand_records-clause-frame c = grind (arith, common_steps)
+
+pub returns-clause-wanted : goal.returns-clause-wanted
+returns-clause-wanted c = grind (arith, common_steps)

@@ -1,3 +1,4 @@
+use Rattle.std.proofs.lemmas.Grind.{common_steps}
 use Rattle.std.proofs.Common.{◌≡◌, ◌+◌, ◌∷◌, ◌∙◌, arith, ap, sym, subst, length, List, ℕ}
 use Rattle.std.specs.List.{AllByRecursion, concat}
 use Rattle.std.proofs.lemmas.List.{length-append}
@@ -59,3 +60,12 @@ returns-clause-exact c = λ so_far k.
     let now = c.loop-message.invariant.so_far so_far k in
     let none = c.in-None.ensures.steps in
     (now.0, sym now.2 ∙ ap (capture_after c.loop-message.reader.at now.0) none.0 ∙ all_none c.loop-message.reader.at now.0, now.1)
+
+pub returns-in_err-reader-clause-at : goal.returns-in_err-reader-clause-at
+returns-in_err-reader-clause-at c = grind (arith, common_steps)
+
+pub returns-clause-at : goal.returns-clause-at
+returns-clause-at c = grind (arith, common_steps)
+
+pub returns-clause-wanted : goal.returns-clause-wanted
+returns-clause-wanted c = grind (arith, common_steps)
