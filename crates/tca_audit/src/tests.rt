@@ -7,6 +7,7 @@ mod exporters;
 mod inputs;
 mod meters;
 mod reports;
+mod samples;
 mod statements;
 mod templates;
 mod wire;

@@ -1,6 +1,6 @@
 //! The commands of the program, for `clap`.
 ghost use Rattle.std.specs.Prelude.{◌≡◌, ◌≤◌, IfOk, false};
-ghost use Rattle.clap.specs.Words.{app_of, rule_of};
+ghost use Rattle.clap.specs.Words.{app_of, new_app, rule_of};
 ghost use Rattle.clap.specs.declared.builder.command.Command.TheViews.{out-Command as fields_of};
 ghost use Rattle.tcacct.specs.Commands.{audit_command, many_words, number_up_to, one_word, option_word, bill_command, combine_command, meter_command, program};
 
@@ -115,62 +115,67 @@ fn number_up_to<'a>(alloc: Global, id: &'a str, most: u32, help: &'a str) -> Arg
         .help(help)
 }
 
+// A command without words, and what help says of it.
+fn named<'a>(alloc: Global, name: &'a str, about: &'a str, after: &'a str) -> Command<'a>
+    ensures command { app_of result ≡ new_app name.entry.now }
+    ensures local { (fields_of result).has_globals ≡ false }
+{
+    Command::new(alloc, name).about(about).after_help(after)
+}
+
 fn meter<'a>(alloc: Global) -> Result<Command<'a>, AllocError>
     ensures { IfOk result (λ c. (app_of c ≡ meter_command)
         × ((fields_of c).has_globals ≡ false)) }
 {
-    let spec = one_word(alloc, "SPEC", "the meter and its parameters");
-    let inputs = many_words(alloc, "INPUT", 2, "one or two files of reports");
-    let command = Command::new(alloc, "meter")
-        .about(METER)
-        .after_help(METER_AFTER);
-    Ok(command.arg(spec)?.arg(inputs)?)
+    let command = named(alloc, "meter", METER, METER_AFTER);
+    let command = command.arg(one_word(alloc, "SPEC", "the meter and its parameters"))?;
+    Ok(command.arg(many_words(alloc, "INPUT", 2, "one or two files of reports"))?)
 }
 
 fn combine<'a>(alloc: Global) -> Result<Command<'a>, AllocError>
     ensures { IfOk result (λ c. (app_of c ≡ combine_command)
         × ((fields_of c).has_globals ≡ false)) }
 {
-    let out = one_word(alloc, "OUT", "the file to write");
-    let inputs = many_words(alloc, "INPUT", 4_294_967_295, "files of reports");
-    let command = Command::new(alloc, "combine")
-        .about(COMBINE)
-        .after_help(COMBINE_AFTER);
-    Ok(command.arg(out)?.arg(inputs)?)
+    let command = named(alloc, "combine", COMBINE, COMBINE_AFTER);
+    let command = command.arg(one_word(alloc, "OUT", "the file to write"))?;
+    Ok(command.arg(many_words(alloc, "INPUT", 4_294_967_295, "files of reports"))?)
 }
 
 fn bill<'a>(alloc: Global) -> Result<Command<'a>, AllocError>
     ensures { IfOk result (λ c. (app_of c ≡ bill_command)
         × ((fields_of c).has_globals ≡ false)) }
 {
-    let replicas = number_up_to(alloc, "replicas", MOST_REPLICAS, "replicas, from 1 to 16");
-    let workers = number_up_to(
+    let command = named(alloc, "bill", BILL, BILL_AFTER);
+    let command = command.arg(number_up_to(
+        alloc,
+        "replicas",
+        MOST_REPLICAS,
+        "replicas, from 1 to 16",
+    ))?;
+    let command = command.arg(number_up_to(
         alloc,
         "workers",
         MOST_WORKERS,
         "workers of each, from 1 to 64",
-    );
-    let export = option_word(alloc, "export", "OUT", "a file for the export of the union");
-    let plan = one_word(alloc, "PLAN", "the plan, a TOML file");
-    let inputs = many_words(alloc, "INPUT", MOST_BILLED, "1 to 256 files of reports");
-    let command = Command::new(alloc, "bill")
-        .about(BILL)
-        .after_help(BILL_AFTER);
-    let command = command.arg(replicas)?.arg(workers)?;
-    Ok(command.arg(export)?.arg(plan)?.arg(inputs)?)
+    ))?;
+    let command = command.arg(option_word(
+        alloc,
+        "export",
+        "OUT",
+        "a file for the export of the union",
+    ))?;
+    let command = command.arg(one_word(alloc, "PLAN", "the plan, a TOML file"))?;
+    Ok(command.arg(many_words(alloc, "INPUT", MOST_BILLED, "1 to 256 files of reports"))?)
 }
 
 fn audit<'a>(alloc: Global) -> Result<Command<'a>, AllocError>
     ensures { IfOk result (λ c. (app_of c ≡ audit_command)
         × ((fields_of c).has_globals ≡ false)) }
 {
-    let plan = one_word(alloc, "PLAN", "the plan, a TOML file");
-    let export = one_word(alloc, "EXPORT", "a log export");
-    let statement = one_word(alloc, "STATEMENT", "the statement to check");
-    let command = Command::new(alloc, "audit")
-        .about(AUDIT)
-        .after_help(AUDIT_AFTER);
-    Ok(command.arg(plan)?.arg(export)?.arg(statement)?)
+    let command = named(alloc, "audit", AUDIT, AUDIT_AFTER);
+    let command = command.arg(one_word(alloc, "PLAN", "the plan, a TOML file"))?;
+    let command = command.arg(one_word(alloc, "EXPORT", "a log export"))?;
+    Ok(command.arg(one_word(alloc, "STATEMENT", "the statement to check"))?)
 }
 
 /// The program's command line, for clap.

@@ -4,7 +4,7 @@ ghost use Rattle.std.specs.Prelude.{◌≡◌, ◌≤◌, ◌<◌, ◌+◌, IfOk
 ghost use Rattle.tca_ingest.specs.Closed.{replicas_of};
 ghost use Rattle.tca_ingest.specs.Passes.{AreClosing};
 ghost use Rattle.tca_ingest.specs.Shares.{IsReplayed};
-ghost use Rattle.tcacct.specs.Absorbs.{Absorbs, AreAgreed, AreJoined, HasAbsorbed, HasRightJournal, names_of, with_lacking};
+ghost use Rattle.tcacct.specs.Absorbs.{Absorbs, AreAgreed, AreJoined, HasAbsorbed, HasRightJournal, closed_with, names_of, with_lacking};
 ghost use Rattle.tcacct.specs.Replicated.{AreRead, AreReplicasRefused, IsReadingRefused, IsRunRefused, IsWithinLimits, share_of};
 ghost use Rattle.tcacct.specs.Runs.{octets_of};
 
@@ -196,15 +196,24 @@ fn tell(into: &mut Replica, from: &Replica) -> Result<(), RunFault>
     Ok(())
 }
 
+// Each other replica absorbs what it lacks of the first.
+fn tell_all(others: &mut [Closed], first: &Replica) -> Result<(), RunFault>
+    ensures told { OnOk result (others.new ≡ map (closed_with first.now) others.old) }
+    ensures refused { IfErr result IsRunRefused }
+{
+    for other in others.iter_mut() {
+        tell(&mut other.replica, first)?;
+    }
+    Ok(())
+}
+
 // All replicas, the first one last, where each other one absorbed what it lacked of the first and all agree.
 fn agreed(first: Closed, others: Vec<Closed>) -> Result<Vec<Closed>, RunFault>
     ensures agreed { IfOk result (λ all. AreAgreed first others.items all.items) }
     ensures refused { IfErr result IsRunRefused }
 {
     let mut all = others;
-    for other in all.iter_mut() {
-        tell(&mut other.replica, &first.replica)?;
-    }
+    tell_all(&mut all, &first.replica)?;
     if all.push(first).is_err() {
         return Err(RunFault::from(AllocError));
     }

@@ -1,4 +1,5 @@
 //! Reports, exports and devices.
+use super::samples::{one_report, part};
 use std::alloc::{AllocError, Global};
 use std::fmt::Display;
 use std::path::Path;
@@ -19,19 +20,8 @@ fn three_reports() -> &'static [u8] {
 \x00\x00\x01\x8b\xcf\xe5\x68\xc8\x00\x00\x00\x07\x00\x00\x00\x02\x00\x00\x03\x20\x00\x00\x00\x00\x01"
 }
 
-// One report: domain 7, place 5, 1500 octets at T, DSCP 10, interface 1.
-fn one_report() -> &'static [u8] {
-    b"TCAX\x00\x01\x00\x00\x00\x01\
-\x00\x00\x01\x8b\xcf\xe5\x68\x00\x00\x00\x00\x07\x00\x00\x00\x05\x00\x00\x05\xdc\x0a\x00\x00\x00\x01"
-}
-
 fn no_report() -> &'static [u8] {
     b"TCAX\x00\x01\x00\x00\x00\x00"
-}
-
-// The octets from one place to another, of those that are there.
-fn part(octets: &[u8], from: usize, to: usize) -> &[u8] {
-    octets.get(from..to).unwrap_or(b"")
 }
 
 fn report(place: u32, time: u64, octets: u32, dscp: u8) -> Option<Report> {

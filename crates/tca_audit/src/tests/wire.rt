@@ -1,31 +1,9 @@
-ghost use Rattle.std.specs.Prelude.{◌≡◌, length};
-
+use super::samples::{fixed, part, variable};
 use std::alloc::{AllocError, Global};
 use std::test::Fail;
 use tca_wire::{
     Framed, Framer, Header, Lent, SetSpan, WireFault, framing_is_unique, pieces_join, split_message,
 };
-
-// A template of four fields and one record: 65 octets.
-fn fixed_message() -> &'static [u8]
-    ensures { length result.now ≡ 65 }
-{
-    b"\x00\x0a\x00\x41\x65\x53\xf1\x00\x00\x00\x00\x05\x00\x00\x00\x07\
-\x00\x02\x00\x18\x01\x00\x00\x04\x01\x43\x00\x08\x00\xe0\x00\x08\x00\xc3\x00\x01\x00\x0a\x00\x04\
-\x01\x00\x00\x19\x00\x00\x01\x8b\xcf\xe5\x68\x00\x00\x00\x00\x00\x00\x00\x05\xdc\x0a\x00\x00\x00\x01"
-}
-
-// A template with a field of variable length and one record: 47 octets.
-fn variable_message() -> &'static [u8] {
-    b"\x00\x0a\x00\x2f\x65\x53\xf1\x00\x00\x00\x00\x00\x00\x00\x00\x07\
-\x00\x02\x00\x10\x01\x00\x00\x02\x01\x42\x00\x04\x01\x39\xff\xff\
-\x01\x00\x00\x0f\x65\x53\xf1\x00\xff\x00\x04\x45\xb8\x05\xdc"
-}
-
-// The octets from one place to another, of those that are there.
-fn part(octets: &[u8], from: usize, to: usize) -> &[u8] {
-    octets.get(from..to).unwrap_or(b"")
-}
 
 fn with_end(alloc: Global, octets: &[u8], end: &[u8]) -> Result<Vec<u8>, AllocError> {
     let mut all = Vec::from_slice(alloc, octets)?;
@@ -55,7 +33,7 @@ fn is_refused(alloc: Global, octets: &[u8], fault: WireFault) -> bool {
 
 // Whether the first message with these two octets at a place is refused so.
 fn pair_is_refused(alloc: Global, at: usize, pair: [u8; 2], fault: WireFault) -> bool {
-    let Ok(octets) = with_pair(alloc, fixed_message(), at, pair) else {
+    let Ok(octets) = with_pair(alloc, fixed(), at, pair) else {
         return false;
     };
     is_refused(alloc, &octets, fault)
@@ -83,7 +61,7 @@ fn messages_are_split(rt: HostRuntime) {
         domain: 7,
     };
     let sets = [span(2, 16, 24), span(256, 40, 25)];
-    assert!(rt; is_split(rt.alloc(), fixed_message(), header, &sets));
+    assert!(rt; is_split(rt.alloc(), fixed(), header, &sets));
     let header = Header {
         length: 47,
         export_time: 1_700_000_000,
@@ -91,7 +69,7 @@ fn messages_are_split(rt: HostRuntime) {
         domain: 7,
     };
     let sets = [span(2, 16, 16), span(256, 32, 15)];
-    assert!(rt; is_split(rt.alloc(), variable_message(), header, &sets));
+    assert!(rt; is_split(rt.alloc(), variable(), header, &sets));
 }
 
 // Whether this message of so many sets stands at the front.
@@ -104,15 +82,15 @@ fn stands_first(alloc: Global, octets: &[u8], message: &[u8], sets: usize) -> bo
 
 // Whether the first message stands before the second.
 fn a_message_is_left_alone(alloc: Global) -> bool {
-    let Ok(both) = with_end(alloc, fixed_message(), variable_message()) else {
+    let Ok(both) = with_end(alloc, fixed(), variable()) else {
         return false;
     };
-    stands_first(alloc, &both, fixed_message(), 2)
+    stands_first(alloc, &both, fixed(), 2)
 }
 
 // Whether the header of the first message, with its own length, stands before the sets.
 fn sets_are_left_alone(alloc: Global) -> bool {
-    let Ok(bare) = with_pair(alloc, fixed_message(), 2, [0, 16]) else {
+    let Ok(bare) = with_pair(alloc, fixed(), 2, [0, 16]) else {
         return false;
     };
     stands_first(alloc, &bare, part(&bare, 0, 16), 0)
@@ -126,7 +104,7 @@ fn what_follows_a_message_is_left_alone(rt: HostRuntime) {
 
 #[test]
 fn cut_messages_are_short(rt: HostRuntime) {
-    for whole in [fixed_message(), variable_message()] {
+    for whole in [fixed(), variable()] {
         for length in 0..whole.len() {
             assert!(rt; is_refused(rt.alloc(), part(whole, 0, length), WireFault::Short));
         }
@@ -195,12 +173,12 @@ fn gives_alone(framer: &mut Framer, octets: &[u8], fault: Option<WireFault>) -> 
 
 #[test]
 fn a_stream_comes_octet_by_octet(rt: HostRuntime) {
-    let (front, last) = fixed_message().split_at(64);
+    let (front, last) = fixed().split_at(64);
     let mut framer = Framer::new(rt.alloc());
     assert!(rt; framer.finish() == Ok(()));
     assert!(rt; gives_alone(&mut framer, front, None));
     assert!(rt; framer.finish() == Err(WireFault::Short));
-    assert!(rt; gives(&mut framer, last, &[fixed_message()], None));
+    assert!(rt; gives(&mut framer, last, &[fixed()], None));
     assert!(rt; framer.finish() == Ok(()));
 }
 
@@ -213,13 +191,13 @@ fn a_faulty_stream_stays_so(rt: HostRuntime) {
     assert!(rt; framer.finish() == Err(WireFault::Short));
     assert!(rt; gives_alone(&mut framer, b"\x07\x00\x02", Some(fault)));
     assert!(rt; framer.finish() == Err(fault));
-    assert!(rt; gives(&mut framer, fixed_message(), &[], Some(fault)));
+    assert!(rt; gives(&mut framer, fixed(), &[], Some(fault)));
 }
 
 // A message, and behind it another whose length is 15.
 fn with_bad_length(alloc: Global) -> Result<Vec<u8>, AllocError> {
-    let bad = with_pair(alloc, variable_message(), 2, [0, 15])?;
-    with_end(alloc, fixed_message(), &bad)
+    let bad = with_pair(alloc, variable(), 2, [0, 15])?;
+    with_end(alloc, fixed(), &bad)
 }
 
 #[test]
@@ -227,7 +205,7 @@ fn a_fault_stands_behind_messages(rt: HostRuntime) -> Result<(), Fail> {
     let octets = with_bad_length(rt.alloc())?;
     let fault = WireFault::BadLength(15);
     let mut framer = Framer::new(rt.alloc());
-    assert!(rt; gives(&mut framer, &octets, &[fixed_message()], Some(fault)));
+    assert!(rt; gives(&mut framer, &octets, &[fixed()], Some(fault)));
     assert!(rt; framer.finish() == Err(fault));
     Ok(())
 }
@@ -235,7 +213,7 @@ fn a_fault_stands_behind_messages(rt: HostRuntime) -> Result<(), Fail> {
 // Whether a stream of the two messages that is cut there gives so many of them early, and the others then.
 fn gives_both(alloc: Global, octets: &[u8], cut: usize, early: usize) -> bool {
     let (front, behind) = octets.split_at(cut.min(octets.len()));
-    let wanted: &[&[u8]] = &[fixed_message(), variable_message()];
+    let wanted: &[&[u8]] = &[fixed(), variable()];
     let (first, others) = wanted.split_at(early.min(2));
     let mut framer = Framer::new(alloc);
     gives(&mut framer, front, first, None)
@@ -247,7 +225,7 @@ fn gives_both(alloc: Global, octets: &[u8], cut: usize, early: usize) -> bool {
 fn the_cut_does_not_matter(rt: HostRuntime) -> Result<(), Fail> {
     framing_is_unique();
     pieces_join();
-    let both = with_end(rt.alloc(), fixed_message(), variable_message())?;
+    let both = with_end(rt.alloc(), fixed(), variable())?;
     for cut in 1..112 {
         let early = usize::from(cut >= 65);
         assert!(rt; gives_both(rt.alloc(), &both, cut, early), "{cut}");
@@ -297,7 +275,7 @@ fn agree_throughout(alloc: Global, octets: &[u8], length: usize) -> bool {
 
 #[test]
 fn pieces_of_any_length_are_lent(rt: HostRuntime) -> Result<(), Fail> {
-    let both = with_end(rt.alloc(), fixed_message(), variable_message())?;
+    let both = with_end(rt.alloc(), fixed(), variable())?;
     let faulty = with_pair(rt.alloc(), &both, 65, [0, 9])?;
     for length in [1, 7, 16, 65, 66, 112] {
         let agreed = agree_throughout(rt.alloc(), &both, length)
@@ -329,7 +307,7 @@ fn lends(framer: &mut Framer, piece: &[u8], wanted: &[&[u8]]) -> bool {
 // Whether of a stream of the two messages that is cut there so many are lent early, and the others then.
 fn lends_both(alloc: Global, octets: &[u8], cut: usize, early: usize) -> bool {
     let (front, behind) = octets.split_at(cut.min(octets.len()));
-    let wanted: &[&[u8]] = &[fixed_message(), variable_message()];
+    let wanted: &[&[u8]] = &[fixed(), variable()];
     let (first, others) = wanted.split_at(early.min(2));
     let mut framer = Framer::new(alloc);
     lends(&mut framer, front, first)
@@ -339,7 +317,7 @@ fn lends_both(alloc: Global, octets: &[u8], cut: usize, early: usize) -> bool {
 
 #[test]
 fn messages_are_lent_at_each_cut(rt: HostRuntime) -> Result<(), Fail> {
-    let both = with_end(rt.alloc(), fixed_message(), variable_message())?;
+    let both = with_end(rt.alloc(), fixed(), variable())?;
     for cut in 0..113 {
         let early = usize::from(cut >= 65) + usize::from(cut == 112);
         assert!(rt; lends_both(rt.alloc(), &both, cut, early), "{cut}");
@@ -357,7 +335,7 @@ fn agree_at(alloc: Global, octets: &[u8], cut: usize) -> bool {
 
 #[test]
 fn changed_streams_are_lent_in_two_pieces(rt: HostRuntime) -> Result<(), Fail> {
-    let both = with_end(rt.alloc(), fixed_message(), variable_message())?;
+    let both = with_end(rt.alloc(), fixed(), variable())?;
     for at in [0, 1, 2, 3, 65, 66, 67, 68] {
         let changed = with_pair(rt.alloc(), &both, at, [0, 17])?;
         for cut in 0..113 {
