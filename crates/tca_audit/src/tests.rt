@@ -1,11 +1,15 @@
 //! Audits from outside, by reports whose colours were found by hand, and by statements of the bill; and, each in a module of its own,
-//! messages, templates, reports with exports and devices, inputs, captures of other exporters, buckets, meters, plans and bills, and
-//! statements, whose crates have no other tests.
+//! joins, messages, templates, reports with exports and devices, inputs, captures of other exporters, logs, buckets, meters, plans and
+//! bills, lanes and books, replicas, and statements, whose crates have no tests.
 mod accounts;
 mod buckets;
 mod exporters;
+mod gossip;
 mod inputs;
+mod join;
+mod log;
 mod meters;
+mod replay;
 mod reports;
 mod samples;
 mod statements;

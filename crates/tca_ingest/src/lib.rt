@@ -49,6 +49,3 @@ pub use pass::Pass;
 pub use shared::{Shared, exchange};
 pub use side::Side;
 pub use workers::{WorkRefused, Worked, work, work_on};
-
-#[cfg(test)]
-mod tests;

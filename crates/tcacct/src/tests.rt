@@ -3,4 +3,5 @@ mod faults;
 mod gates;
 mod lines;
 mod replicated;
+mod shared;
 mod shell;

@@ -1,0 +1,138 @@
+//! Shared replicas and their workers, from outside: by worked rows, at their limits, by two threads, and with each growth refused in turn.
+ghost use Rattle.std.specs.Prelude.{◌≡◌};
+
+mod exchanges;
+mod gates;
+mod jobs;
+mod jobs_memory;
+mod limits;
+mod memory;
+mod rows;
+mod threads;
+
+use std::alloc::{AllocError, Global};
+use std::sync::Wait;
+use tca_accounts::{Bill, Plan, PlanFault};
+use tca_ingest::{Closed, Entry, Pass, Shared, Side};
+use tca_report::{Content, Identity, Report};
+
+// The time of the first report of the worked rows.
+const START: u64 = 1_700_000_000_000;
+
+const PLAN: &str =
+    "period = 3600000\n[[account]]\nname = \"alpha\"\nmeter = \"rfc2697\"\ncir = 1000\ncbs = 2000\nebs = 1000\nkeys = [[7, 1]]\n";
+
+// Place, milliseconds after the first, octets.
+const FIRST: (u32, u32, u32) = (0, 0, 1500);
+
+const SECOND: (u32, u32, u32) = (1, 100, 1000);
+
+const THIRD: (u32, u32, u32) = (2, 200, 800);
+
+// The parts of a ledger: one for each pass, and one that stays.
+const PARTS: u64 = 65537;
+
+fn report(row: (u32, u32, u32)) -> Option<Report> {
+    let (place, late, octets) = row;
+    Report::new(
+        Identity { domain: 7, place },
+        Content {
+            time: START.wrapping_add(late as u64),
+            octets,
+            dscp: 0,
+            iface: 1,
+        },
+    )
+}
+
+fn reports(alloc: Global, rows: &[(u32, u32, u32)]) -> Option<Vec<Report>> {
+    let mut list = Vec::new(alloc);
+    for row in rows {
+        let Some(report) = report(*row) else {
+            return None;
+        };
+        if list.push(report).is_err() {
+            return None;
+        }
+    }
+    Some(list)
+}
+
+fn plan(alloc: Global) -> Result<Plan, PlanFault> {
+    Plan::from_text(alloc, PLAN.as_bytes())
+}
+
+// Whether a bill is that of the first three rows.
+fn is_of_three(bill: &Bill) -> bool {
+    let octets = match bill.accounts.as_slice().first() {
+        Some(tally) => tally.total.octets(),
+        None => [0; 3],
+    };
+    (octets, bill.reports, bill.disputed) == ([1500, 1000, 800], 3, 0)
+}
+
+// Whether an entry is the bill of the first three rows.
+fn states_three(entry: &Entry) -> bool {
+    match entry {
+        Entry::Answered { bill, .. } => is_of_three(bill),
+        _ => false,
+    }
+}
+
+// How many reports the entry of a take has, where the take went to its end.
+fn whole(entry: &Entry) -> Option<usize> {
+    match entry {
+        Entry::Took {
+            reports,
+            stop: None,
+            ..
+        } => Some(reports.len()),
+        _ => None,
+    }
+}
+
+// Takes reports, and answers the front, where all of them are held then.
+fn take<L: Side, R: Wait>(
+    rt: &R,
+    alloc: Global,
+    shared: &Shared<L>,
+    pass: &mut Pass<L>,
+    rows: &[(u32, u32, u32)],
+) -> Option<u64> {
+    let Some(list) = reports(alloc, rows) else {
+        return None;
+    };
+    let Ok(receipt) = shared.take(rt, pass, &list) else {
+        return None;
+    };
+    if whole(&receipt.entry) == Some(list.len()) {
+        Some(receipt.front)
+    } else {
+        None
+    }
+}
+
+// One pass, to be given back.
+fn alone<L: Side>(alloc: Global, pass: Pass<L>) -> Result<Vec<Pass<L>>, AllocError> {
+    let mut passes = Vec::new(alloc);
+    passes.push(pass)?;
+    Ok(passes)
+}
+
+// Passes, with one more.
+fn with_one_more<L: Side>(passes: Vec<Pass<L>>, pass: Pass<L>) -> Result<Vec<Pass<L>>, AllocError> {
+    let mut all = passes;
+    all.push(pass)?;
+    Ok(all)
+}
+
+// What comes of a close that isn't refused.
+fn closed_with<L: Side>(shared: Shared<L>, passes: Vec<Pass<L>>) -> Option<Closed> {
+    shared.close(passes).ok()
+}
+
+// The lengths of the journal and of the log, where a close isn't refused.
+fn lengths<L: Side>(shared: Shared<L>, passes: Vec<Pass<L>>) -> Option<(usize, u32)> {
+    let closed = shared.close(passes).ok()?;
+    Some((closed.journal.len(), closed.replica.log().len()))
+}

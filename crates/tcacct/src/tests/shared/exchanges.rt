@@ -1,0 +1,241 @@
+//! What two shared replicas tell each other, absorbs that are refused, and closed replicas that don't agree.
+ghost use Rattle.std.specs.Prelude.{◌≡◌};
+
+use super::{FIRST, PARTS, SECOND, THIRD, alone, closed_with, plan, reports, states_three, take};
+use std::alloc::{AllocError, Global};
+use std::marker::Brand;
+use std::sync::Wait;
+use std::sync::ledger::Blank;
+use tca_accounts::Plan;
+use tca_gossip::{AbsorbFault, Delta, Run};
+use tca_ingest::{CloseFault, Closed, Entry, Pass, Shared, Side, close_all, exchange};
+
+// The replica's answer to an absorb.
+fn answer(entry: &Entry) -> Option<Result<u64, AbsorbFault>> {
+    match entry {
+        Entry::Absorbed { result, .. } => Some(*result),
+        _ => None,
+    }
+}
+
+// Whether an exchange appends so many reports, and its absorb is the entry of this front.
+pub(super) fn tells<I: Side, F: Side, R: Wait>(
+    rt: &R,
+    into: (&Shared<I>, &mut Pass<I>),
+    from: (&Shared<F>, &mut Pass<F>),
+    front: u64,
+    count: u64,
+) -> bool {
+    let Ok(receipt) = exchange(rt, into.0, into.1, from.0, from.1) else {
+        return false;
+    };
+    receipt.front == front && answer(&receipt.entry) == Some(Ok(count))
+}
+
+// Whether the statement is that of the first three rows, and the entry of this front.
+pub(super) fn ends<L: Side, R: Wait>(
+    rt: &R,
+    shared: &Shared<L>,
+    pass: &mut Pass<L>,
+    front: u64,
+) -> bool {
+    let Ok(receipt) = shared.statement(rt, pass) else {
+        return false;
+    };
+    receipt.front == front && states_three(&receipt.entry)
+}
+
+// Closes with one pass.
+fn closed<L: Side>(alloc: Global, shared: Shared<L>, pass: Pass<L>) -> Option<Closed> {
+    let Ok(passes) = alone(alloc, pass) else {
+        return None;
+    };
+    closed_with(shared, passes)
+}
+
+// Two closed replicas, as one list.
+pub(super) fn both(alloc: Global, one: Closed, two: Closed) -> Result<Vec<Closed>, AllocError> {
+    let mut both = Vec::new(alloc);
+    both.push(one)?;
+    both.push(two)?;
+    Ok(both)
+}
+
+// Whether two closed replicas have three reports each, and agree.
+pub(super) fn are_of_three(both: &[Closed]) -> bool {
+    let are_whole = match both {
+        [one, two] => one.replica.log().len() == 3 && two.replica.log().len() == 3,
+        _ => false,
+    };
+    are_whole && close_all(both).is_ok()
+}
+
+// A delta of one run.
+fn one_run(alloc: Global, origin: u32, start: u32, rows: &[(u32, u32, u32)]) -> Option<Delta> {
+    let Some(reports) = reports(alloc, rows) else {
+        return None;
+    };
+    let run = Run {
+        origin,
+        start,
+        reports,
+    };
+    let mut runs = Vec::new(alloc);
+    if runs.push(run).is_err() {
+        return None;
+    }
+    Delta::of(runs)
+}
+
+// Whether the absorb of a delta of one run is refused with this fault.
+fn refuses<L: Side, R: Wait>(
+    rt: &R,
+    shared: &Shared<L>,
+    pass: &mut Pass<L>,
+    delta: &Delta,
+    fault: AbsorbFault,
+) -> bool {
+    let Ok(receipt) = shared.absorb(rt, pass, delta) else {
+        return false;
+    };
+    answer(&receipt.entry) == Some(Err(fault))
+}
+
+// Whether a run past what is held is a gap.
+pub(super) fn is_gap<L: Side, R: Wait>(
+    rt: &R,
+    alloc: Global,
+    shared: &Shared<L>,
+    pass: &mut Pass<L>,
+) -> bool {
+    let Some(past) = one_run(alloc, 2, 2, &[]) else {
+        return false;
+    };
+    let gap = AbsorbFault::Gap {
+        origin: 2,
+        have: 0,
+        from: 2,
+    };
+    refuses(rt, shared, pass, &past, gap)
+}
+
+// Whether a run of the own name that ends past the own chain is ahead of it.
+fn is_ahead<L: Side, R: Wait>(
+    rt: &R,
+    alloc: Global,
+    shared: &Shared<L>,
+    pass: &mut Pass<L>,
+) -> bool {
+    let Some(longer) = one_run(alloc, 1, 0, &[FIRST, SECOND, THIRD]) else {
+        return false;
+    };
+    let own = AbsorbFault::OwnAhead { have: 2, said: 3 };
+    refuses(rt, shared, pass, &longer, own)
+}
+
+// Whether both are refused after a take.
+fn refuses_both<L: Side, R: Wait>(
+    rt: &R,
+    alloc: Global,
+    shared: &Shared<L>,
+    pass: &mut Pass<L>,
+) -> bool {
+    let taken = take(rt, alloc, shared, pass, &[FIRST, SECOND]);
+    let far = is_gap(rt, alloc, shared, pass);
+    let ahead = is_ahead(rt, alloc, shared, pass);
+    taken == Some(1) && far && ahead
+}
+
+// Whether what is refused leaves the take alone.
+fn stays<L: Side, R: Wait>(rt: &R, alloc: Global, shared: Shared<L>) -> bool {
+    let Ok(mut pass) = shared.pass(rt) else {
+        return false;
+    };
+    let refused = refuses_both(rt, alloc, &shared, &mut pass);
+    let Some(closed) = closed(alloc, shared, pass) else {
+        return false;
+    };
+    let same = closed.replica.log().len() == 2 && closed.replica.chain(1).len() == 2;
+    refused && same && closed.journal.len() == 3
+}
+
+fn stays_as_it_was<L: Side, R: Wait>(
+    rt: &R,
+    alloc: Global,
+    blank: Blank,
+    name: u32,
+    plan: Plan,
+) -> bool
+    requires name { blank.name ≡ L.name }
+    requires parts { (blank.parts ≡ L.parts) × (L.parts ≡ 65537) }
+    requires called { name ≡ L.called }
+    requires plan { plan ≡ L.plan }
+{
+    let Ok(shared) = Shared::<L>::new(alloc, blank, name, plan) else {
+        return false;
+    };
+    stays(rt, alloc, shared)
+}
+
+#[test]
+fn a_refused_absorb_changes_nothing(rt: HostRuntime) {
+    let Ok(plan) = plan(rt.alloc()) else {
+        panic!(rt; "a plan");
+    };
+    assert!(rt; stays_as_it_was::<Brand, _>(&rt, rt.alloc(), Blank::new(PARTS), 1, plan));
+}
+
+// A closed replica that took these.
+fn with<L: Side, R: Wait>(
+    rt: &R,
+    alloc: Global,
+    blank: Blank,
+    name: u32,
+    plan: Plan,
+    rows: &[(u32, u32, u32)],
+) -> Option<Closed>
+    requires name { blank.name ≡ L.name }
+    requires parts { (blank.parts ≡ L.parts) × (L.parts ≡ 65537) }
+    requires called { name ≡ L.called }
+    requires plan { plan ≡ L.plan }
+{
+    let Ok(shared) = Shared::<L>::new(alloc, blank, name, plan) else {
+        return None;
+    };
+    let Ok(mut pass) = shared.pass(rt) else {
+        return None;
+    };
+    if take(rt, alloc, &shared, &mut pass, rows).is_none() {
+        return None;
+    }
+    closed(alloc, shared, pass)
+}
+
+// Whether both replicas are closed, and clash in the chain of the name 1.
+fn clash(alloc: Global, one: Option<Closed>, two: Option<Closed>) -> bool {
+    let Some(one) = one else {
+        return false;
+    };
+    let Some(two) = two else {
+        return false;
+    };
+    let Ok(both) = both(alloc, one, two) else {
+        return false;
+    };
+    close_all(&both) == Err(CloseFault::Clash { origin: 1 })
+}
+
+#[test]
+fn closed_replicas_of_one_name_clash(rt: HostRuntime) {
+    let alloc = rt.alloc();
+    let Ok(plan_of_one) = plan(alloc) else {
+        panic!(rt; "a plan");
+    };
+    let one = with::<Brand, _>(&rt, alloc, Blank::new(PARTS), 1, plan_of_one, &[FIRST]);
+    let Ok(plan_of_two) = plan(alloc) else {
+        panic!(rt; "a plan");
+    };
+    let two = with::<Brand, _>(&rt, alloc, Blank::new(PARTS), 1, plan_of_two, &[SECOND]);
+    assert!(rt; clash(alloc, one, two));
+    assert!(rt; close_all(&[]) == Ok(()));
+}

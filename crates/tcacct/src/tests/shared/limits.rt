@@ -1,0 +1,134 @@
+//! As many passes as there may be, and as many entries.
+ghost use Rattle.std.specs.Prelude.{◌≡◌};
+
+use super::{PARTS, alone, lengths, plan, with_one_more};
+use std::alloc::Global;
+use std::marker::Brand;
+use std::sync::Wait;
+use std::sync::ledger::Blank;
+use tca_accounts::Plan;
+use tca_ingest::{Pass, ShareFault, Shared, Side};
+
+// Makes passes, and answers whether they have the numbers from 0 on.
+pub(super) fn makes<L: Side, R: Wait>(rt: &R, shared: &Shared<L>, count: u32) -> bool {
+    for number in 0..count {
+        match shared.pass(rt) {
+            Ok(pass) => {
+                if pass.number() != number {
+                    return false;
+                }
+            }
+            Err(_) => return false,
+        }
+    }
+    true
+}
+
+fn runs_out_of_passes<L: Side, R: Wait>(
+    rt: &R,
+    alloc: Global,
+    blank: Blank,
+    name: u32,
+    plan: Plan,
+) -> bool
+    requires name { blank.name ≡ L.name }
+    requires parts { (blank.parts ≡ L.parts) × (L.parts ≡ 65537) }
+    requires called { name ≡ L.called }
+    requires plan { plan ≡ L.plan }
+{
+    let Ok(shared) = Shared::<L>::new(alloc, blank, name, plan) else {
+        return false;
+    };
+    let made = makes(rt, &shared, 65_536);
+    let out = shared.pass(rt).err() == Some(ShareFault::PassesOut);
+    let closed = lengths(shared, Vec::new(alloc));
+    made && out && closed == Some((0, 0))
+}
+
+#[test]
+fn passes_run_out_at_their_limit(rt: HostRuntime) {
+    let Ok(plan) = plan(rt.alloc()) else {
+        panic!(rt; "a plan");
+    };
+    assert!(rt; runs_out_of_passes::<Brand, _>(&rt, rt.alloc(), Blank::new(PARTS), 1, plan));
+}
+
+// Asks for the summary of a replica that holds nothing, as often as this; answers whether each was noted.
+fn asks<L: Side, R: Wait>(rt: &R, shared: &Shared<L>, pass: &mut Pass<L>, times: u32) -> bool {
+    for _ in 0..times {
+        if shared.summary(rt, pass).is_err() {
+            return false;
+        }
+    }
+    true
+}
+
+// Whether the journal has no room for a summary and for a take.
+fn is_full<L: Side, R: Wait>(rt: &R, shared: &Shared<L>, pass: &mut Pass<L>) -> bool {
+    let asked = shared.summary(rt, pass).err();
+    let taken = shared.take(rt, pass, &[]).err();
+    asked == Some(ShareFault::JournalFull) && taken == asked
+}
+
+// Whether two passes fill the journal, and then no more is noted.
+fn is_filled<L: Side, R: Wait>(
+    rt: &R,
+    shared: &Shared<L>,
+    first: &mut Pass<L>,
+    second: &mut Pass<L>,
+) -> bool {
+    let half = asks(rt, shared, first, 524_288);
+    let other = asks(rt, shared, second, 524_288);
+    half && other && is_full(rt, shared, first)
+}
+
+// The passes that filled the journal.
+fn filled<L: Side, R: Wait>(rt: &R, alloc: Global, shared: &Shared<L>) -> Option<Vec<Pass<L>>> {
+    let Ok(mut first) = shared.pass(rt) else {
+        return None;
+    };
+    let Ok(mut second) = shared.pass(rt) else {
+        return None;
+    };
+    if !is_filled(rt, shared, &mut first, &mut second) {
+        return None;
+    }
+    let Ok(one) = alone(alloc, first) else {
+        return None;
+    };
+    with_one_more(one, second).ok()
+}
+
+// Two passes fill the journal, and close.
+fn fills<L: Side, R: Wait>(rt: &R, alloc: Global, shared: Shared<L>) -> bool {
+    let Some(passes) = filled(rt, alloc, &shared) else {
+        return false;
+    };
+    lengths(shared, passes) == Some((1_048_576, 0))
+}
+
+fn fills_the_journal<L: Side, R: Wait>(
+    rt: &R,
+    alloc: Global,
+    blank: Blank,
+    name: u32,
+    plan: Plan,
+) -> bool
+    requires name { blank.name ≡ L.name }
+    requires parts { (blank.parts ≡ L.parts) × (L.parts ≡ 65537) }
+    requires called { name ≡ L.called }
+    requires plan { plan ≡ L.plan }
+{
+    let Ok(shared) = Shared::<L>::new(alloc, blank, name, plan) else {
+        return false;
+    };
+    fills(rt, alloc, shared)
+}
+
+#[test]
+fn a_journal_is_full_at_its_limit(rt: HostRuntime) {
+    let Ok(plan) = plan(rt.alloc()) else {
+        panic!(rt; "a plan");
+    };
+    assert!(rt; fills_the_journal::<Brand, _>(&rt, rt.alloc(), Blank::new(PARTS), 1, plan));
+}
