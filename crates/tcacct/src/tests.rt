@@ -2,6 +2,7 @@ mod commands;
 mod faults;
 mod gates;
 mod lines;
+mod meeting;
 mod replicated;
 mod shared;
 mod shell;

@@ -2,56 +2,16 @@
 //! Each wait has a limit, so that the tests end where it is not so.
 use crate::replicated::run_bill;
 use crate::tests::commands::{FIRST, OPENING, PLAN, SECOND, THIRD, THREE_REPORTS};
+use crate::tests::meeting::Meeting;
 use crate::tests::replicated::export_of_each;
 use std::alloc::Global;
 use std::process::Abort;
 use std::sync::Wait;
 use std::sync::atomic::{AtomicU64, Ordering};
 use std::test::*;
-use std::thread;
 use std::thread::Threads;
-use std::time::{Clock, Duration};
 use tca_ingest::Gate;
 use tca_report::Host;
-
-// Waits until a flag is set, for at most 10,000 turns of a millisecond. Whether it was.
-fn is_set<R: Clock>(rt: &R, flag: &AtomicU64) -> bool {
-    for _ in 0..10_000 {
-        if flag.load(Ordering::SeqCst) == 1 {
-            return true;
-        }
-        thread::sleep(rt, Duration::from_millis(1));
-    }
-    false
-}
-
-// The first job waits for the second, and the second for the first.
-#[derive(Drop)]
-struct Meeting<'a, R: Clock> {
-    rt: &'a R,
-    first: AtomicU64,
-    second: AtomicU64,
-    // how many of the two saw the other
-    met: AtomicU64,
-}
-
-impl<'a, R: Clock + Sync> Gate for Meeting<'a, R> {
-    fn before(&self, job: u32) {
-        let (mine, theirs) = match job {
-            0 => (&self.first, &self.second),
-            1 => (&self.second, &self.first),
-            _ => return,
-        };
-        mine.store(1, Ordering::SeqCst);
-        if is_set(self.rt, theirs) {
-            self.met.fetch_add(1, Ordering::SeqCst);
-        }
-    }
-
-    fn inside(&self, _job: u32) {}
-
-    fn after(&self, _job: u32) {}
-}
 
 // The jobs in the order in which they came, each counted from 1.
 #[derive(Drop)]
@@ -104,14 +64,9 @@ fn bills<R: Threads + Wait + Sync, G: Gate>(
 
 #[test]
 fn two_jobs_meet(rt: HostRuntime) {
-    let gate = Meeting {
-        rt: &rt,
-        first: AtomicU64::new(0),
-        second: AtomicU64::new(0),
-        met: AtomicU64::new(0),
-    };
+    let gate = Meeting::new(&rt);
     assert!(rt; bills(&rt, rt.alloc(), 1, &gate));
-    assert!(rt; gate.met.load(Ordering::SeqCst) == 2);
+    assert!(rt; gate.came_about());
 }
 
 // The first replica has two inputs, the second one.

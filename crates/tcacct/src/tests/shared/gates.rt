@@ -4,6 +4,7 @@ ghost use Rattle.std.specs.Prelude.{◌≡◌, ◌≤◌, IfSome, length};
 
 use super::jobs::exports;
 use super::{FIRST, PARTS, SECOND, THIRD, lengths, plan};
+use crate::tests::meeting::{Meeting, reaches};
 use std::alloc::Global;
 use std::marker::Brand;
 use std::sync::Wait;
@@ -11,48 +12,9 @@ use std::sync::atomic::{AtomicU64, Ordering};
 use std::sync::ledger::Blank;
 use std::thread;
 use std::thread::Threads;
-use std::time::{Clock, Duration};
+use std::time::Clock;
 use tca_accounts::Plan;
 use tca_ingest::{Gate, Shared, Side, work};
-
-// Waits until a count comes to this, for at most 10,000 turns of a millisecond. Whether it came.
-fn reaches<R: Clock>(rt: &R, count: &AtomicU64, least: u64) -> bool {
-    for _ in 0..10_000 {
-        if count.load(Ordering::SeqCst) >= least {
-            return true;
-        }
-        thread::sleep(rt, Duration::from_millis(1));
-    }
-    false
-}
-
-// The first job waits for the second, and the second for the first.
-#[derive(Drop)]
-struct Meeting<'a, R: Clock> {
-    rt: &'a R,
-    first: AtomicU64,
-    second: AtomicU64,
-    // how many of the two saw the other
-    met: AtomicU64,
-}
-
-impl<'a, R: Clock + Sync> Gate for Meeting<'a, R> {
-    fn before(&self, job: u32) {
-        let (mine, theirs) = match job {
-            0 => (&self.first, &self.second),
-            1 => (&self.second, &self.first),
-            _ => return,
-        };
-        mine.store(1, Ordering::SeqCst);
-        if reaches(self.rt, theirs, 1) {
-            self.met.fetch_add(1, Ordering::SeqCst);
-        }
-    }
-
-    fn inside(&self, _job: u32) {}
-
-    fn after(&self, _job: u32) {}
-}
 
 // The counts of results, entries and reports after workers took inputs, where the replica closes.
 fn taken<L: Side + Send + Sync, R: Threads + Wait + Sync, G: Gate>(
@@ -81,14 +43,9 @@ fn meet<L: Side + Send + Sync, R: Threads + Wait + Clock + Sync>(
     let Some(inputs) = exports(alloc, &[FIRST, SECOND, THIRD]) else {
         return false;
     };
-    let gate = Meeting {
-        rt,
-        first: AtomicU64::new(0),
-        second: AtomicU64::new(0),
-        met: AtomicU64::new(0),
-    };
+    let gate = Meeting::new(rt);
     let counts = taken(rt, alloc, shared, &inputs, &gate, 2);
-    gate.met.load(Ordering::SeqCst) == 2 && counts == Some((3, 3, 3))
+    gate.came_about() && counts == Some((3, 3, 3))
 }
 
 fn meets<L: Side + Send + Sync, R: Threads + Wait + Clock + Sync>(
