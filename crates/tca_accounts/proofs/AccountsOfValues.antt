@@ -8,7 +8,8 @@ use Rattle.tca_accounts.specs.Plans.{PlannedAccount}
 use Rattle.tca_accounts.specs.Documents.{account_in, accounts_from}
 use Rattle.tca_accounts.specs.declared.fault.PlanFault.{PlanFault}
 
-next : {A : Type 0} (done : List A) (a : A) (s : Result (List A) PlanFault) → ((Ok a >>= λ x. s >>= λ others. Ok (x ∷ others)) >>= λ rest. Ok (done ++ rest)) ≡ (s >>= λ rest. Ok ((done ++ a ∷ []) ++ rest))
+-- one more of those so far, and the rest
+pub next : {A : Type 0} (done : List A) (a : A) (s : Result (List A) PlanFault) → ((Ok a >>= λ x. s >>= λ others. Ok (x ∷ others)) >>= λ rest. Ok (done ++ rest)) ≡ (s >>= λ rest. Ok ((done ++ a ∷ []) ++ rest))
 next done a (Ok others) = ap Ok (sym (append_assoc done (a ∷ []) others))
 next done a (Err e) = refl
 

@@ -15,10 +15,9 @@ use Rattle.std.proofs.lemmas.List.Sums.{length-filter, count_by-le-length}
 use Rattle.tca_join.specs.Sets.{in_order}
 use Rattle.tca_join.proofs.Sets.{all_more}
 use Rattle.tca_report.specs.report.Reports.{PacketReport, report_cmp}
-use Rattle.tca_meters.specs.declared.any_meter.AnyMeter.{AnyMeter}
 use Rattle.tca_meters.specs.declared.colour.Colour.{Colour}
-use Rattle.tca_meters.specs.Packets.{Rule, Packet, colours, coloured}
-use Rattle.tca_meters.specs.AnyMeters.{any_rule}
+use Rattle.tca_meters.specs.Packets.{Rule, Packet, coloured}
+use Rattle.tca_meters.specs.Termed.{TermedMeter, termed_rule}
 use Rattle.tca_meters.proofs.Coloured.{map-coloured}
 use Rattle.tca_log.specs.Disputes.{undisputed}
 use Rattle.tca_accounts.specs.Plans.{AccountPlan, PlannedAccount, account_of}
@@ -120,9 +119,9 @@ module _ (plan : AccountPlan) where
   pub none_begun : (rs : List Running) → rs ≡ [] → AreBegun plan 0 rs
   none_begun rs is = record { count = ap length is; each = λ k a r reports h. absurd (omega arith); times = λ k r h. absurd (omega arith) }
 
-  pub begun_more : (n : ℕ) (rs : List Running) (meter : AnyMeter) (other : Colour) (new : Running) → AreBegun plan n rs → n < length plan.accounts
+  pub begun_more : (n : ℕ) (rs : List Running) (meter : TermedMeter) (other : Colour) (new : Running) → AreBegun plan n rs → n < length plan.accounts
       → slice_get (map (λ a. a.meter) plan.accounts) n ≡ Some meter → slice_get (map (λ a. a.other) plan.accounts) n ≡ Some other
-      → ((period : ℕ) (reports : List PacketReport) → IsRunning period (coloured_by (any_rule meter) other reports) reports new) → new.metered.time ≡ 0
+      → ((period : ℕ) (reports : List PacketReport) → IsRunning period (coloured_by (termed_rule meter) other reports) reports new) → new.metered.time ≡ 0
       → AreBegun plan (n + 1) (rs ++ new ∷ [])
   begun_more n rs meter other new b inside meter-is other-is running time = record {
     count = length_push rs new ∙ ap (λ m. m + 1) b.count;
@@ -171,9 +170,9 @@ module _ (plan : AccountPlan) where
         let account = get_or plan.accounts n a in
         let run = get_or rs n r in
         let mine = owned plan n all in
-        let one = coloured_length (any_rule account.meter) (packet_of account.other) (any_rule account.meter).opening 0 mine in
+        let one = coloured_length (termed_rule account.meter) (packet_of account.other) (termed_rule account.meter).opening 0 mine in
         let two = filter_few (λ q. is_number n (account_of plan q)) all in
-        few_of (any_rule run.meter) run.other plan.period (coloured_in account mine) run.metered run.ended.items run.current (x ∷ owned plan n rest) (omega (arith, one, two)) (its_next n a r is h)
+        few_of (termed_rule run.meter) run.other plan.period (coloured_in account mine) run.metered run.ended.items run.current (x ∷ owned plan n rest) (omega (arith, one, two)) (its_next n a r is h)
 
     -- that account had it, and the others are as they were
     pub had_next : (n : ℕ) (old new : Running) → account_of plan x ≡ Some n → n < length plan.accounts
@@ -207,7 +206,7 @@ module _ (plan : AccountPlan) where
         let inside : k < length plan.accounts = omega (arith, m.count) in
         let a = some_account plan.accounts k inside in
         let at = get_or rs k r in
-        spans_rise (any_rule at.meter) at.other plan.period (coloured_in (get_or plan.accounts k a) (owned plan k (undisputed reports))) at.metered at.ended.items at.current [] (m.each k a r inside))
+        spans_rise (termed_rule at.meter) at.other plan.period (coloured_in (get_or plan.accounts k a) (owned plan k (undisputed reports))) at.metered at.ended.items at.current [] (m.each k a r inside))
 
     pub tallies_are : map tally_so_far rs ≡ map (λ a. tally_of plan.period (coloured_in a.1 (reports_of plan a.0 reports))) (enumerate_from 0 plan.accounts)
     tallies_are =
@@ -215,7 +214,7 @@ module _ (plan : AccountPlan) where
         let inside : k < length plan.accounts = omega (arith, m.count) in
         let at = get_or-enumerate_from 0 plan.accounts k a inside in
         let run = get_or rs k r in
-        rw (at, zero-add k) (tally_done (any_rule run.meter) run.other plan.period (coloured_in (get_or plan.accounts k a.1) (reports_of plan k reports)) run.metered run.ended.items run.current (m.each k a.1 r inside)))
+        rw (at, zero-add k) (tally_done (termed_rule run.meter) run.other plan.period (coloured_in (get_or plan.accounts k a.1) (reports_of plan k reports)) run.metered run.ended.items run.current (m.each k a.1 r inside)))
 
 -- how many of these reports no account owns
 abbrev pub none_in : AccountPlan → List PacketReport → ℕ

@@ -12,3 +12,5 @@ pub mod Memory
 pub mod AccountsTogether
 pub mod Proper
 pub mod Equal
+pub mod TermsOfValues
+pub mod TermBills

@@ -1,5 +1,5 @@
 -- No part of a document is short of memory.
-use Rattle.std.proofs.Common.{◌≢◌, ◌^◌, ◌-◌, ℕ, suc, pos, Bool, true, false, List, Option, Some, None, Result, Ok, Err, cond, codes}
+use Rattle.std.proofs.Common.{◌≢◌, ◌^◌, ◌+◌, ◌-◌, ℕ, suc, pos, Bool, true, false, List, Option, Some, None, Result, Ok, Err, cond, codes}
 use Rattle.std.specs.Result.{IfErr}
 use Rattle.std.specs.Str.{bytes_eq}
 use Rattle.toml.specs.Data.{Data, Items, Members, array, boolean, integer, item, no_items, string, table}
@@ -94,13 +94,31 @@ judged : (n : ℕ) (r : Result AnyMeter MeterFault) → Suffices (doc.judged n r
 judged n (Ok m) = tt
 judged n (Err e) = λ h. cc
 
-members : (d : Data) → Suffices (doc.members_of d)
-members (table ms) = tt
-members d = λ e. cc
+members : (k : Key) (d : Data) → Suffices (doc.members_of k d)
+members k (table ms) = tt
+members k d = λ e. cc
+
+terms_of : (d : Option Data) → Suffices (doc.terms_of d)
+terms_of None = tt
+terms_of (Some d) = items key.Term (Some d)
+
+kind_of : (ms : Members) → Suffices (doc.kind_in ms)
+kind_of ms = step (doc.text_of key.Meter (doc.at key.Meter ms)) doc.kind_named (text key.Meter _) kind_named
+
+term : (n last : ℕ) (d : Data) → Suffices (doc.term_in n last d)
+term n last d =
+    step (doc.members_of key.Term d) _ (members key.Term d) (λ ms. step (doc.kind_in ms) _ (kind_of ms) (λ k. step (doc.only_if _ fault.UnknownKey) _ (tested _ _ (λ e. cc)) (λ known. step (doc.whole_of key.From (last + 1) (2 ^ 48 - 1) (doc.at key.From ms)) _ (whole key.From (last + 1) (2 ^ 48 - 1) _) (λ from. step (doc.truth_or_false key.Aware (doc.at key.Aware ms)) _ (truth_or_false key.Aware _) (λ aware. step (doc.meter_in k aware ms) _ (meter k aware ms) (λ told. step (doc.judged n told) _ (judged n told) (λ m. tt)))))))
+
+terms : (n last : ℕ) (ds : Items) → Suffices (doc.terms_from n last ds)
+terms n last no_items = tt
+terms n last (item d ds) = step (doc.term_in n last d) _ (term n last d) (λ next. step (doc.terms_from n next.0 ds) _ (terms n next.0 ds) (λ others. tt))
+
+termed : (n : ℕ) (told : Result AnyMeter MeterFault) (ds : Items) → Suffices (doc.termed_in n told ds)
+termed n told ds = step (doc.judged n told) _ (judged n told) (λ first. step (doc.only_if _ fault.Limits) _ (tested _ _ (λ e. cc)) (λ few. step (doc.terms_from n 0 ds) _ (terms n 0 ds) (λ later. tt)))
 
 account : (n : ℕ) (d : Data) → Suffices (doc.account_in n d)
 account n d =
-    step (doc.members_of d) _ (members d) (λ ms. step (doc.kind_in ms) _ (step (doc.text_of key.Meter (doc.at key.Meter ms)) doc.kind_named (text key.Meter _) kind_named) (λ k. step (doc.only_if _ fault.UnknownKey) _ (tested _ _ (λ e. cc)) (λ known. step (doc.name_in ms) _ (name ms) (λ s. step (doc.truth_or_false key.Aware (doc.at key.Aware ms)) _ (truth_or_false key.Aware _) (λ aware. step (doc.other_of (doc.at key.Other ms)) _ (other (doc.at key.Other ms)) (λ colour. step (doc.meter_in k aware ms) _ (meter k aware ms) (λ told. step (doc.pairs_in ms) _ (listed ms) (λ pairs. step (doc.judged n told) _ (judged n told) (λ m. tt)))))))))
+    step (doc.members_of key.Account d) _ (members key.Account d) (λ ms. step (doc.kind_in ms) _ (kind_of ms) (λ k. step (doc.only_if _ fault.UnknownKey) _ (tested _ _ (λ e. cc)) (λ known. step (doc.name_in ms) _ (name ms) (λ s. step (doc.truth_or_false key.Aware (doc.at key.Aware ms)) _ (truth_or_false key.Aware _) (λ aware. step (doc.other_of (doc.at key.Other ms)) _ (other (doc.at key.Other ms)) (λ colour. step (doc.meter_in k aware ms) _ (meter k aware ms) (λ told. step (doc.pairs_in ms) _ (listed ms) (λ pairs. step (doc.terms_in ms) _ (terms_of (doc.at key.Term ms)) (λ ds. step (doc.termed_in n told ds) _ (termed n told ds) (λ m. tt))))))))))
 
 accounts : (n : ℕ) (ds : Items) → Suffices (doc.accounts_from n ds)
 accounts n no_items = tt

@@ -6,12 +6,12 @@ use Rattle.toml.specs.Data.{Data, Items, Members, item, no_items}
 use Rattle.tca_wire.specs.Results.{◌>>=◌}
 use Rattle.tca_accounts.specs.Plans.{PlannedAccount, is_name}
 use Rattle.tca_accounts.specs.declared.key.Key.TheVariants as key
-use Rattle.tca_accounts.specs.Documents.{account_in, accounts_from, at, count_items, has_only, items_of, judged, keys_of, kind_in, members_of, meter_in, name_in, only_if, other_of, pair_in, pairs_in, pairs_of, text_of, truth_or_false}
+use Rattle.tca_accounts.specs.Documents.{account_in, accounts_from, at, count_items, has_only, items_of, keys_of, kind_in, members_of, meter_in, name_in, only_if, other_of, pair_in, pairs_in, pairs_of, termed_in, terms_in, text_of, truth_or_false}
 use Rattle.tca_accounts.specs.declared.fault.PlanFault.TheVariants as fault
 use Rattle.tca_accounts.specs.declared.fault.PlanFault.{PlanFault}
 
 -- a step that went on
-went_on : {A B : Type 0} (first : Result A PlanFault) (next : A → Result B PlanFault) (b : B) → (first >>= next) ≡ Ok b → (a : A) × (first ≡ Ok a) × (next a ≡ Ok b)
+pub went_on : {A B : Type 0} (first : Result A PlanFault) (next : A → Result B PlanFault) (b : B) → (first >>= next) ≡ Ok b → (a : A) × (first ≡ Ok a) × (next a ≡ Ok b)
 went_on (Ok a) next b e = (a, refl, e)
 went_on (Err f) next b e = absurd cc
 
@@ -19,10 +19,10 @@ held : (b : Bool) (f : PlanFault) (u : Unit {0}) → only_if b f ≡ Ok u → b 
 held true f u e = refl
 held false f u e = absurd cc
 
-abbrev done : {A : Type 0} → A → Result A PlanFault
+abbrev pub done : {A : Type 0} → A → Result A PlanFault
 done a = Ok a
 
-same : {A : Type 0} {a b : A} → done a ≡ done b → a ≡ b
+pub same : {A : Type 0} {a b : A} → done a ≡ done b → a ≡ b
 same e = cc
 
 pub pairs_as_many : (ds : Items) (pairs : List (ℕ × ℕ)) → pairs_of ds ≡ Ok pairs → length pairs ≡ count_items ds
@@ -52,7 +52,7 @@ record IsProper (a : PlannedAccount) : Type 0 where
 
 account_told : (n : ℕ) (d : Data) (a : PlannedAccount) → account_in n d ≡ Ok a → IsProper a
 account_told n d a e =
-    let ms = went_on (members_of d) _ a e in
+    let ms = went_on (members_of key.Account d) _ a e in
     let kind = went_on (kind_in ms.0) _ a ms.2 in
     let known = went_on (only_if (has_only (keys_of kind.0) ms.0) fault.UnknownKey) _ a kind.2 in
     let name = went_on (name_in ms.0) _ a known.2 in
@@ -60,7 +60,8 @@ account_told n d a e =
     let other = went_on (other_of (at key.Other ms.0)) _ a aware.2 in
     let told = went_on (meter_in kind.0 aware.0 ms.0) _ a other.2 in
     let pairs = went_on (pairs_in ms.0) _ a told.2 in
-    let meter = went_on (judged n told.0) _ a pairs.2 in
+    let terms = went_on (terms_in ms.0) _ a pairs.2 in
+    let meter = went_on (termed_in n told.0 terms.0) _ a terms.2 in
     let is = same meter.2 in
     record {
       named = subst (λ (b : PlannedAccount). is_name b.name ≡ true) is (name_told ms.0 name.0 name.1);

@@ -7,12 +7,10 @@ use Rattle.std.proofs.lemmas.List.{append_assoc}
 use Rattle.tca_report.specs.report.Reports.{PacketReport}
 use Rattle.tca_meters.specs.declared.colour.Colour.{Colour}
 use Rattle.tca_meters.specs.Packets.{Rule, coloured}
-use Rattle.tca_meters.specs.AnyMeters.{any_rule}
-use Rattle.tca_accounts.specs.Sums.{packet_of, with_packet}
+use Rattle.tca_accounts.specs.Sums.{with_packet}
 use Rattle.tca_accounts.specs.Spans.{period_of}
-use Rattle.tca_accounts.specs.Metering.{IsRunning, Stands, answer_for, closed_by, metered_with, span_with}
+use Rattle.tca_accounts.specs.Metering.{Stands, answer_for, closed_by, metered_with, span_with}
 use Rattle.tca_accounts.specs.declared.metered.Metered.{Metered}
-use Rattle.tca_accounts.specs.declared.running.Running.{Running}
 use Rattle.tca_accounts.specs.declared.span.Span.{Span}
 use Rattle.tca_accounts.proofs.Counting.{sums_push}
 use Rattle.tca_accounts.proofs.Periods.{spans_push}

@@ -5,7 +5,7 @@ use Rattle.tca_report.specs.report.Reports.{PacketReport}
 use Rattle.tca_log.specs.Disputes.{undisputed, disputed}
 use Rattle.tca_meters.specs.declared.colour.Colour.{Colour}
 use Rattle.tca_meters.specs.Packets.{Rule, colours}
-use Rattle.tca_meters.specs.AnyMeters.{any_rule}
+use Rattle.tca_meters.specs.Termed.{termed_rule}
 use Rattle.tca_accounts.specs.Plans.{AccountPlan, PlannedAccount, account_of}
 use Rattle.tca_accounts.specs.Sums.{packet_of, sums_of}
 use Rattle.tca_accounts.specs.Spans.{spans_of}
@@ -31,7 +31,7 @@ coloured_by rule other rs = colours rule (packet_of other) rs
 
 -- and that the meter of an account gives them
 abbrev pub coloured_in : PlannedAccount → List PacketReport → List (PacketReport × Colour)
-coloured_in account rs = coloured_by (any_rule account.meter) account.other rs
+coloured_in account rs = coloured_by (termed_rule account.meter) account.other rs
 
 -- the sums of reports with their colours, in all and by period
 abbrev pub tally_of : ℕ → List (PacketReport × Colour) → Tally

@@ -1,5 +1,5 @@
 -- The plan that a TOML document is, or its first fault.
-use Rattle.std.specs.Prelude.{ℕ, ◌^◌, ◌-◌, suc, pos, Bool, true, false, ◌&&◌, List, [], ◌∷◌, length, Option, Some, None, Result, Ok, Err, codes, nat_le, if◌then◌else◌}
+use Rattle.std.specs.Prelude.{ℕ, ◌^◌, ◌+◌, ◌-◌, suc, pos, Bool, true, false, ◌&&◌, List, [], ◌∷◌, length, Option, Some, None, Result, Ok, Err, codes, nat_le, if◌then◌else◌}
 use Rattle.std.specs.List.{list_any}
 use Rattle.std.specs.Str.{bytes_eq}
 use Rattle.toml.specs.Data.{Data, Items, Members, array, boolean, get_member, integer, item, member, no_items, no_members, string, table}
@@ -13,6 +13,7 @@ use Rattle.tca_meters.specs.MeterSpecs.{as_any}
 use Rattle.tca_meters.specs.SrTcm.{single_rate}
 use Rattle.tca_meters.specs.TrTcm.{peak_rate}
 use Rattle.tca_meters.specs.Rfc4115.{excess_rate}
+use Rattle.tca_meters.specs.Termed.{TermedMeter, most_terms}
 use Rattle.tca_accounts.specs.Plans.{AccountPlan, PlannedAccount, all_pairs, are_distinct, is_name, most_pairs}
 use Rattle.tca_accounts.specs.declared.key.Key.{Key}
 use Rattle.tca_accounts.specs.declared.key.Key.TheVariants as key
@@ -42,6 +43,8 @@ key_name key.Pir = codes "pir"
 key_name key.Pbs = codes "pbs"
 key_name key.Eir = codes "eir"
 key_name key.Keys = codes "keys"
+key_name key.Term = codes "term"
+key_name key.From = codes "from"
 
 -- what a table has at a key
 abbrev pub at : Key → Members → Option Data
@@ -115,9 +118,15 @@ other_of (Some d) = text_of key.Other (Some d) >>= colour_named
 
 -- the keys of an account with a meter of this kind
 abbrev pub keys_of : Kind → List Key
-keys_of kind.SrTcm = key.Meter ∷ key.Name ∷ key.Aware ∷ key.Other ∷ key.Cir ∷ key.Cbs ∷ key.Ebs ∷ key.Keys ∷ []
-keys_of kind.TrTcm = key.Meter ∷ key.Name ∷ key.Aware ∷ key.Other ∷ key.Cir ∷ key.Cbs ∷ key.Pir ∷ key.Pbs ∷ key.Keys ∷ []
-keys_of kind.Rfc4115 = key.Meter ∷ key.Name ∷ key.Aware ∷ key.Other ∷ key.ExactFit ∷ key.Cir ∷ key.Cbs ∷ key.Ebs ∷ key.Eir ∷ key.Keys ∷ []
+keys_of kind.SrTcm = key.Meter ∷ key.Name ∷ key.Aware ∷ key.Other ∷ key.Cir ∷ key.Cbs ∷ key.Ebs ∷ key.Keys ∷ key.Term ∷ []
+keys_of kind.TrTcm = key.Meter ∷ key.Name ∷ key.Aware ∷ key.Other ∷ key.Cir ∷ key.Cbs ∷ key.Pir ∷ key.Pbs ∷ key.Keys ∷ key.Term ∷ []
+keys_of kind.Rfc4115 = key.Meter ∷ key.Name ∷ key.Aware ∷ key.Other ∷ key.ExactFit ∷ key.Cir ∷ key.Cbs ∷ key.Ebs ∷ key.Eir ∷ key.Keys ∷ key.Term ∷ []
+
+-- the keys of a term with a meter of this kind
+abbrev pub term_keys_of : Kind → List Key
+term_keys_of kind.SrTcm = key.Meter ∷ key.From ∷ key.Aware ∷ key.Cir ∷ key.Cbs ∷ key.Ebs ∷ []
+term_keys_of kind.TrTcm = key.Meter ∷ key.From ∷ key.Aware ∷ key.Cir ∷ key.Cbs ∷ key.Pir ∷ key.Pbs ∷ []
+term_keys_of kind.Rfc4115 = key.Meter ∷ key.From ∷ key.Aware ∷ key.ExactFit ∷ key.Cir ∷ key.Cbs ∷ key.Ebs ∷ key.Eir ∷ []
 
 -- a rate or a burst size: an integer from 0 up
 abbrev pub number_in : Key → Members → Result ℕ PlanFault
@@ -188,20 +197,62 @@ pairs_in ms = do
   tell ← only_if (nat_le 1 (count_items items)) (fault.Wrong key.Keys)
   pairs_of items
 
--- the meter of account n
+-- the meter of account n, or of one of its terms
 abbrev pub judged : ℕ → Result AnyMeter MeterFault → Result AnyMeter PlanFault
 judged n (Ok meter) = Ok meter
 judged n (Err e) = Err (fault.Meter n e)
 
--- the members of a table
-abbrev pub members_of : Data → Result Members PlanFault
-members_of (table ms) = Ok ms
-members_of d = Err (fault.Wrong key.Account)
+-- the members of a table, which stands in the array at a key
+abbrev pub members_of : Key → Data → Result Members PlanFault
+members_of k (table ms) = Ok ms
+members_of k d = Err (fault.Wrong k)
+
+-- an account's terms, none where they are left out
+abbrev pub terms_of : Option Data → Result Items PlanFault
+terms_of None = Ok no_items
+terms_of (Some d) = items_of key.Term (Some d)
+
+-- the terms in a table
+abbrev pub terms_in : Members → Result Items PlanFault
+terms_in ms = terms_of (at key.Term ms)
+
+-- a term of account n after one that starts at `last`: its start, and its meter
+abbrev pub term_in : ℕ → ℕ → Data → Result (ℕ × AnyMeter) PlanFault
+term_in n last value = do
+  ms ← members_of key.Term value
+  kind ← kind_in ms
+  tell ← only_if (has_only (term_keys_of kind) ms) fault.UnknownKey
+  from ← whole_of key.From (last + 1) (time_end - 1) (at key.From ms)
+  aware ← truth_or_false key.Aware (at key.Aware ms)
+  told ← meter_in kind aware ms
+  meter ← judged n told
+  Ok (from, meter)
+
+-- terms, one after the other
+abbrev pub terms_from : ℕ → ℕ → Items → Result (List (ℕ × AnyMeter)) PlanFault
+terms_from n last no_items = Ok []
+terms_from n last (item d ds) = do
+  next ← term_in n last d
+  others ← terms_from n next.0 ds
+  Ok (next ∷ others)
+
+-- a meter with terms: at most 8 of them
+abbrev pub with_terms : ℕ → AnyMeter → Items → Result TermedMeter PlanFault
+with_terms n first ds = do
+  tell ← only_if (nat_le (count_items ds) most_terms) fault.Limits
+  later ← terms_from n 0 ds
+  Ok (record { first = first; later = later })
+
+-- the meter of account n, and then its terms
+abbrev pub termed_in : ℕ → Result AnyMeter MeterFault → Items → Result TermedMeter PlanFault
+termed_in n told ds = do
+  first ← judged n told
+  with_terms n first ds
 
 -- account n
 abbrev pub account_in : ℕ → Data → Result PlannedAccount PlanFault
 account_in n value = do
-  ms ← members_of value
+  ms ← members_of key.Account value
   kind ← kind_in ms
   tell ← only_if (has_only (keys_of kind) ms) fault.UnknownKey
   name ← name_in ms
@@ -209,7 +260,8 @@ account_in n value = do
   other ← other_of (at key.Other ms)
   told ← meter_in kind aware ms
   pairs ← pairs_in ms
-  meter ← judged n told
+  terms ← terms_in ms
+  meter ← termed_in n told terms
   Ok (record { name = name; meter = meter; other = other; pairs = pairs })
 
 -- the accounts from account n on

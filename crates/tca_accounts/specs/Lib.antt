@@ -3,6 +3,7 @@ pub mod Owners
 pub mod Sums
 pub mod Spans
 pub mod Bills
+pub mod TermBills
 pub mod Metering
 pub mod Faults
 pub mod Documents

@@ -6,7 +6,7 @@ use Rattle.tca_report.specs.report.Reports.{PacketReport}
 use Rattle.tca_meters.specs.declared.colour.Colour.{Colour}
 use Rattle.tca_meters.specs.Colours.{colour_number}
 use Rattle.tca_meters.specs.Packets.{Rule, answer, coloured}
-use Rattle.tca_meters.specs.AnyMeters.{any_rule}
+use Rattle.tca_meters.specs.Termed.{termed_rule}
 use Rattle.tca_accounts.specs.Plans.{AccountPlan, PlannedAccount, account_of}
 use Rattle.tca_accounts.specs.Sums.{ColourSums, packet_of, sums_of, with_packet}
 use Rattle.tca_accounts.specs.Spans.{period_of, spans_of}
@@ -81,7 +81,7 @@ pub record Stands {S : Type 0} (rule : Rule S) (other : Colour) (period : ℕ) (
 
 -- where an account stands before its later reports
 abbrev pub IsRunning : ℕ → List (PacketReport × Colour) → List PacketReport → Running → Type 0
-IsRunning period whole later r = Stands (any_rule r.meter) r.other period whole later r.metered r.ended.items r.current
+IsRunning period whole later r = Stands (termed_rule r.meter) r.other period whole later r.metered r.ended.items r.current
 
 -- the reports among these that an account owns, in order
 abbrev pub owned : AccountPlan → ℕ → List PacketReport → List PacketReport

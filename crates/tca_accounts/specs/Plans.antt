@@ -1,16 +1,16 @@
 -- What a plan is: the length of a period, and accounts, each with a meter and the traffic that it owns.
-use Rattle.std.specs.Prelude.{◌≡◌, ℕ, ◌<◌, ◌≤◌, ◌^◌, ◌==◌, Bool, true, ◌&&◌, not, List, [], ◌∷◌, length, nat_le, Option}
+use Rattle.std.specs.Prelude.{◌≡◌, ℕ, ◌<◌, ◌≤◌, ◌==◌, Bool, true, ◌&&◌, not, List, [], ◌∷◌, length, nat_le, Option}
 use Rattle.std.specs.List.{AllByRecursion, list_all, list_any, flat_map, position_from}
 use Rattle.std.specs.Str.{bytes_eq}
-use Rattle.tca_meters.specs.declared.any_meter.AnyMeter.{AnyMeter}
+use Rattle.tca_meters.specs.Termed.{TermedMeter}
 use Rattle.tca_meters.specs.declared.colour.Colour.{Colour}
 use Rattle.tca_report.specs.report.Reports.{PacketReport, time_end}
 
--- an account: its name, its meter, the colour that a code point without a colour of its own has, and the pairs of an
+-- an account: its name, its meter with its terms, the colour that a code point without a colour of its own has, and the pairs of an
 -- observation domain and an interface whose reports it owns
 pub record PlannedAccount : Type 0 where
   pub name : List ℕ
-  pub meter : AnyMeter
+  pub meter : TermedMeter
   pub other : Colour
   pub pairs : List (ℕ × ℕ)
 

@@ -1,6 +1,6 @@
 -- What the parts of a TOML document are to those who read them. No public contract cites this: it serves private functions and
 -- their proofs alone.
-use Rattle.std.specs.Prelude.{ℕ, Bool, true, not, ◌&&◌, ◌||◌, List, [], ◌∷◌, length, Option, Result, Ok, Err, option_map, nat_le}
+use Rattle.std.specs.Prelude.{ℕ, Bool, true, not, ◌&&◌, ◌||◌, List, [], ◌∷◌, length, take, Option, Result, Ok, Err, option_map, nat_le}
 use Rattle.std.specs.List.{list_any}
 use Rattle.std.specs.Str.{bytes_eq}
 use Rattle.std.specs.Borrow.{Bor}
@@ -8,6 +8,7 @@ use Rattle.toml.specs.Data.{Data, Items}
 use Rattle.toml.specs.View.{items_view, view}
 use Rattle.toml.specs.declared.value.Value.{Value}
 use Rattle.tca_wire.specs.Results.{◌>>=◌}
+use Rattle.tca_meters.specs.declared.any_meter.AnyMeter.{AnyMeter}
 use Rattle.tca_accounts.specs.Plans.{AccountPlan, PlannedAccount, all_differ, all_pairs, are_distinct, most_pairs, owns, same_pair}
 use Rattle.tca_accounts.specs.Documents.{account_in, accounts_from, only_if, pairs_of, plan_with}
 use Rattle.tca_accounts.specs.declared.draft.Draft.{Draft}
@@ -44,6 +45,10 @@ drafted d = do
 -- the account that was read, once it becomes one
 abbrev pub account_read : Result Draft PlanFault → Result PlannedAccount PlanFault
 account_read draft = draft >>= drafted
+
+-- so many slots, once terms were read into them
+abbrev pub read_into : ℕ → List (ℕ × AnyMeter) → Result Unit PlanFault → Result (List (ℕ × AnyMeter)) PlanFault
+read_into n slots read = read >>= λ told. Ok (take n slots)
 
 -- the plan of the accounts that these elements are
 abbrev pub plan_from : ℕ → Items → Result AccountPlan PlanFault

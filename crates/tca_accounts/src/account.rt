@@ -6,13 +6,13 @@ ghost use Rattle.tca_accounts.specs.Plans.{all_differ, all_pairs, most_pairs};
 
 use std::alloc::{AllocError, Global};
 use std::marker::Model;
-use tca_meters::{AnyMeter, Colour};
+use tca_meters::{Colour, Termed};
 
-/// An account: its meter, and the traffic that it owns.
+/// An account: its meter with its terms, and the traffic that it owns.
 #[derive(Drop)]
 pub(crate) struct Account {
     pub(crate) name: String,
-    pub(crate) meter: AnyMeter,
+    pub(crate) meter: Termed,
     /// The colour of a code point that has none of its own.
     pub(crate) other: Colour,
     /// The observation domains and interfaces whose reports it owns.

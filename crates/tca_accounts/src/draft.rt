@@ -14,15 +14,16 @@ use crate::fault::PlanFault;
 use crate::key::Key;
 use crate::meters::{kind, known_keys, meter};
 use crate::pairs::{judged, pairs};
+use crate::terms::{listed, termed};
 use std::alloc::Global;
-use tca_meters::{AnyMeter, Colour};
+use tca_meters::{Colour, Termed};
 use toml::{Table, Value};
 
 /// An account whose name and pairs are still those of the document, so that it takes no memory.
 #[derive(Clone, Copy)]
 pub(crate) struct Draft<'a> {
     pub(crate) name: &'a str,
-    meter: AnyMeter,
+    meter: Termed,
     other: Colour,
     /// The values of its pairs.
     pub(crate) pairs: &'a [Value],
@@ -86,7 +87,7 @@ fn other(value: Option<&Value>) -> Result<Colour, PlanFault>
 
 /// The account, counted from 0, that a value is: a table with the keys of an account with its kind of meter.
 /// The first fault where it is none: not a table, its kind of meter, a key that isn't known, the other keys in
-/// their order, the meter.
+/// their order, the meter, and then its terms.
 pub(crate) fn read_account(account: u32, value: &Value) -> Result<Draft<'_>, PlanFault>
     ensures exact { account_read result ≡ account_in account (view value.now) }
     ensures ok { IfOk result (λ d. IsOk (account_in account (view value.now))) }
@@ -103,15 +104,14 @@ pub(crate) fn read_account(account: u32, value: &Value) -> Result<Draft<'_>, Pla
     let other = other(at(table, Key::Other))?;
     let told = meter(kind, aware, table)?;
     let pairs = judged(table)?;
-    match told {
-        Ok(meter) => Ok(Draft {
-            name,
-            meter,
-            other,
-            pairs,
-        }),
-        Err(fault) => Err(PlanFault::Meter { account, fault }),
-    }
+    let terms = listed(table)?;
+    let meter = termed(account, told, terms)?;
+    Ok(Draft {
+        name,
+        meter,
+        other,
+        pairs,
+    })
 }
 
 impl Draft<'_> {

@@ -8,8 +8,10 @@ pub enum Key {
     Period,
     /// The accounts.
     Account,
-    /// The kind of an account's meter.
+    /// The kind of the meter of an account or a term.
     Meter,
+    /// The start of a term, in milliseconds.
+    From,
     /// An account's name.
     Name,
     /// Whether precolours count.
@@ -32,6 +34,8 @@ pub enum Key {
     Eir,
     /// The pairs that an account owns.
     Keys,
+    /// The terms of an account's meter.
+    Term,
 }
 
 impl Key {
@@ -46,6 +50,7 @@ impl Key {
             Key::Period => "period",
             Key::Account => "account",
             Key::Meter => "meter",
+            Key::From => "from",
             Key::Name => "name",
             Key::Aware => "aware",
             Key::Other => "other",
@@ -57,6 +62,7 @@ impl Key {
             Key::Pbs => "pbs",
             Key::Eir => "eir",
             Key::Keys => "keys",
+            Key::Term => "term",
         }
     }
 }

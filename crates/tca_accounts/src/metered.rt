@@ -3,7 +3,7 @@ ghost use Rattle.std.specs.Prelude.{◌≡◌, ◌≤◌};
 ghost use Rattle.tca_accounts.specs.Metering.{HasRoom, answer_for, metered_none, metered_with};
 
 use crate::sums::Sums;
-use tca_meters::{Colour, Meter, meter_packet, precolour};
+use tca_meters::{Colour, Meter, precolour};
 use tca_report::Report;
 
 /// Where the metering of a list of reports stands.
@@ -43,15 +43,13 @@ pub fn meter_next<M: Meter>(
 {
     let content = report.content();
     let pre = precolour(content.dscp, other);
-    let (colour, state) = meter_packet(
-        meter,
-        metered.state,
+    let colour = meter.step(
+        &mut metered.state,
         metered.time,
         content.time,
         content.octets,
         pre,
     );
-    metered.state = state;
     metered.time = content.time;
     metered.total.count(colour, content.octets);
     colour

@@ -1,7 +1,7 @@
 //! The kind and the numbers of an account's meter.
 ghost use Rattle.std.specs.Prelude.{◌≡◌};
 ghost use Rattle.toml.specs.View.{table_view};
-ghost use Rattle.tca_accounts.specs.Documents.{excess_rate_in, keys_of, kind_in, kind_named, meter_in, number_in, peak_rate_in, single_rate_in};
+ghost use Rattle.tca_accounts.specs.Documents.{excess_rate_in, keys_of, kind_in, kind_named, meter_in, number_in, peak_rate_in, single_rate_in, term_keys_of};
 
 use crate::document::{at, text, truth, whole};
 use crate::fault::PlanFault;
@@ -46,6 +46,7 @@ pub(crate) fn known_keys(kind: Kind) -> &'static [Key]
             Key::Cbs,
             Key::Ebs,
             Key::Keys,
+            Key::Term,
         ],
         Kind::TrTcm => &[
             Key::Meter,
@@ -57,6 +58,7 @@ pub(crate) fn known_keys(kind: Kind) -> &'static [Key]
             Key::Pir,
             Key::Pbs,
             Key::Keys,
+            Key::Term,
         ],
         Kind::Rfc4115 => &[
             Key::Meter,
@@ -69,6 +71,42 @@ pub(crate) fn known_keys(kind: Kind) -> &'static [Key]
             Key::Ebs,
             Key::Eir,
             Key::Keys,
+            Key::Term,
+        ],
+    }
+}
+
+/// The keys that a term with a meter of this kind may have.
+pub(crate) fn known_term_keys(kind: Kind) -> &'static [Key]
+    ensures { result.now ≡ term_keys_of kind }
+{
+    match kind {
+        Kind::SrTcm => &[
+            Key::Meter,
+            Key::From,
+            Key::Aware,
+            Key::Cir,
+            Key::Cbs,
+            Key::Ebs,
+        ],
+        Kind::TrTcm => &[
+            Key::Meter,
+            Key::From,
+            Key::Aware,
+            Key::Cir,
+            Key::Cbs,
+            Key::Pir,
+            Key::Pbs,
+        ],
+        Kind::Rfc4115 => &[
+            Key::Meter,
+            Key::From,
+            Key::Aware,
+            Key::ExactFit,
+            Key::Cir,
+            Key::Cbs,
+            Key::Ebs,
+            Key::Eir,
         ],
     }
 }

@@ -5,6 +5,7 @@ ghost use Rattle.tca_wire.specs.Results.{Gives};
 ghost use Rattle.tca_accounts.specs.Plans.{IsPlan, PlannedAccount, account_of, is_name, owns, pair_of};
 ghost use Rattle.tca_accounts.specs.Documents.{plan_with};
 ghost use Rattle.tca_report.specs.report.Reports.{time_end};
+ghost use Rattle.tca_meters.specs.Termed.{IsTermed};
 ghost use Rattle.tca_accounts.specs.declared.fault.PlanFault.TheVariants.{Memory};
 
 use crate::account::{Account, are_few, copied, names_differ};
@@ -13,7 +14,7 @@ use crate::owners::{Owners, owners_of};
 use crate::pair::Pair;
 use std::alloc::{AllocError, Global};
 use std::marker::Model;
-use tca_meters::{AnyMeter, Colour};
+use tca_meters::{Colour, Termed};
 use tca_report::Report;
 
 /// The length of a period, and the accounts with their meters and the pairs of an observation domain and an
@@ -89,12 +90,15 @@ impl Plan {
         &self.accounts[account as usize].name
     }
 
-    /// The meter of an account.
-    pub fn meter(&self, account: u32) -> AnyMeter
+    /// The meter of an account, with its terms. The terms ascend, as [`bills_by_term`](crate::bills_by_term) asks.
+    pub fn meter(&self, account: u32) -> Termed
         requires { account < length self.now.accounts }
-        ensures { slice_get (map (λ a. a.meter) self.now.accounts) account ≡ Some result }
+        ensures value { slice_get (map (λ a. a.meter) self.now.accounts) account ≡ Some result }
+        ensures range { IsTermed result }
     {
-        self.accounts[account as usize].meter
+        let meter = self.accounts[account as usize].meter;
+        let _terms = meter.terms();
+        meter
     }
 
     /// The colour that a code point without a colour of its own has in an account.

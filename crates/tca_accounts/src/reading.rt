@@ -16,13 +16,14 @@ use crate::key::Key;
 use crate::plan::Plan;
 use crate::together::check;
 use std::alloc::Global;
+use tca_report::TIME_END;
 use toml::{Table, Value};
 
 /// The most accounts of a plan.
 const MOST_ACCOUNTS: usize = 256;
 
 /// The greatest length of a period, in milliseconds.
-const LONGEST_PERIOD: u64 = 0xFFFF_FFFF_FFFF;
+const LONGEST_PERIOD: u64 = TIME_END - 1;
 
 // The accounts that values are.
 fn accounts(alloc: Global, values: &[Value]) -> Result<Vec<Account>, PlanFault>
@@ -83,7 +84,15 @@ impl Plan {
     /// - `cir` and `cbs`, then `ebs` for RFC 2697, `pir` and `pbs` for RFC 2698, `ebs` and `eir` for RFC 4115:
     ///   rates in octets a second and burst sizes in octets, as integers from 0 up;
     /// - `keys`: an array of one or more pairs of an observation domain and an interface, each an array of two
-    ///   integers from 0 to 4,294,967,295.
+    ///   integers from 0 to 4,294,967,295;
+    /// - `term`: an array of at most 8 tables, none where it is left out. Each is a term: from its first millisecond on
+    ///   another meter takes the account's reports, and both its buckets are full then.
+    ///
+    /// A term has
+    ///
+    /// - `from`: the millisecond from 1970 UTC at which it starts, from 1 to 2^48-1 and above that of the term before;
+    /// - `meter`, `aware`, `exact_fit` and the rates and sizes, as an account with that meter has them. `aware` is false
+    ///   where it is left out, whatever it is in the account.
     ///
     /// The first fault is answered: `Syntax` for a text that isn't UTF-8 or no document, and then what
     /// [`Plan::from_table`] answers for the document. `Memory` is answered besides where memory for the document
@@ -106,9 +115,12 @@ impl Plan {
     /// The first fault is answered: `UnknownKey` for a further key at the top; `Missing` or `Wrong` for `period`,
     /// then for `account`; `Limits` for no account or more than 256. Then account by account: `Wrong` of `account`
     /// for one that is no table; `Missing` or `Wrong` for `meter`; `UnknownKey` for a key that its kind of meter
-    /// doesn't have; `Missing` or `Wrong` for the other keys in their order; `Meter` where there is no meter of
-    /// these parameters. Then `Limits` for more than 4,096 pairs in all, and `KeyTwice` for a pair or a name that
-    /// stands twice. `Memory` is answered only where the document is a plan.
+    /// doesn't have; `Missing` or `Wrong` for the other keys in their order, `term` last; `Meter` where there is no
+    /// meter of these parameters; `Limits` for more than 8 terms. And before the next account term by term: `Wrong` of
+    /// `term` for one that is no table; `Missing` or `Wrong` for `meter`; `UnknownKey` for a key that a term with its
+    /// kind of meter doesn't have; `Missing` or `Wrong` for `from`, then for the other keys in their order; `Meter`.
+    /// Then `Limits` for more than 4,096 pairs in all, and `KeyTwice` for a pair or a name that stands twice. `Memory`
+    /// is answered only where the document is a plan.
     pub fn from_table(alloc: Global, table: &Table) -> Result<Plan, PlanFault>
         ensures exact { Gives Memory (λ p. p) result (plan_of (table_view table.now)) }
         ensures last { IfErr result (λ e. e ≡ PlanFault.Memory → IsOk (plan_of (table_view table.now))) }

@@ -2,7 +2,7 @@
 ghost use Rattle.std.specs.Prelude.{◌≡◌, ℕ, ◌<◌, ◌≤◌, List, ◌∷◌, IfOk, OnOk, IfSome, Some};
 ghost use Rattle.tca_report.specs.report.Reports.{PacketReport, most_octets};
 ghost use Rattle.tca_meters.specs.declared.colour.Colour.{Colour};
-ghost use Rattle.tca_meters.specs.AnyMeters.{any_rule};
+ghost use Rattle.tca_meters.specs.Termed.{termed_rule};
 ghost use Rattle.tca_accounts.specs.Bills.{coloured_by};
 ghost use Rattle.tca_accounts.specs.Sums.{with_packet};
 ghost use Rattle.tca_accounts.specs.Spans.{Ascend};
@@ -14,17 +14,17 @@ use crate::span::{Span, Spans};
 use crate::sums::Sums;
 use crate::tally::Tally;
 use std::alloc::{AllocError, Global};
-use tca_meters::{AnyMeter, Colour, Meter};
+use tca_meters::{Colour, Meter, Termed};
 use tca_report::Report;
 
 /// An account whose reports are being metered.
 #[derive(Drop)]
 pub(crate) struct Running {
-    meter: AnyMeter,
+    meter: Termed,
     /// The colour of a code point that has none of its own.
     other: Colour,
     /// The meter's state, the time and the sums after the last report.
-    metered: Metered<<AnyMeter as Meter>::State>,
+    metered: Metered<<Termed as Meter>::State>,
     /// The spans of the periods that ended.
     ended: Vec<Span>,
     /// The span of the period of the last report.
@@ -33,9 +33,9 @@ pub(crate) struct Running {
 
 impl Running {
     /// An account that has had no report. It takes no memory.
-    pub(crate) fn new(alloc: Global, meter: AnyMeter, other: Colour) -> Running
+    pub(crate) fn new(alloc: Global, meter: Termed, other: Colour) -> Running
         ensures time { result.metered.time ≡ 0 }
-        ensures running { (period : ℕ) (reports : List PacketReport) → IsRunning period (coloured_by (any_rule meter) other reports) reports result }
+        ensures running { (period : ℕ) (reports : List PacketReport) → IsRunning period (coloured_by (termed_rule meter) other reports) reports result }
     {
         Running {
             meter,

@@ -6,9 +6,8 @@ use Rattle.std.proofs.lemmas.Bool.{cases_eq, cases_lt, eq-eqb, ne_eqb}
 use Rattle.std.proofs.lemmas.List.{length_push, get_or_push, get_or_append_left, get_or-set_same, get_or-set_other, length-set}
 use Rattle.std.proofs.lemmas.List.FromFn.{get_or-enumerate_from, length-enumerate_from}
 use Rattle.tca_report.specs.report.Reports.{PacketReport}
-use Rattle.tca_meters.specs.declared.any_meter.AnyMeter.{AnyMeter}
 use Rattle.tca_meters.specs.declared.colour.Colour.{Colour}
-use Rattle.tca_meters.specs.AnyMeters.{any_rule}
+use Rattle.tca_meters.specs.Termed.{TermedMeter, termed_rule}
 use Rattle.tca_join.specs.Sets.{has}
 use Rattle.tca_report.specs.report.Identities.{identity_cmp, identity_of}
 use Rattle.tca_report.specs.declared.report.Identity.{Identity}
@@ -38,9 +37,9 @@ module _ (plan : AccountPlan) where
   pub none_begun : (rs : List Account) → rs ≡ [] → AreBegun plan 0 rs
   none_begun rs is = record { count = ap length is; each = λ k a r reports h. absurd (omega arith); times = λ k r h. absurd (omega arith) }
 
-  pub begun_more : (n : ℕ) (rs : List Account) (meter : AnyMeter) (other : Colour) (new : Account) → AreBegun plan n rs → n < length plan.accounts
+  pub begun_more : (n : ℕ) (rs : List Account) (meter : TermedMeter) (other : Colour) (new : Account) → AreBegun plan n rs → n < length plan.accounts
       → slice_get (map (λ a. a.meter) plan.accounts) n ≡ Some meter → slice_get (map (λ a. a.other) plan.accounts) n ≡ Some other
-      → ((period : ℕ) (reports : List PacketReport) → IsMetering period (coloured_by (any_rule meter) other reports) reports new) → new.time ≡ 0
+      → ((period : ℕ) (reports : List PacketReport) → IsMetering period (coloured_by (termed_rule meter) other reports) reports new) → new.time ≡ 0
       → AreBegun plan (n + 1) (rs ++ new ∷ [])
   begun_more n rs meter other new b inside meter-is other-is running time = record {
     count = length_push rs new ∙ ap (λ m. m + 1) b.count;
@@ -89,9 +88,9 @@ module _ (plan : AccountPlan) where
         let account = get_or plan.accounts n a in
         let run = get_or rs n r in
         let mine = owned plan n all in
-        let one = coloured_length (any_rule account.meter) (packet_of account.other) (any_rule account.meter).opening 0 mine in
+        let one = coloured_length (termed_rule account.meter) (packet_of account.other) (termed_rule account.meter).opening 0 mine in
         let two = filter_few (λ q. is_number n (account_of plan q)) all in
-        few_of (any_rule run.meter) run.other plan.period (coloured_in account mine) (standing run) run.ended.items run.current (x ∷ owned plan n rest) (omega (arith, one, two)) (its_next n a r is h)
+        few_of (termed_rule run.meter) run.other plan.period (coloured_in account mine) (standing run) run.ended.items run.current (x ∷ owned plan n rest) (omega (arith, one, two)) (its_next n a r is h)
 
     -- that account had it, and the others are as they were
     pub had_next : (n : ℕ) (old new : Account) → account_of plan x ≡ Some n → n < length plan.accounts
@@ -125,7 +124,7 @@ module _ (plan : AccountPlan) where
         let inside : k < length plan.accounts = omega (arith, m.count) in
         let a = some_account plan.accounts k inside in
         let at = get_or rs k r in
-        spans_rise (any_rule at.meter) at.other plan.period (coloured_in (get_or plan.accounts k a) (owned plan k (undisputed reports))) (standing at) at.ended.items at.current [] (m.each k a r inside))
+        spans_rise (termed_rule at.meter) at.other plan.period (coloured_in (get_or plan.accounts k a) (owned plan k (undisputed reports))) (standing at) at.ended.items at.current [] (m.each k a r inside))
 
     pub tallies_are : map tally_so_far rs ≡ map (λ a. tally_of plan.period (coloured_in a.1 (reports_of plan a.0 reports))) (enumerate_from 0 plan.accounts)
     tallies_are =
@@ -133,7 +132,7 @@ module _ (plan : AccountPlan) where
         let inside : k < length plan.accounts = omega (arith, m.count) in
         let at = get_or-enumerate_from 0 plan.accounts k a inside in
         let run = get_or rs k r in
-        rw (at, zero-add k) (tally_done (any_rule run.meter) run.other plan.period (coloured_in (get_or plan.accounts k a.1) (reports_of plan k reports)) (standing run) run.ended.items run.current (m.each k a.1 r inside)))
+        rw (at, zero-add k) (tally_done (termed_rule run.meter) run.other plan.period (coloured_in (get_or plan.accounts k a.1) (reports_of plan k reports)) (standing run) run.ended.items run.current (m.each k a.1 r inside)))
 
 -- the later reports that aren't disputed, by the next report
 module _ (disputes : List Identity) (rs : List PacketReport) (i : ℕ) (x : PacketReport) (h : i < length rs) (is : x ≡ get_or rs i x) where

@@ -3,3 +3,4 @@ pub mod Verdicts
 pub mod Bills
 pub mod Repeats
 pub mod Refusals
+pub mod TermsInTurn

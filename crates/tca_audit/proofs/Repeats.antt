@@ -3,8 +3,7 @@ use Rattle.std.proofs.Common.{◌≡◌, ◌≢◌, ℕ, zero, suc, ◌+◌, ◌
 use Rattle.std.specs.Prelude.{⊤, nat_lt, nat_eq, map, filter, is_ok}
 use Rattle.std.specs.List.{AllByRecursion, count_by, list_any}
 use Rattle.std.specs.List.Sorted.{IsBinarySearchResult, IsPermutation, IsSearchInRange, IsSorted, IsStrictlySortedBy}
-use Rattle.std.specs.Cmp.{unsigned_tied}
-use Rattle.std.specs.Ordering.{nat_cmp, eq_by_cmp, is_eq, is_lt, ordering_reverse}
+use Rattle.std.specs.Ordering.{eq_by_cmp, is_eq, is_lt, ordering_reverse}
 use Rattle.std.specs.declared.cmp.Ordering.TheVariants.{Less, Equal, Greater}
 use Rattle.std.proofs.lemmas.Bool.Decides.{nat_tests}
 use Rattle.std.proofs.lemmas.Bool.{lt-ltb, eqb-true, eqb-false, false≢true}
@@ -14,11 +13,11 @@ use Rattle.std.proofs.lemmas.List.Sorted.{sum_by-IsPermutation}
 use Rattle.tca_join.specs.Sets.{has}
 use Rattle.tca_join.proofs.Sets.{all_more}
 use Rattle.tca_report.specs.report.Reports.{PacketReport}
-use Rattle.tca_report.specs.report.Identities.{identity_cmp, identity_of}
+use Rattle.tca_report.specs.report.Identities.{identity_cmp, identity_of, identity_total}
 use Rattle.tca_report.specs.declared.report.Identity.{Identity}
-use Rattle.tca_report.proofs.lemmas.report.Identities.{identity_total, identity_exact}
+use Rattle.tca_report.proofs.lemmas.report.Identities.{identity_exact}
 use Rattle.tca_log.specs.Disputes.{contents, disputed, has_identity}
-use Rattle.tca_log.proofs.Contents.{disputed_is, has_identity_is, is_eq_then, tests_alike}
+use Rattle.tca_log.proofs.Contents.{disputed_is, tests_alike}
 use Rattle.tca_log.proofs.Filters.{alike}
 use Rattle.tca_join.proofs.Search.{found_at, gap_at, searchable}
 use Rattle.tca_audit.specs.Repeats.{begins_with, repeats}
@@ -191,8 +190,7 @@ times_of : (rs : List PacketReport) (i : Identity) → times (map identity_of rs
 unfolding contents
 times_of [] i = refl
 times_of (r ∷ rs) i =
-    ap (λ b. cond b 1 0 + times (map identity_of rs) i) (sym (has_identity_is i r))
-    ∙ elim (has_identity i r) as (λ b. cond b 1 0 + times (map identity_of rs) i ≡ length (cond b (r ∷ filter (has_identity i) rs) (filter (has_identity i) rs))) [
+    elim (has_identity i r) as (λ b. cond b 1 0 + times (map identity_of rs) i ≡ length (cond b (r ∷ filter (has_identity i) rs) (filter (has_identity i) rs))) [
       | true ↦ omega (arith, times_of rs i)
       | false ↦ omega (arith, times_of rs i)
     ]
@@ -209,13 +207,10 @@ repeats_are rs ids p sorted =
 pub drop_read : {X : Type 0} (xs : List X) (i : ℕ) (x : X) → i < length xs → x ≡ get_or xs i x → drop i xs ≡ x ∷ drop (i + 1) xs
 drop_read xs i x h is = drop_more xs i x h ∙ ap (λ y. y ∷ drop (i + 1) xs) (sym is)
 
-same_is : (i x : Identity) → (nat_eq i.domain x.domain && nat_eq i.place x.place) ≡ same i x
-same_is i x = sym (is_eq_then (nat_cmp i.domain x.domain) (nat_cmp i.place x.place) ∙ (λ j. unsigned_tied i.domain x.domain j && unsigned_tied i.place x.place j))
-
 module _ (xs : List Identity) (i : ℕ) (d : Identity) where
-  pub begins_at : (x : Identity) → i < length xs → (nat_eq x.domain (get_or xs i d).domain && nat_eq x.place (get_or xs i d).place) ≡ begins_with x (drop i xs)
+  pub begins_at : (x : Identity) → i < length xs → same x (get_or xs i d) ≡ begins_with x (drop i xs)
   unfolding begins_with
-  begins_at x h = same_is x (get_or xs i d) ∙ sym (ap (begins_with x) (drop_more xs i d h))
+  begins_at x h = sym (ap (begins_with x) (drop_more xs i d h))
 
   pub begins_past : (x : Identity) → length xs ≤ i → false ≡ begins_with x (drop i xs)
   unfolding begins_with

@@ -2,7 +2,7 @@
 use Rattle.std.specs.Prelude.{◌≡◌, ◌≢◌, ◌≤◌, ℕ, List, length, take, slice_get, IsUtf8, Ok, Err, ⊤}
 use Rattle.toml.specs.Parse.{parse_document}
 use Rattle.tca_report.specs.report.Reports.{PacketReport}
-use Rattle.tca_report.specs.export.Spelling.{IsExportable, export}
+use Rattle.tca_report.specs.export.Spelling.{IsExport}
 use Rattle.tca_report.specs.export.FirstFaults.{IsFaultyExport}
 use Rattle.tca_accounts.specs.Plans.{AccountPlan}
 use Rattle.tca_accounts.specs.Documents.{plan_in}
@@ -32,15 +32,10 @@ IsVerdict text statement (Differs at) = FirstDiffer text statement at
 abbrev pub text_under : AccountPlan → List PacketReport → List ℕ
 text_under plan reports = statement_text plan (bill_of plan reports)
 
--- The octets spell this list of reports as a log export.
-pub record IsExportOf (octets : List ℕ) (reports : List PacketReport) : Type 0 where
-  pub exportable : IsExportable reports
-  pub spelled : octets ≡ export reports
-
 -- The octets spell a list of reports as a log export, and the verdict on the statement is that of the plan's statement of them.
 pub record IsAuditedUnder (plan : AccountPlan) (octets statement : List ℕ) (found : Verdict) : Type 0 where
   pub reports : List PacketReport
-  pub spelled : IsExportOf octets reports
+  pub spelled : IsExport octets reports
   pub verdict : IsVerdict (text_under plan reports) statement found
 
 -- A text is this plan.
@@ -64,7 +59,7 @@ pub record IsFaultyPlan (text : List ℕ) (f : PlanFault) : Type 0 where
 abbrev pub IsRefusedUnder : List ℕ → AuditFault → Type 0
 IsRefusedUnder octets (fault.Plan f) = ⊥
 IsRefusedUnder octets (fault.Export f) = IsFaultyExport octets f
-IsRefusedUnder octets fault.Memory = (reports : List PacketReport) × IsExportOf octets reports
+IsRefusedUnder octets fault.Memory = (reports : List PacketReport) × IsExport octets reports
 
 -- Why there is no verdict: the fault of the plan, or where it has none that of the export, unless memory ran out.
 abbrev pub IsRefused : List ℕ → List ℕ → AuditFault → Type 0

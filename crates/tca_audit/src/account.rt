@@ -2,28 +2,27 @@
 ghost use Rattle.std.specs.Prelude.{◌≡◌, ℕ, ◌<◌, ◌≤◌, List, ◌∷◌, IfOk, OnOk, IfSome, Some};
 ghost use Rattle.tca_report.specs.report.Reports.{PacketReport, most_octets};
 ghost use Rattle.tca_meters.specs.declared.colour.Colour.{Colour};
-ghost use Rattle.tca_meters.specs.AnyMeters.{any_rule};
+ghost use Rattle.tca_meters.specs.Termed.{termed_rule};
 ghost use Rattle.tca_accounts.specs.Bills.{coloured_by};
 ghost use Rattle.tca_accounts.specs.Metering.{CanAdd, HasRoom, closed_by, sums_in, with_last};
 ghost use Rattle.tca_accounts.specs.Spans.{Ascend};
 ghost use Rattle.tca_accounts.specs.Sums.{with_packet};
 ghost use Rattle.tca_audit.specs.Metering.{IsMetering, tally_so_far};
 
-use crate::buckets::Buckets;
-use crate::meters::{metered, opening};
+use crate::terms::{TermBuckets, begun, metered};
 use std::alloc::{AllocError, Global};
 use tca_accounts::{Span, Spans, Sums, Tally};
-use tca_meters::{AnyMeter, Colour, precolour};
+use tca_meters::{Colour, Termed, precolour};
 use tca_report::Report;
 
 /// An account whose reports are being metered.
 #[derive(Drop)]
 pub(crate) struct Account {
-    meter: AnyMeter,
+    meter: Termed,
     /// The colour of a code point that has none of its own.
     other: Colour,
-    /// The meter's buckets after the last report.
-    buckets: Buckets,
+    /// The term of the last report, and its meter's buckets after it.
+    state: TermBuckets,
     /// The time of the last report in milliseconds, 0 where there was none.
     time: u64,
     /// The sums of the reports so far.
@@ -36,14 +35,14 @@ pub(crate) struct Account {
 
 impl Account {
     /// An account that has had no report. It takes no memory.
-    pub(crate) fn new(alloc: Global, meter: AnyMeter, other: Colour) -> Account
+    pub(crate) fn new(alloc: Global, meter: Termed, other: Colour) -> Account
         ensures time { result.time ≡ 0 }
-        ensures metering { (period : ℕ) (reports : List PacketReport) → IsMetering period (coloured_by (any_rule meter) other reports) reports result }
+        ensures metering { (period : ℕ) (reports : List PacketReport) → IsMetering period (coloured_by (termed_rule meter) other reports) reports result }
     {
         Account {
             meter,
             other,
-            buckets: opening(&meter),
+            state: begun(&meter),
             time: 0,
             total: Sums::new(),
             ended: Vec::new(alloc),
@@ -63,9 +62,9 @@ impl Account {
     {
         let content = report.content();
         let pre = precolour(content.dscp, self.other);
-        let (colour, buckets) = metered(
+        let (colour, state) = metered(
             &self.meter,
-            self.buckets,
+            self.state,
             self.time,
             content.time,
             content.octets,
@@ -80,7 +79,7 @@ impl Account {
             content.octets,
         )?;
         self.total.count(colour, content.octets);
-        self.buckets = buckets;
+        self.state = state;
         self.time = content.time;
         Ok(())
     }

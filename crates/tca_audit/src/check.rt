@@ -1,11 +1,12 @@
 //! The audit of a statement.
 ghost use Rattle.std.specs.Prelude.{◌≡◌, ◌⊎◌, Err, IfOk, IfErr, List, MatchResult, length};
 ghost use Rattle.tca_report.specs.report.Reports.{PacketReport};
+ghost use Rattle.tca_report.specs.export.Spelling.{IsExport};
 ghost use Rattle.tca_report.specs.export.FirstFaults.{IsFaultyExport};
 ghost use Rattle.tca_report.specs.declared.export.ExportFault.{ExportFault};
 ghost use Rattle.tca_accounts.specs.Plans.{AccountPlan};
 ghost use Rattle.tca_statements.specs.Statements.{statement_text};
-ghost use Rattle.tca_audit.specs.Audits.{IsAudited, IsAuditedUnder, IsExportOf, IsPlanText, IsRefused, IsRefusedUnder, text_under};
+ghost use Rattle.tca_audit.specs.Audits.{IsAudited, IsAuditedUnder, IsPlanText, IsRefused, IsRefusedUnder, text_under};
 ghost use Rattle.tca_audit.specs.declared.fault.AuditFault.TheVariants as fault;
 ghost use Rattle.tca_audit.specs.declared.verdict.Verdict.TheVariants as verdict;
 
@@ -34,7 +35,7 @@ pub fn audit(
     // An export with a fault is refused for it, and a right statement agrees.
     ensures refused { (p : AccountPlan) (f : ExportFault) → IsPlanText plan.now p → IsFaultyExport export.now f
         → MatchResult result (λ v. ⊥) (λ e. (e ≡ fault.Export f) ⊎ (e ≡ fault.Memory)) }
-    ensures agrees { (p : AccountPlan) (reports : List PacketReport) → IsPlanText plan.now p → IsExportOf export.now reports
+    ensures agrees { (p : AccountPlan) (reports : List PacketReport) → IsPlanText plan.now p → IsExport export.now reports
         → statement.now ≡ text_under p reports → MatchResult result (λ v. v ≡ verdict.Agrees) (λ e. e ≡ fault.Memory) }
 {
     match Plan::from_text(alloc, plan) {
@@ -59,7 +60,7 @@ pub fn audit_under(
 
     // An export with a fault is refused for it, and a right statement agrees.
     ensures refused { (f : ExportFault) → IsFaultyExport export.now f → result ≡ Err (fault.Export f) }
-    ensures agrees { (reports : List PacketReport) → IsExportOf export.now reports
+    ensures agrees { (reports : List PacketReport) → IsExport export.now reports
         → statement.now ≡ text_under plan.now reports → MatchResult result (λ v. v ≡ verdict.Agrees) (λ e. e ≡ fault.Memory) }
 {
     let reports = match read_export(alloc, export) {

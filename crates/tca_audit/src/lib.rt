@@ -2,14 +2,15 @@
 //!
 //! This crate is for those who distrust the rest. It takes the text of the plan, the octets of an export and those of
 //! a statement, and meters each account in the plainest way: the tokens that come between two packets are let in one
-//! at a time, and each packet is judged as its RFC says. Of the other crates it takes the readers of plans and exports, the
-//! table of code points, and the text of a bill. A token is let in only where a bucket has room for it, so between two
-//! packets no more are let in than packets took out before. It takes 8 octets of memory for each report beside the
-//! list of reports itself.
+//! at a time, each packet is judged as its RFC says, and where the plan has a term start both buckets are set full. Of the
+//! other crates it takes the readers of plans and exports, the table of code points, and the text of a bill. A token is
+//! let in only where a bucket has room for it, so between two packets no more are let in than packets took out before. It
+//! takes 12 octets of memory for each report beside the list of reports itself.
 //!
 //! - `check`: the audit as a whole; `verdict`: the comparison, octet by octet; `fault`: why there is none;
 //! - `bill`: the sums of all accounts; `account`: one account; `disputes`: the identities that more than one report has;
-//! - `meters`: a packet at a meter of any kind; beneath it `srtcm` (RFC 2697), `trtcm` (RFC 2698) and `rfc4115`;
+//! - `terms`: a packet at a meter with terms; beneath it `meters` (a meter of any kind), `srtcm` (RFC 2697), `trtcm`
+//!   (RFC 2698) and `rfc4115`;
 //! - `arrivals`: when the tokens of a rate come; `buckets`: what they come to.
 #![tactic(auto)]
 
@@ -23,6 +24,7 @@ mod fault;
 mod meters;
 mod rfc4115;
 mod srtcm;
+mod terms;
 mod trtcm;
 mod verdict;
 

@@ -1,7 +1,6 @@
-//! A packet at a meter of any of the three kinds.
+//! The buckets of a meter of any of the three kinds, and what tokens and a packet do to them.
 ghost use Rattle.std.specs.Prelude.{◌≡◌, ◌<◌, ◌≤◌};
 ghost use Rattle.tca_meters.specs.AnyMeters.{any_rule};
-ghost use Rattle.tca_meters.specs.Packets.{answer};
 ghost use Rattle.tca_audit.specs.Metering.{levels_of};
 ghost use Rattle.tca_report.specs.report.Reports.{time_end};
 
@@ -9,7 +8,7 @@ use crate::buckets::Buckets;
 use crate::{rfc4115, srtcm, trtcm};
 use tca_meters::{AnyMeter, Colour};
 
-/// The buckets of a meter at time 0.
+/// The buckets of a meter, both full.
 pub(crate) fn opening(meter: &AnyMeter) -> Buckets
     ensures { levels_of result ≡ (any_rule meter.now).opening }
 {
@@ -20,8 +19,8 @@ pub(crate) fn opening(meter: &AnyMeter) -> Buckets
     }
 }
 
-// The buckets once the tokens that come after `from` and at or before `to` were let in.
-fn filled(meter: &AnyMeter, buckets: Buckets, from: u64, to: u64) -> Buckets
+/// The buckets once the tokens that come after `from` and at or before `to` were let in.
+pub(crate) fn filled(meter: &AnyMeter, buckets: Buckets, from: u64, to: u64) -> Buckets
     requires order { from ≤ to }
     requires time { to < time_end }
     ensures { levels_of result ≡ (any_rule meter.now).filled from to (levels_of buckets) }
@@ -33,8 +32,13 @@ fn filled(meter: &AnyMeter, buckets: Buckets, from: u64, to: u64) -> Buckets
     }
 }
 
-// The colour of a packet, and the buckets after it.
-fn judged(meter: &AnyMeter, buckets: Buckets, octets: u32, pre: Colour) -> (Colour, Buckets)
+/// The colour of a packet, and the buckets after it.
+pub(crate) fn judged(
+    meter: &AnyMeter,
+    buckets: Buckets,
+    octets: u32,
+    pre: Colour,
+) -> (Colour, Buckets)
     ensures { (result.0, levels_of result.1) ≡ (any_rule meter.now).judged (levels_of buckets) octets pre }
 {
     match meter {
@@ -42,22 +46,4 @@ fn judged(meter: &AnyMeter, buckets: Buckets, octets: u32, pre: Colour) -> (Colo
         AnyMeter::TrTcm(meter) => trtcm::judged(meter, buckets, octets, pre),
         AnyMeter::Rfc4115(meter) => rfc4115::judged(meter, buckets, octets, pre),
     }
-}
-
-/// The colour of a packet that comes at `time` after one of time `last`, or after time 0, and the buckets after it.
-/// Times are in milliseconds.
-pub(crate) fn metered(
-    meter: &AnyMeter,
-    buckets: Buckets,
-    last: u64,
-    time: u64,
-    octets: u32,
-    pre: Colour,
-) -> (Colour, Buckets)
-    requires order { last ≤ time }
-    requires limit { time < time_end }
-    ensures { (result.0, levels_of result.1) ≡ answer (any_rule meter.now) (levels_of buckets) last (record { time = time; octets = octets; pre = pre }) }
-{
-    let filled = filled(meter, buckets, last, time);
-    judged(meter, filled, octets, pre)
 }

@@ -9,6 +9,7 @@ mod inputs;
 mod join;
 mod log;
 mod meters;
+mod plain;
 mod replay;
 mod reports;
 mod samples;
@@ -17,8 +18,9 @@ mod templates;
 mod wire;
 
 use crate::{AuditFault, Verdict, audit, audit_under};
+use samples::{TERM, part, three_reports, three_without_sessions};
 use std::alloc::{AllocError, Global};
-use tca_accounts::{Key, Plan, PlanFault, bill_all};
+use tca_accounts::{Bill, Key, Plan, PlanFault, bill_all};
 use tca_log::Log;
 use tca_report::{Content, ExportFault, Host, Identity, Report};
 use tca_statements::{Statement, render};
@@ -62,18 +64,21 @@ fn joined(alloc: Global, parts: &[&str]) -> Result<String, AllocError> {
 }
 
 // Appends a report to the octets of an export.
-fn push_row(row: &Row, into: &mut Vec<u8>) -> Result<(), AllocError> {
-    let (place, late, octets, dscp, iface) = *row;
-    let time = START.wrapping_add(late).to_be_bytes();
-    let place = place.to_be_bytes();
-    let octets = octets.to_be_bytes();
-    let iface = iface.to_be_bytes();
+fn push_report(report: &Report, into: &mut Vec<u8>) -> Result<(), AllocError> {
+    let (identity, content) = (report.identity(), report.content());
+    let time = content.time.to_be_bytes();
+    let domain = identity.domain.to_be_bytes();
+    let session = identity.session.to_be_bytes();
+    let place = identity.place.to_be_bytes();
+    let octets = content.octets.to_be_bytes();
+    let iface = content.iface.to_be_bytes();
     let parts = [
         time.as_slice(),
-        &[0, 0, 0, 7],
+        domain.as_slice(),
+        session.as_slice(),
         place.as_slice(),
         octets.as_slice(),
-        &[dscp],
+        &[content.dscp],
         iface.as_slice(),
     ];
     for part in parts {
@@ -82,19 +87,32 @@ fn push_row(row: &Row, into: &mut Vec<u8>) -> Result<(), AllocError> {
     Ok(())
 }
 
-// The export of these rows, which are in the order of reports.
-fn exported(alloc: Global, rows: &[Row]) -> Result<Vec<u8>, AllocError> {
-    let mut octets = Vec::from_slice(alloc, b"TCAX\x00\x01")?;
-    octets.extend_from_slice(&(rows.len().min(4_194_304) as u32).to_be_bytes())?;
-    for row in rows {
-        push_row(row, &mut octets)?;
-    }
+// The header of an export of so many reports.
+fn header(alloc: Global, count: usize) -> Result<Vec<u8>, AllocError> {
+    let mut octets = Vec::from_slice(alloc, b"TCAX\x00\x02")?;
+    octets.extend_from_slice(&(count.min(4_194_304) as u32).to_be_bytes())?;
     Ok(octets)
+}
+
+// The export of these rows, which are in the order of reports.
+fn exported(alloc: Global, rows: &[Row]) -> Option<Vec<u8>> {
+    let Ok(mut octets) = header(alloc, rows.len()) else {
+        return None;
+    };
+    for row in rows {
+        let Some(report) = report(row) else {
+            return None;
+        };
+        if push_report(&report, &mut octets).is_err() {
+            return None;
+        }
+    }
+    Some(octets)
 }
 
 // What the audit of a statement finds.
 fn audited(alloc: Global, plan: &[u8], rows: &[Row], statement: &[u8]) -> Option<Verdict> {
-    let Ok(export) = exported(alloc, rows) else {
+    let Some(export) = exported(alloc, rows) else {
         return None;
     };
     audit(alloc, plan, &export, statement).ok()
@@ -142,13 +160,8 @@ fn tells_where_a_statement_differs(rt: HostRuntime) {
 }
 
 // Why the audit of the right statement is refused where the last octet of the export is cut off.
-fn refused_cut(alloc: Global, plan: &[u8]) -> Option<AuditFault> {
-    let Ok(export) = exported(alloc, &FIRST) else {
-        return None;
-    };
-    let Some(cut) = export.get(..84) else {
-        return None;
-    };
+fn refused_cut(alloc: Global, plan: &[u8], export: &[u8]) -> Option<AuditFault> {
+    let cut = part(export, 0, export.len().saturating_sub(1));
     audit(alloc, plan, cut, THREE.as_bytes()).err()
 }
 
@@ -158,11 +171,15 @@ fn refuses_the_plan_before_the_export(rt: HostRuntime) {
     let Ok(plan) = joined(alloc, &[HEAD, BLIND]) else {
         panic!(rt; "a plan");
     };
-    let refused = refused_cut(alloc, plan.as_bytes());
-    assert!(rt; refused == Some(AuditFault::Export(ExportFault::Cut)));
     let wrong = PlanFault::Wrong { key: Key::Period };
-    let refused = refused_cut(alloc, b"period = 0\n");
-    assert!(rt; refused == Some(AuditFault::Plan(wrong)));
+    for export in [three_reports(), three_without_sessions()] {
+        let verdict = audit(alloc, plan.as_bytes(), export, THREE.as_bytes());
+        assert!(rt; verdict == Ok(Verdict::Agrees));
+        let refused = refused_cut(alloc, plan.as_bytes(), export);
+        assert!(rt; refused == Some(AuditFault::Export(ExportFault::Cut)));
+        let refused = refused_cut(alloc, b"period = 0\n", export);
+        assert!(rt; refused == Some(AuditFault::Plan(wrong)));
+    }
 }
 
 #[test]
@@ -201,6 +218,97 @@ fn agrees_with_late_and_disputed_reports(rt: HostRuntime) {
     let lines =
         "reports 3\ndisputed 0\nunassigned 1\naccount alpha\ntotal 200 2 0 0 0 0\nspan 472222 100 1 0 0 0 0\nspan 472223 100 1 0 0 0 0\n";
     assert!(rt; found(alloc, BLIND, &hours, lines) == Some(Verdict::Agrees));
+}
+
+// Whether the audit agrees with the statement that has these lines where the first reports and a late one are metered with a term,
+// and the statement of their bill has just its octets.
+fn agrees_in_a_term(alloc: Global, rows: &[Row], lines: &str) -> bool {
+    let Ok(plan) = joined(alloc, &[HEAD, BLIND, TERM]) else {
+        return false;
+    };
+    let parts = ["tcacct statement 1\nperiod 3600000\n", lines, "end\n"];
+    let Ok(statement) = joined(alloc, &parts) else {
+        return false;
+    };
+    let verdict = audited(alloc, plan.as_bytes(), rows, statement.as_bytes());
+    verdict == Some(Verdict::Agrees) && is_stated(alloc, plan.as_bytes(), rows, &statement)
+}
+
+fn is_stated(alloc: Global, plan: &[u8], rows: &[Row], statement: &str) -> bool {
+    let Ok(plan) = Plan::from_text(alloc, plan) else {
+        return false;
+    };
+    let Some(log) = log_of(alloc, rows) else {
+        return false;
+    };
+    match stated(alloc, &plan, &log) {
+        Some(found) => found.as_slice() == statement.as_bytes(),
+        None => false,
+    }
+}
+
+fn log_of(alloc: Global, rows: &[Row]) -> Option<Log> {
+    let mut log = Log::new(alloc);
+    for row in rows {
+        let Some(report) = report(row) else {
+            return None;
+        };
+        if log.add(report).is_err() {
+            return None;
+        }
+    }
+    Some(log)
+}
+
+// The first reports, with one more at its place among them, and the lines of their statement.
+const IN_A_TERM: [(&[Row], &str); 5] = [
+    (
+        &FIRST,
+        "reports 3\ndisputed 0\nunassigned 0\naccount alpha\ntotal 2500 2 800 1 0 0\nspan 472222 2500 2 800 1 0 0\n",
+    ),
+    (
+        &[
+            (0, 0, 1500, 0, 1),
+            (3, 50, 600, 0, 1),
+            (1, 100, 1000, 0, 1),
+            (2, 200, 800, 0, 1),
+        ],
+        "reports 4\ndisputed 0\nunassigned 0\naccount alpha\ntotal 2500 2 1400 2 0 0\nspan 472222 2500 2 1400 2 0 0\n",
+    ),
+    (
+        &[
+            (0, 0, 1500, 0, 1),
+            (3, 99, 600, 0, 1),
+            (1, 100, 1000, 0, 1),
+            (2, 200, 800, 0, 1),
+        ],
+        "reports 4\ndisputed 0\nunassigned 0\naccount alpha\ntotal 2500 2 1400 2 0 0\nspan 472222 2500 2 1400 2 0 0\n",
+    ),
+    (
+        &[
+            (0, 0, 1500, 0, 1),
+            (3, 99, 599, 0, 1),
+            (1, 100, 1000, 0, 1),
+            (2, 200, 800, 0, 1),
+        ],
+        "reports 4\ndisputed 0\nunassigned 0\naccount alpha\ntotal 3099 3 800 1 0 0\nspan 472222 3099 3 800 1 0 0\n",
+    ),
+    (
+        &[
+            (0, 0, 1500, 0, 1),
+            (1, 100, 1000, 0, 1),
+            (3, 100, 600, 0, 1),
+            (2, 200, 800, 0, 1),
+        ],
+        "reports 4\ndisputed 0\nunassigned 0\naccount alpha\ntotal 2500 2 600 1 800 1\nspan 472222 2500 2 600 1 800 1\n",
+    ),
+];
+
+#[test]
+fn agrees_with_late_reports_in_a_term(rt: HostRuntime) {
+    for (rows, lines) in IN_A_TERM {
+        assert!(rt; agrees_in_a_term(rt.alloc(), rows, lines));
+    }
 }
 
 #[test]
@@ -250,7 +358,7 @@ impl Numbers {
     }
 
     fn row(&mut self) -> Row {
-        let place = self.below(12);
+        let place = self.below(6);
         let late = self.below(3000) as u64;
         let octets = self.below(1200).wrapping_add(1);
         let points = [0, 10, 12, 14, 46];
@@ -261,8 +369,16 @@ impl Numbers {
 }
 
 fn report(row: &Row) -> Option<Report> {
+    report_in(0, row)
+}
+
+fn report_in(session: u32, row: &Row) -> Option<Report> {
     let (place, late, octets, dscp, iface) = *row;
-    let identity = Identity { domain: 7, place };
+    let identity = Identity {
+        domain: 7,
+        session,
+        place,
+    };
     let content = Content {
         time: START.wrapping_add(late),
         octets,
@@ -272,11 +388,23 @@ fn report(row: &Row) -> Option<Report> {
     Report::new(identity, content)
 }
 
-// A log of some reports.
-fn logged(alloc: Global, numbers: &mut Numbers) -> Option<Log> {
+// A report of one of two sessions that have the same places.
+fn some_report(numbers: &mut Numbers) -> Option<Report> {
+    let session = numbers.below(2);
+    let row = numbers.row();
+    report_in(session, &row)
+}
+
+// A log of some reports: of those for the owners of the plain bill, or of larger ones.
+fn logged(alloc: Global, numbers: &mut Numbers, is_plain: bool) -> Option<Log> {
     let mut log = Log::new(alloc);
-    for _ in 0..numbers.below(14) {
-        let Some(report) = report(&numbers.row()) else {
+    for _ in 0..numbers.below(if is_plain { 40 } else { 14 }) {
+        let found = if is_plain {
+            plain::some_report(numbers, 40)
+        } else {
+            some_report(numbers)
+        };
+        let Some(report) = found else {
             return None;
         };
         if log.add(report).is_err() {
@@ -286,22 +414,13 @@ fn logged(alloc: Global, numbers: &mut Numbers) -> Option<Log> {
     Some(log)
 }
 
-// The reports of a log as rows.
-fn rows(alloc: Global, log: &Log) -> Result<Vec<Row>, AllocError> {
-    let mut list = Vec::new(alloc);
-    for report in log.reports() {
-        let content = report.content();
-        let late = content.time.wrapping_sub(START);
-        let place = report.identity().place;
-        list.push((place, late, content.octets, content.dscp, content.iface))?;
-    }
-    Ok(list)
-}
-
 // The export of a log.
 fn exported_log(alloc: Global, log: &Log) -> Result<Vec<u8>, AllocError> {
-    let list = rows(alloc, log)?;
-    exported(alloc, &list)
+    let mut octets = header(alloc, log.len() as usize)?;
+    for report in log.reports() {
+        push_report(report, &mut octets)?;
+    }
+    Ok(octets)
 }
 
 fn text(alloc: Global, statement: &Statement) -> Option<Vec<u8>> {
@@ -317,10 +436,14 @@ fn stated(alloc: Global, plan: &Plan, log: &Log) -> Option<Vec<u8>> {
     let Ok(bill) = bill_all(alloc, plan, log) else {
         return None;
     };
+    stated_of(alloc, plan, &bill)
+}
+
+fn stated_of(alloc: Global, plan: &Plan, bill: &Bill) -> Option<Vec<u8>> {
     if bill.accounts.as_slice().len() != plan.accounts() as usize {
         return None;
     }
-    let Ok(statement) = Statement::of(alloc, plan, &bill) else {
+    let Ok(statement) = Statement::of(alloc, plan, bill) else {
         return None;
     };
     text(alloc, &statement)
@@ -348,13 +471,17 @@ fn tells_a_change(
 
 // The same of the statement of the bill of some reports.
 fn agrees(alloc: Global, plan: &Plan, numbers: &mut Numbers) -> bool {
-    let Some(log) = logged(alloc, numbers) else {
+    let Some(log) = logged(alloc, numbers, false) else {
         return false;
     };
-    let Ok(export) = exported_log(alloc, &log) else {
+    agrees_of(alloc, plan, &log, numbers)
+}
+
+fn agrees_of(alloc: Global, plan: &Plan, log: &Log, numbers: &mut Numbers) -> bool {
+    let Ok(export) = exported_log(alloc, log) else {
         return false;
     };
-    let Some(mut statement) = stated(alloc, plan, &log) else {
+    let Some(mut statement) = stated(alloc, plan, log) else {
         return false;
     };
     let at = numbers.below(statement.len().min(4_194_304) as u32) as usize;
@@ -370,6 +497,32 @@ fn agrees_with_the_bill(rt: HostRuntime) {
     let mut numbers = Numbers { state: 1 };
     for _ in 0..2_000 {
         assert!(rt; agrees(alloc, &plan, &mut numbers));
+    }
+}
+
+// Whether the bill of some reports, under the plan with terms, is the plain one, and its statement's audit agrees.
+fn agrees_in_terms(alloc: Global, plan: &Plan, numbers: &mut Numbers) -> bool {
+    let Some(log) = logged(alloc, numbers, true) else {
+        return false;
+    };
+    let Ok(list) = plain::listed(alloc, log.reports()) else {
+        return false;
+    };
+    let Ok(bill) = bill_all(alloc, plan, &log) else {
+        return false;
+    };
+    plain::is_billed(&bill, &list) && agrees_of(alloc, plan, &log, numbers)
+}
+
+#[test]
+fn agrees_with_the_plain_bill_in_terms(rt: HostRuntime) {
+    let alloc = rt.alloc();
+    let Ok(plan) = Plan::from_text(alloc, plain::PLAN.as_bytes()) else {
+        panic!(rt; "a plan");
+    };
+    let mut numbers = Numbers { state: 16 };
+    for list in 0..1_000 {
+        assert!(rt; agrees_in_terms(alloc, &plan, &mut numbers), "list {list}");
     }
 }
 

@@ -127,7 +127,8 @@ impl World {
 
     // The replica of a name takes reports.
     fn take(&mut self, at: u32, reports: &[Report]) -> Reply
-        ensures { (m : Machine) → IsCoupled m self.old → StepsTo m (Take at reports.now) (reply_view result) self.new }
+        ensures steps { (m : Machine) → IsCoupled m self.old → StepsTo m (Take at reports.now) (reply_view result) self.new }
+        ensures plan { self.new.plan ≡ self.old.plan }
     {
         match self.place(at) {
             Some(i) => Reply::Took(self.replicas[i].take(reports)),
@@ -137,7 +138,8 @@ impl World {
 
     // It sends how much it holds.
     fn ask(&mut self, at: u32) -> Reply
-        ensures { (m : Machine) → IsCoupled m self.old → StepsTo m (Ask at) (reply_view result) self.new }
+        ensures steps { (m : Machine) → IsCoupled m self.old → StepsTo m (Ask at) (reply_view result) self.new }
+        ensures plan { self.new.plan ≡ self.old.plan }
     {
         if self.sent.len() >= MESSAGES {
             return Reply::Nothing;
@@ -156,7 +158,8 @@ impl World {
 
     // It sends what it holds past the counts of a message.
     fn answer(&mut self, at: u32, message: u32) -> Reply
-        ensures { (m : Machine) → IsCoupled m self.old → StepsTo m (Answer at message) (reply_view result) self.new }
+        ensures steps { (m : Machine) → IsCoupled m self.old → StepsTo m (Answer at message) (reply_view result) self.new }
+        ensures plan { self.new.plan ≡ self.old.plan }
     {
         if self.sent.len() >= MESSAGES {
             return Reply::Nothing;
@@ -182,7 +185,8 @@ impl World {
 
     // The parts of a message come to it.
     fn deliver(&mut self, message: u32, to: u32) -> Reply
-        ensures { (m : Machine) → IsCoupled m self.old → StepsTo m (Deliver message to) (reply_view result) self.new }
+        ensures steps { (m : Machine) → IsCoupled m self.old → StepsTo m (Deliver message to) (reply_view result) self.new }
+        ensures plan { self.new.plan ≡ self.old.plan }
     {
         match self.place(to) {
             Some(i) => match self.sent.get(message as usize) {
@@ -196,7 +200,8 @@ impl World {
 
     // It joins what another one holds.
     fn merge(&mut self, into: u32, other: u32) -> Reply
-        ensures { (m : Machine) → IsCoupled m self.old → StepsTo m (Merge into other) (reply_view result) self.new }
+        ensures steps { (m : Machine) → IsCoupled m self.old → StepsTo m (Merge into other) (reply_view result) self.new }
+        ensures plan { self.new.plan ≡ self.old.plan }
     {
         match self.place(into) {
             Some(i) => match self.place(other) {
@@ -214,7 +219,8 @@ impl World {
 
     // One step.
     fn step(&mut self, step: &Step) -> Reply
-        ensures { (m : Machine) → IsCoupled m self.old → StepsTo m (step_view step.now) (reply_view result) self.new }
+        ensures steps { (m : Machine) → IsCoupled m self.old → StepsTo m (step_view step.now) (reply_view result) self.new }
+        ensures plan { self.new.plan ≡ self.old.plan }
     {
         match step {
             Step::Take { at, reports } => self.take(*at, reports),
@@ -231,6 +237,7 @@ impl World {
     /// it are done all the same.
     pub fn run(&mut self, steps: &[Step]) -> Result<Vec<Reply>, AllocError>
         ensures run { (m : Machine) → IsCoupled m self.old → IfOk result (λ replies. RunsTo m (map step_view steps.now) (map reply_view replies.items) self.new) }
+        ensures plan { self.new.plan ≡ self.old.plan }
         ensures err { OnErr result (self.new ≡ self.old) }
         ensures some { OnErr result (0 < length steps.now) }
     {

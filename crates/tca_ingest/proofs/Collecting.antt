@@ -4,12 +4,13 @@ use Rattle.std.specs.List.{AllByRecursion, AllZip, remove}
 use Rattle.std.specs.List.Sorted.{IsPermutation}
 use Rattle.std.proofs.lemmas.List.{take_more, append-nil, append_assoc}
 use Rattle.std.proofs.lemmas.List.Sorted.{IsPermutation-map, IsPermutation-remove, IsPermutation-sym, IsPermutation-trans, IsPermutation-append_right}
-use Rattle.std.specs.declared.vec.Vec.{Vec}
 use denote.Bor.{Bor}
+use Rattle.tca_report.specs.input.Inputs.{input_view}
+use Rattle.tca_report.specs.declared.input.Input.{Input}
 use Rattle.tca_ingest.specs.Entries.{EntryView}
 use Rattle.tca_ingest.specs.EntryViews.{entry_view}
 use Rattle.tca_ingest.specs.Passes.{PassView}
-use Rattle.tca_ingest.specs.Works.{AreNumberedFrom, AreResults, AreSliceResults, IsResult, entries_in, entry_in, all_calls, views_of}
+use Rattle.tca_ingest.specs.Works.{AreNumberedFrom, AreResults, AreLentResults, IsResult, entries_in, entry_in, all_calls, views_of}
 use Rattle.tca_ingest.specs.declared.entry.Entry.{Entry}
 use Rattle.tca_ingest.specs.declared.job.Done.{Done}
 
@@ -104,13 +105,13 @@ numbered_push n [] d all here = (here ∙ omega (arith), tt)
 numbered_push n (x ∷ ds) d all here = (all.0, numbered_push (suc n) ds d all.1 (here ∙ omega (arith)))
 
 -- inputs that are borrowed have the results of the inputs
-pub results_of : {A : Type 0} (slices : List (Bor (List ℕ))) (inputs : List (Vec ℕ A)) (done : List Done) → map (λ s. s.now) slices ≡ map (λ v. v.items) inputs → AreSliceResults slices done → AreResults inputs done
+pub results_of : (lent : List (Bor Input)) (inputs : List Input) (done : List Done) → map (λ s. s.now) lent ≡ inputs → AreLentResults lent done → AreResults inputs done
 results_of [] [] [] same all = tt
 results_of [] [] (d ∷ ds) same all = absurd all
 results_of [] (v ∷ vs) ds same all = absurd cc
 results_of (s ∷ ss) [] ds same all = absurd cc
 results_of (s ∷ ss) (v ∷ vs) [] same all = absurd all
 results_of (s ∷ ss) (v ∷ vs) (d ∷ ds) same all =
-    let here : s.now ≡ v.items = cc same in
-    let rest : map (λ (b : Bor (List ℕ)). b.now) ss ≡ map (λ (w : Vec ℕ _). w.items) vs = cc same in
-    (subst (λ octets. IsResult octets d.result) here all.0, results_of ss vs ds rest all.1)
+    let here : s.now ≡ v = cc same in
+    let rest : map (λ (b : Bor Input). b.now) ss ≡ vs = cc same in
+    (subst (λ (input : Input). IsResult (input_view input) d.result) here all.0, results_of ss vs ds rest all.1)

@@ -7,7 +7,7 @@ ghost use Rattle.tca_ingest.specs.declared.entry.Receipt.{Receipt};
 ghost use Rattle.tca_ingest.specs.declared.job.JobFault.{JobFault};
 ghost use Rattle.tca_report.specs.declared.input.Notes.{Notes};
 ghost use Rattle.tca_ingest.specs.EntryViews.{entry_view, entry_views};
-ghost use Rattle.tca_ingest.specs.Works.{AreNumbered, AreOwn, AreResultsAt, AreSliceResults, all_calls, entries_in, entry_in, views_of};
+ghost use Rattle.tca_ingest.specs.Works.{AreNumbered, AreOwn, AreResultsAt, AreLentResults, all_calls, entries_in, entry_in, views_of};
 
 use crate::entry::{Entry, Receipt};
 use crate::fault::WorkFault;
@@ -17,7 +17,7 @@ use crate::side::Side;
 use crossbeam_channel::Receiver;
 use std::alloc::{AllocError, Global};
 use std::sync::Wait;
-use tca_report::Notes;
+use tca_report::{Input, Notes};
 
 // A place for the result of a job.
 type Place = Option<Result<(Notes, Receipt), JobFault>>;
@@ -27,11 +27,11 @@ type Place = Option<Result<(Notes, Receipt), JobFault>>;
 pub(crate) fn collect<R: Wait>(
     rt: &R,
     alloc: Global,
-    inputs: &[&[u8]],
+    inputs: &[&Input],
     results: Receiver<JobResult<'_>>,
 ) -> Result<Vec<Done>, WorkFault>
     requires { length inputs.now < 2 ^ 32 }
-    ensures done { IfOk result (λ done. AreSliceResults inputs.now done.items) }
+    ensures done { IfOk result (λ done. AreLentResults inputs.now done.items) }
     ensures jobs { IfOk result (λ done. AreNumbered done.items) }
     ensures fault { IfErr result (λ f. f ≢ WorkFault.PassesOut) }
 {
@@ -46,7 +46,7 @@ pub(crate) fn collect<R: Wait>(
 }
 
 // A place for each input.
-fn empty_places(alloc: Global, inputs: &[&[u8]]) -> Result<Vec<Place>, AllocError>
+fn empty_places(alloc: Global, inputs: &[&Input]) -> Result<Vec<Place>, AllocError>
     ensures { IfOk result (λ places. AreResultsAt inputs.now places.items) }
 {
     let mut places = Vec::with_capacity(alloc, inputs.len())?;
@@ -59,7 +59,7 @@ fn empty_places(alloc: Global, inputs: &[&[u8]]) -> Result<Vec<Place>, AllocErro
 
 // Puts a result where its job is, if there is none yet.
 fn fill_place(
-    inputs: &[&[u8]],
+    inputs: &[&Input],
     places: &mut Vec<Place>,
     of_job: JobResult<'_>,
 ) -> Result<(), WorkFault>
@@ -74,7 +74,7 @@ fn fill_place(
         return Err(WorkFault::Stranger(job));
     }
     let wanted = inputs[at];
-    if wanted != input {
+    if !wanted.is_same(input) {
         return Err(WorkFault::Stranger(job));
     }
     places[at] = Some(result);
@@ -82,10 +82,10 @@ fn fill_place(
 }
 
 // The results, where each job has one.
-fn filled(alloc: Global, inputs: &[&[u8]], places: Vec<Place>) -> Result<Vec<Done>, WorkFault>
+fn filled(alloc: Global, inputs: &[&Input], places: Vec<Place>) -> Result<Vec<Done>, WorkFault>
     requires results { AreResultsAt inputs.now places.items }
     requires count { length inputs.now < 2 ^ 32 }
-    ensures done { IfOk result (λ done. AreSliceResults inputs.now done.items) }
+    ensures done { IfOk result (λ done. AreLentResults inputs.now done.items) }
     ensures jobs { IfOk result (λ done. AreNumbered done.items) }
     ensures fault { IfErr result (λ f. f ≢ WorkFault.PassesOut) }
 {

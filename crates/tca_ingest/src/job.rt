@@ -11,7 +11,7 @@ use crate::side::Side;
 use std::alloc::Global;
 use std::marker::Model;
 use std::sync::Wait;
-use tca_report::{Gathered, InputFault, Notes, gather};
+use tca_report::{Gathered, Input, InputFault, Notes, gather};
 use thiserror::Error;
 
 /// Why nothing of an input was taken.
@@ -50,18 +50,19 @@ pub struct Done {
 #[derive(Drop)]
 pub(crate) struct JobResult<'a> {
     pub(crate) job: u32,
-    pub(crate) input: &'a [u8],
+    pub(crate) input: &'a Input,
     pub(crate) result: Result<(Notes, Receipt), JobFault>,
 }
 
 impl<'a> Model for JobResult<'a> {
+    ghost use Rattle.tca_report.specs.input.Inputs.{input_view};
     ghost use Rattle.tca_ingest.specs.Works.{IsResult, ResultView};
 
     ghost Value = { ResultView };
 
-    ghost view = { λ r. record { job = r.job; input = r.input.now; result = r.result } };
+    ghost view = { λ r. record { job = r.job; input = input_view r.input.now; result = r.result } };
 
-    ghost invariant = { λ r. IsResult r.input.now r.result };
+    ghost invariant = { λ r. IsResult (input_view r.input.now) r.result };
 }
 
 /// Does a job: reads its input, and takes the reports.
@@ -72,12 +73,12 @@ pub(crate) fn do_job<'a, L: Side, R: Wait, G: Gate>(
     gate: &G,
     mine: &mut Pass<L>,
     job: u32,
-    input: &'a [u8],
+    input: &'a Input,
 ) -> JobResult<'a>
     ensures { result.job ≡ job }
 {
     gate.before(job);
-    let result = match gather(alloc, input) {
+    let result = match gather(alloc, &input.octets, input.session) {
         Err(fault) => Err(JobFault::Input(fault)),
         Ok(Gathered { reports, notes }) => {
             match shared.take_inside(rt, mine, &reports, gate, job) {

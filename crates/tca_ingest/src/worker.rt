@@ -10,6 +10,7 @@ use crossbeam_channel::{Receiver, Sender};
 use std::alloc::Global;
 use std::sync::Wait;
 use std::sync::atomic::{AtomicBool, Ordering};
+use tca_report::Input;
 
 /// What all workers of a run share.
 #[derive(Drop)]
@@ -18,7 +19,7 @@ pub(crate) struct Setting<'a, L: Side, R, G> {
     pub(crate) alloc: Global,
     pub(crate) shared: &'a Shared<L>,
     pub(crate) gate: &'a G,
-    pub(crate) inputs: &'a [&'a [u8]],
+    pub(crate) inputs: &'a [&'a Input],
     /// Whether no job is begun any more.
     pub(crate) halted: &'a AtomicBool,
 }

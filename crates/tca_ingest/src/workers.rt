@@ -1,7 +1,7 @@
 //! Threads that take inputs into one shared replica.
 ghost use Rattle.std.specs.Prelude.{◌≡◌, ◌≢◌, ◌⊎◌, ◌+◌, ◌<◌, ◌≤◌, ◌^◌, IfErr, IfOk, OnOk, length, map, vec_capacity, vec_len};
 ghost use Rattle.std.specs.List.Sorted.{IsPermutation};
-ghost use Rattle.tca_ingest.specs.Works.{AreNumbered, AreOwn, AreResults, AreSliceResults, all_calls, entries_in};
+ghost use Rattle.tca_ingest.specs.Works.{AreNumbered, AreOwn, AreResults, AreLentResults, all_calls, entries_in};
 
 use crate::collect::{collect, stranger_of};
 use crate::fault::WorkFault;
@@ -17,6 +17,7 @@ use std::sync::Wait;
 use std::sync::atomic::{AtomicBool, Ordering};
 use std::thread;
 use std::thread::{JoinHandle, Scope, Threads};
+use tca_report::Input;
 
 /// The results in the order of their jobs, and the workers' passes.
 #[derive(Drop)]
@@ -44,7 +45,7 @@ pub fn work<L: Side + Send + Sync, R: Threads + Wait + Sync, G: Gate>(
     rt: &R,
     alloc: Global,
     shared: &Shared<L>,
-    inputs: &[Vec<u8>],
+    inputs: &[Input],
     gate: &G,
     workers: u32,
 ) -> Result<Worked<L>, WorkRefused<L>>
@@ -58,8 +59,8 @@ pub fn work<L: Side + Send + Sync, R: Threads + Wait + Sync, G: Gate>(
     ensures back { IfErr result (λ r. r.fault ≢ WorkFault.PassesOut → r.fault ≢ WorkFault.Memory → length r.passes.items ≡ workers) }
     ensures few { IfErr result (λ r. r.fault ≡ WorkFault.PassesOut → length r.passes.items < workers) }
 {
-    match slices_of(alloc, inputs) {
-        Ok(slices) => work_on(rt, alloc, shared, &slices, gate, workers),
+    match lent(alloc, inputs) {
+        Ok(lent) => work_on(rt, alloc, shared, &lent, gate, workers),
         Err(_) => Err(WorkRefused {
             fault: WorkFault::Memory,
             passes: Vec::new(alloc),
@@ -68,14 +69,14 @@ pub fn work<L: Side + Send + Sync, R: Threads + Wait + Sync, G: Gate>(
 }
 
 // The inputs, borrowed.
-fn slices_of<'a>(alloc: Global, inputs: &'a [Vec<u8>]) -> Result<Vec<&'a [u8]>, AllocError>
-    ensures { IfOk result (λ slices. map (λ s. s.now) slices.items ≡ map (λ v. v.items) inputs.now) }
+fn lent<'a>(alloc: Global, inputs: &'a [Input]) -> Result<Vec<&'a Input>, AllocError>
+    ensures { IfOk result (λ list. map (λ s. s.now) list.items ≡ inputs.now) }
 {
-    let mut slices = Vec::with_capacity(alloc, inputs.len())?;
+    let mut list = Vec::with_capacity(alloc, inputs.len())?;
     for input in inputs {
-        slices.push(input.as_slice())?;
+        list.push(input)?;
     }
-    Ok(slices)
+    Ok(list)
 }
 
 /// Does inputs that are borrowed as jobs, as `work` does.
@@ -83,13 +84,13 @@ pub fn work_on<L: Side + Send + Sync, R: Threads + Wait + Sync, G: Gate>(
     rt: &R,
     alloc: Global,
     shared: &Shared<L>,
-    inputs: &[&[u8]],
+    inputs: &[&Input],
     gate: &G,
     workers: u32,
 ) -> Result<Worked<L>, WorkRefused<L>>
     requires workers { (1 ≤ workers) × (workers ≤ 64) }
     requires inputs { length inputs.now < 2 ^ 32 }
-    ensures done { IfOk result (λ w. AreSliceResults inputs.now w.done.items) }
+    ensures done { IfOk result (λ w. AreLentResults inputs.now w.done.items) }
     ensures jobs { IfOk result (λ w. AreNumbered w.done.items) }
     ensures entries { IfOk result (λ w. IsPermutation (entries_in w.done.items) (all_calls w.passes.items)) }
     ensures own { IfOk result (λ w. AreOwn w.passes.items) }
@@ -121,7 +122,7 @@ fn done_by<'a, L: Side + Send + Sync, R: Threads + Wait + Sync, G: Gate>(
 ) -> Result<Vec<Done>, WorkFault>
     requires inputs { length setting.now.inputs.now < 2 ^ 32 }
     requires passes { vec_len passes.old ≡ 0 }
-    ensures done { IfOk result (λ done. AreSliceResults setting.now.inputs.now done.items) }
+    ensures done { IfOk result (λ done. AreLentResults setting.now.inputs.now done.items) }
     ensures jobs { IfOk result (λ done. AreNumbered done.items) }
     ensures entries { IfOk result (λ done. IsPermutation (entries_in done.items) (all_calls passes.new.items)) }
     ensures own { OnOk result (AreOwn passes.new.items) }
@@ -143,7 +144,7 @@ fn results_of<'a, L: Side + Send + Sync, R: Threads + Wait + Sync, G: Gate>(
     passes: &mut Vec<Pass<L>>,
 ) -> Result<Vec<Done>, WorkFault>
     requires { length setting.now.inputs.now < 2 ^ 32 }
-    ensures done { IfOk result (λ done. AreSliceResults setting.now.inputs.now done.items) }
+    ensures done { IfOk result (λ done. AreLentResults setting.now.inputs.now done.items) }
     ensures jobs { IfOk result (λ done. AreNumbered done.items) }
     ensures kept { vec_len passes.new ≡ vec_len passes.old }
     ensures fault { IfErr result (λ f. f ≢ WorkFault.PassesOut) }

@@ -1,4 +1,4 @@
--- Reports whose places ascend in each domain: no two have one identity.
+-- Reports whose places ascend in each domain and session: no two have one identity.
 use Rattle.std.proofs.Common.{◌≡◌, ℕ, ◌+◌, ◌<◌, ◌≤◌, Bool, true, false, cond, List, [], ◌∷◌, ◌++◌, Option, Some, None, refl, sym, ap, subst, ◌∙◌, le-ltb, arith}
 use Rattle.std.specs.Prelude.{⊤}
 use Rattle.std.proofs.lemmas.Bool.{false≢true}
@@ -11,26 +11,26 @@ use Rattle.std.specs.Ordering.{eq_by_cmp, is_eq, nat_cmp}
 use Rattle.std.specs.declared.cmp.Ordering.TheVariants.{Less, Equal}
 use Rattle.tca_join.specs.Sets.{has}
 use Rattle.tca_report.specs.report.Reports.{PacketReport}
-use Rattle.tca_report.specs.report.Identities.{identity_of, identity_cmp}
+use Rattle.tca_report.specs.report.Identities.{identity_of, identity_cmp, identity_total}
 use Rattle.tca_report.specs.declared.report.Identity.{Identity}
-use Rattle.tca_report.proofs.lemmas.report.Identities.{identity_exact, identity_total}
+use Rattle.tca_report.proofs.lemmas.report.Identities.{identity_exact}
 use Rattle.tca_log.specs.Disputes.{contents, disputed}
-use Rattle.tca_log.specs.Logs.{count_at}
+use Rattle.tca_log.specs.Logs.{origin_of, count_at}
 use Rattle.tca_log.proofs.Contents.{disputed_is}
 use Rattle.tca_log.proofs.ReportAdditions.{count_snoc}
 
--- the last place of a domain, by a map from domains to places
+-- the last place of a domain and session, by a map from these as one number to places
 abbrev pub last_of : List (ℕ × ℕ) → ℕ → Option ℕ
-last_of entries domain = lookup (is_at (nat_cmp domain)) entries
+last_of entries origin = lookup (is_at (nat_cmp origin)) entries
 
 -- a place is above the last one, if there is one
 abbrev pub IsAbove : Option ℕ → ℕ → Type 0
 IsAbove None place = ⊤
 IsAbove (Some last) place = last < place
 
--- no report that was seen is above the last place of its domain, and no two have one identity
+-- no report that was seen is above the last place of its domain and session, and no two have one identity
 pub record AreAlone (seen : List PacketReport) (entries : List (ℕ × ℕ)) : Type 0 where
-  pub beyond : (i : Identity) → IsAbove (last_of entries i.domain) i.place → count_at seen i ≡ 0
+  pub beyond : (i : Identity) → IsAbove (last_of entries (origin_of i)) i.place → count_at seen i ≡ 0
   pub alone : (i : Identity) → count_at seen i ≤ 1
 
 pub alone_none : AreAlone [] []
@@ -48,18 +48,18 @@ differ i j apart = by (eq_by_cmp identity_cmp i j) refl
     by true e = absurd (apart (identity_exact i j ((Equal-is (identity_cmp i j)).0 e)))
     by false e = refl
 
-module _ (seen : List PacketReport) (entries new : List (ℕ × ℕ)) (r : PacketReport) (so_far : AreAlone seen entries) (above : IsAbove (last_of entries r.domain) r.place)
-    (gains : (d : ℕ) → last_of new d ≡ cond (is_at (nat_cmp r.domain) d) (Some r.place) (last_of entries d)) where
+module _ (seen : List PacketReport) (entries new : List (ℕ × ℕ)) (r : PacketReport) (so_far : AreAlone seen entries) (above : IsAbove (last_of entries (origin_of (identity_of r))) r.place)
+    (gains : (d : ℕ) → last_of new d ≡ cond (is_at (nat_cmp (origin_of (identity_of r))) d) (Some r.place) (last_of entries d)) where
   -- an identity that is above the last places now was so before, and isn't that of the new report
-  was_above : (i : Identity) → IsAbove (last_of new i.domain) i.place → IsAbove (last_of entries i.domain) i.place × (i ≡ identity_of r → ⊥)
+  was_above : (i : Identity) → IsAbove (last_of new (origin_of i)) i.place → IsAbove (last_of entries (origin_of i)) i.place × (i ≡ identity_of r → ⊥)
   was_above i h =
-      elim (is_at (nat_cmp r.domain) i.domain) as (λ b. is_at (nat_cmp r.domain) i.domain ≡ b → IsAbove (cond b (Some r.place) (last_of entries i.domain)) i.place → IsAbove (last_of entries i.domain) i.place × (i ≡ identity_of r → ⊥)) [
+      elim (is_at (nat_cmp (origin_of (identity_of r))) (origin_of i)) as (λ b. is_at (nat_cmp (origin_of (identity_of r))) (origin_of i) ≡ b → IsAbove (cond b (Some r.place) (last_of entries (origin_of i))) i.place → IsAbove (last_of entries (origin_of i)) i.place × (i ≡ identity_of r → ⊥)) [
         | true ↦ λ e a. (
-          subst (λ d. IsAbove (last_of entries d) i.place) (exact_unsigned r.domain i.domain ((Equal-is (nat_cmp r.domain i.domain)).0 e)) (higher (last_of entries r.domain) r.place i.place a above),
+          subst (λ d. IsAbove (last_of entries d) i.place) (exact_unsigned (origin_of (identity_of r)) (origin_of i) ((Equal-is (nat_cmp (origin_of (identity_of r)) (origin_of i))).0 e)) (higher (last_of entries (origin_of (identity_of r))) r.place i.place a above),
           λ same. let at : i.place ≡ r.place = ap (λ (x : Identity). x.place) same in omega (arith, a, at),
         )
-        | false ↦ λ e a. (a, λ same. let at : r.domain ≡ i.domain = sym (ap (λ (x : Identity). x.domain) same) in false≢true (sym e ∙ ap (λ (d : ℕ). is_at (nat_cmp r.domain) d) (sym at) ∙ ap is_eq (tied_itself nat_cmp_total r.domain)))
-      ] refl (subst (λ (o : Option ℕ). IsAbove o i.place) (gains i.domain) h)
+        | false ↦ λ e a. (a, λ same. let at : origin_of (identity_of r) ≡ origin_of i = sym (ap (λ (x : Identity). origin_of x) same) in false≢true (sym e ∙ ap (λ (d : ℕ). is_at (nat_cmp (origin_of (identity_of r))) d) (sym at) ∙ ap is_eq (tied_itself nat_cmp_total (origin_of (identity_of r)))))
+      ] refl (subst (λ (o : Option ℕ). IsAbove o i.place) (gains (origin_of i)) h)
 
   pub alone_more : AreAlone (seen ++ r ∷ []) new
   alone_more = record {

@@ -3,8 +3,7 @@ use Rattle.std.proofs.Common.{◌≡◌, ℕ, suc, ◌+◌, ◌<◌, ◌≤◌, 
 use Rattle.std.specs.Prelude.{nat_lt}
 use Rattle.std.specs.List.{list_any}
 use Rattle.std.specs.List.Sorted.{IsStrictlySortedBy}
-use Rattle.std.specs.Ordering.{nat_cmp, ordering_then, eq_by_cmp, is_eq}
-use Rattle.std.specs.Cmp.{unsigned_tied}
+use Rattle.std.specs.Ordering.{eq_by_cmp, is_eq}
 use Rattle.std.specs.declared.cmp.Ordering.{Ordering}
 use Rattle.std.specs.declared.cmp.Ordering.TheVariants.{Less, Equal, Greater}
 use borrow.Author.Tests.{ltb-true, ltb-false, lt-ltb}
@@ -13,8 +12,8 @@ use Rattle.std.proofs.lemmas.List.Kept.{IsStrictlySortedBy-filter}
 use Rattle.tca_join.specs.Sets.{by_order, has, put, in_order}
 use Rattle.tca_join.proofs.Sets.{has-in_order, rises_in_order, only_one}
 use Rattle.tca_report.specs.report.Reports.{PacketReport, report_cmp}
-use Rattle.tca_report.specs.report.Identities.{identity_of, identity_cmp}
-use Rattle.tca_report.proofs.lemmas.report.Identities.{identity_total, identity_exact}
+use Rattle.tca_report.specs.report.Identities.{identity_of, identity_cmp, identity_total}
+use Rattle.tca_report.proofs.lemmas.report.Identities.{identity_exact}
 use Rattle.tca_report.specs.declared.report.Identity.{Identity}
 use Rattle.tca_log.specs.Disputes.{has_identity, contents, disputed}
 use Rattle.tca_log.specs.Logs.{count_at}
@@ -68,28 +67,17 @@ module _ {K : Type 0} (R : K → K → Ordering) where
         | Greater ↦ λ e. filter_other p x xs q (ap is_eq e) rest
       ] refl
 
-pub is_eq_then : (a b : Ordering) → is_eq (ordering_then a b) ≡ (is_eq a && is_eq b)
-is_eq_then Less b = refl
-is_eq_then Equal b = refl
-is_eq_then Greater b = refl
-
--- a report has an identity exactly where its own ties with it
-pub has_identity_is : (i : Identity) (r : PacketReport) → has_identity i r ≡ eq_by_cmp identity_cmp i (identity_of r)
-has_identity_is i r =
-    sym (is_eq_then (nat_cmp i.domain r.domain) (nat_cmp i.place r.place) ∙ (λ j. unsigned_tied i.domain r.domain j && unsigned_tied i.place r.place j))
-
 -- a set with a new report
 pub count_put : (rs : List PacketReport) (r : PacketReport) (i : Identity) → has report_cmp rs r ≡ false → count_at (put report_cmp r rs) i ≡ count_at rs i + cond (eq_by_cmp identity_cmp i (identity_of r)) 1 0
 unfolding contents
-count_put rs r i h = length-filter_put report_cmp (has_identity i) r rs h ∙ ap (λ b. length (filter (has_identity i) rs) + cond b 1 0) (has_identity_is i r)
+count_put rs r i h = length-filter_put report_cmp (has_identity i) r rs h
 
 -- an identity is among those of a set exactly where it has a member
 pub any_member : (rs : List PacketReport) (i : Identity) → has identity_cmp (map identity_of rs) i ≡ nat_lt 0 (count_at rs i)
 unfolding has contents
 any_member [] i = refl
 any_member (r ∷ rs) i =
-    ap (λ b. b || list_any (eq_by_cmp identity_cmp i) (map identity_of rs)) (sym (has_identity_is i r))
-    ∙ elim (has_identity i r) as (λ b. (b || list_any (eq_by_cmp identity_cmp i) (map identity_of rs)) ≡ nat_lt 0 (length (cond b (r ∷ filter (has_identity i) rs) (filter (has_identity i) rs)))) [
+    elim (has_identity i r) as (λ b. (b || list_any (eq_by_cmp identity_cmp i) (map identity_of rs)) ≡ nat_lt 0 (length (cond b (r ∷ filter (has_identity i) rs) (filter (has_identity i) rs)))) [
       | true ↦ sym (lt-ltb 0 (suc (length (filter (has_identity i) rs))) (omega arith))
       | false ↦ any_member rs i
     ]

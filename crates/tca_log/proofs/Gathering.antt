@@ -1,11 +1,11 @@
 -- A list of reports that is gathered into a set.
-use Rattle.std.proofs.Common.{◌≡◌, ℕ, suc, ◌+◌, ◌<◌, ◌≤◌, ◌==◌, Bool, true, false, ◌&&◌, ◌||◌, cond, List, [], ◌∷◌, ◌++◌, length, get_or, drop, refl, sym, ap, ◌∙◌, add-one}
+use Rattle.std.proofs.Common.{◌≡◌, ℕ, suc, ◌+◌, ◌<◌, ◌≤◌, Bool, true, false, ◌||◌, cond, List, [], ◌∷◌, ◌++◌, length, get_or, drop, refl, sym, ap, ◌∙◌, add-one}
 use Rattle.std.proofs.Math.Seq.{drop-cons}
 use Rattle.std.proofs.Math.ListN.{drop_of_length-le}
 use Rattle.std.specs.List.{list_any, dedup, dedup_from}
 use Rattle.std.specs.List.Sorted.{IsPermutation, IsSorted}
-use Rattle.std.specs.Ordering.{nat_cmp, ordering_then, eq_by_cmp, is_eq}
-use Rattle.std.specs.Cmp.{IsTotalOrder, Equal-is, unsigned_tied}
+use Rattle.std.specs.Ordering.{eq_by_cmp}
+use Rattle.std.specs.Cmp.{IsTotalOrder, Equal-is}
 use Rattle.std.specs.declared.cmp.Ordering.{Ordering}
 use Rattle.std.proofs.lemmas.List.Kept.{IsStrictlySortedBy-dedup}
 use Rattle.std.proofs.lemmas.List.Sorted.{list_any-IsPermutation}
@@ -14,7 +14,6 @@ use Rattle.tca_join.specs.Sets.{has, in_order}
 use Rattle.tca_join.proofs.Sets.{has-append, has-in_order, rises_in_order, only_one, or_again}
 use Rattle.tca_join.proofs.Merge.{in_order_alike}
 use Rattle.tca_log.specs.Rows.Ordered.{without_each}
-use Rattle.tca_log.proofs.Contents.{is_eq_then}
 use Rattle.tca_log.proofs.OrderedRows.Each.{beyond_new, beyond_held, beyond_none}
 use Rattle.tca_report.specs.report.Reports.{PacketReport, report_cmp}
 use Rattle.tca_report.proofs.lemmas.report.Order.{report_total, report_exact}
@@ -41,16 +40,6 @@ module _ {K : Type 0} (R : K → K → Ordering) (o : IsTotalOrder R) (exact : C
   set_is all sorted kept moved s is =
       is ∙ only_one R o exact (dedup E sorted) (in_order R all) (IsStrictlySortedBy-dedup o ties sorted s) (rises_in_order R o all) (λ q.
       all_alike sorted q ∙ sym (list_any-IsPermutation (eq_by_cmp R q) all sorted moved) ∙ sym (has-in_order R o all q))
-
--- whether two reports agree in each field
-abbrev pub same_report : PacketReport → PacketReport → Bool
-same_report a b = (a.time == b.time) && ((a.domain == b.domain) && ((a.place == b.place) && ((a.octets == b.octets) && ((a.dscp == b.dscp) && (a.iface == b.iface)))))
-
-pub same_tied : (a b : PacketReport) → same_report a b ≡ eq_by_cmp report_cmp a b
-same_tied a b = field a.time b.time _ _ (field a.domain b.domain _ _ (field a.place b.place _ _ (field a.octets b.octets _ _ (field a.dscp b.dscp _ _ (sym (unsigned_tied a.iface b.iface))))))
-  where
-    field : (m n : ℕ) (b : Bool) (r : Ordering) → b ≡ is_eq r → ((m == n) && b) ≡ is_eq (ordering_then (nat_cmp m n) r)
-    field m n b r e = sym (is_eq_then (nat_cmp m n) r ∙ (λ i. unsigned_tied m n i && sym e i))
 
 -- a list and the set of its members have one union with the rows
 pub union_set : (rows reports : List PacketReport) → in_order report_cmp (rows ++ in_order report_cmp reports) ≡ in_order report_cmp (rows ++ reports)

@@ -10,9 +10,9 @@ use Rattle.std.proofs.lemmas.Cmp.{on_total}
 use Rattle.tca_join.specs.Sets.{has, put}
 use Rattle.tca_join.proofs.Sets.{has-put, rises_put, all_put, all_more}
 use Rattle.tca_report.specs.report.Reports.{PacketReport, report_cmp}
-use Rattle.tca_report.specs.report.Identities.{identity_of, identity_cmp}
+use Rattle.tca_report.specs.report.Identities.{identity_of, identity_cmp, identity_total}
 use Rattle.tca_report.proofs.lemmas.report.Order.{report_total, report_exact}
-use Rattle.tca_report.proofs.lemmas.report.Identities.{identity_total, identity_exact}
+use Rattle.tca_report.proofs.lemmas.report.Identities.{identity_exact}
 use Rattle.tca_report.specs.declared.report.Identity.{Identity}
 use Rattle.tca_log.specs.declared.answer.Added.TheVariants.{Fresh, Repeat, NewDispute, MoreDispute}
 use Rattle.tca_log.specs.declared.by_identity.ByIdentity.{ByIdentity}
@@ -21,7 +21,7 @@ use Rattle.tca_log.specs.Disputes.{has_identity, contents, added, added_to}
 use Rattle.tca_log.specs.Logs.{index_cmp, indexed, count_at, IsKept, IsLog, answered, index_after, disputed_after}
 use Rattle.tca_log.proofs.OrderedRows.Positions.{length_put}
 use Rattle.tca_log.proofs.OrderedRows.Search.{has_tied, put_there, tied_is, all_tied}
-use Rattle.tca_log.proofs.Contents.{tests_alike, count_put, has-disputed, disputed_rises, disputed_is, has_identity_is, has-filter}
+use Rattle.tca_log.proofs.Contents.{tests_alike, count_put, has-disputed, disputed_rises, disputed_is, has-filter}
 
 pub index_total : IsTotalOrder index_cmp
 index_total = on_total (λ b. identity_of b.report) identity_total
@@ -212,7 +212,7 @@ module _ (rs : List PacketReport) (index : List ByIdentity) (disputed_identities
   unfolding contents
   second_answer first e single =
       let there : has report_cmp rs first.report ≡ true = all_tied index_cmp index_total (λ b. has report_cmp rs b.report ≡ true) (indexed r) index first log.among e in
-      let ties : has_identity (identity_of r) first.report ≡ true = has_identity_is (identity_of r) first.report ∙ tied_is index_cmp index_total (indexed r) index first e in
+      let ties : has_identity (identity_of r) first.report ≡ true = tied_is index_cmp index_total (indexed r) index first e in
       answer_one (filter (has_identity (identity_of r)) rs) first.report (ltb-false 1 (count_at rs (identity_of r)) (sym (is_disputed_by rs index disputed_identities r log new few (identity_of r)) ∙ single))
       (has-filter report_cmp report_exact (has_identity (identity_of r)) rs first.report ∙ (λ i. ties i && there i))
 

@@ -9,16 +9,16 @@ use Rattle.std.proofs.lemmas.List.Kept.{IsStrictlySortedBy-filter}
 use Rattle.tca_join.specs.Sets.{has, put}
 use Rattle.tca_join.proofs.Sets.{has-put, rises_put, only_one}
 use Rattle.tca_report.specs.report.Reports.{PacketReport, report_cmp}
-use Rattle.tca_report.specs.report.Identities.{identity_of, identity_cmp}
+use Rattle.tca_report.specs.report.Identities.{identity_of, identity_cmp, identity_total}
 use Rattle.tca_report.proofs.lemmas.report.Order.{report_total, report_exact}
-use Rattle.tca_report.proofs.lemmas.report.Identities.{identity_total, identity_exact}
+use Rattle.tca_report.proofs.lemmas.report.Identities.{identity_exact}
 use Rattle.tca_report.specs.declared.report.Identity.{Identity}
 use Rattle.tca_log.specs.declared.answer.Added.{Added}
 use Rattle.tca_log.specs.declared.answer.Added.TheVariants.{Fresh, Repeat, NewDispute, MoreDispute}
 use Rattle.tca_log.specs.Rows.Ordered.{without}
 use Rattle.tca_log.specs.Disputes.{has_identity, contents, undisputed, disputed, added, added_to}
 use Rattle.tca_log.specs.Logs.{count_at}
-use Rattle.tca_log.proofs.Contents.{count_put, has-disputed, disputed_rises, disputed_is, has_identity_is, has-filter}
+use Rattle.tca_log.proofs.Contents.{count_put, has-disputed, disputed_rises, disputed_is, has-filter}
 use Rattle.tca_log.proofs.Logs.{same_count, first_one, second_one, further_one}
 use Rattle.tca_log.proofs.OrderedRows.Positions.{length_put, length_without}
 use Rattle.tca_log.proofs.OrderedRows.Search.{put_there}
@@ -83,14 +83,14 @@ module _ (rs : List PacketReport) (r x : PacketReport) (only : contents rs (iden
       second false b e = absurd cc
 
   same_identity : identity_of r ≡ identity_of x
-  same_identity = alike identity_cmp identity_total identity_exact (identity_of r) (identity_of x) (sym (has_identity_is (identity_of r) x) ∙ its_identity)
+  same_identity = alike identity_cmp identity_total identity_exact (identity_of r) (identity_of x) its_identity
 
   -- a member of that identity is this one
   is_it : (q : PacketReport) → eq_by_cmp identity_cmp (identity_of q) (identity_of r) ≡ true → has report_cmp rs q ≡ true → eq_by_cmp report_cmp x q ≡ true
   unfolding contents has
   is_it q t h =
       let same : identity_of q ≡ identity_of r = alike identity_cmp identity_total identity_exact (identity_of q) (identity_of r) t in
-      let own : has_identity (identity_of r) q ≡ true = has_identity_is (identity_of r) q ∙ ap (λ i. eq_by_cmp identity_cmp (identity_of r) i) same ∙ ap is_eq (tied_itself identity_total (identity_of r)) in
+      let own : has_identity (identity_of r) q ≡ true = ap (λ i. eq_by_cmp identity_cmp (identity_of r) i) same ∙ ap is_eq (tied_itself identity_total (identity_of r)) in
       let there : has report_cmp (contents rs (identity_of r)) q ≡ true = has-filter report_cmp report_exact (has_identity (identity_of r)) rs q ∙ (λ i. own i && h i) in
       let ties : eq_by_cmp report_cmp q x ≡ true = or_none (eq_by_cmp report_cmp q x) ∙ ap (λ xs. has report_cmp xs q) (sym only) ∙ there in
       let one : q ≡ x = alike report_cmp report_total report_exact q x ties in

@@ -1,11 +1,11 @@
 -- What stands twice in a list that is in order.
 use Rattle.std.proofs.Common.{◌≡◌, ℕ, zero, suc, ◌+◌, ◌-◌, ◌<◌, ◌≤◌, Bool, true, false, ◌||◌, cond, List, [], ◌∷◌, ◌++◌, length, get_or, drop, filter, map, refl, sym, ap, subst, ◌∙◌, arith, add-one, append_assoc}
-use Rattle.std.specs.Prelude.{⊤, None, nat_lt, ◌==◌, ◌&&◌}
+use Rattle.std.specs.Prelude.{⊤, None, nat_lt}
 use Rattle.std.proofs.Math.Seq.{drop-cons}
 use Rattle.std.specs.List.{AllByRecursion, list_any, dedup}
 use Rattle.std.specs.List.Sorted.{IsPermutation, IsSorted, IsStrictlySortedBy}
-use Rattle.std.specs.Ordering.{eq_by_cmp, is_eq, is_lt, nat_cmp}
-use Rattle.std.specs.Cmp.{IsTotalOrder, Equal-is, alike_right, unsigned_tied}
+use Rattle.std.specs.Ordering.{eq_by_cmp, is_eq, is_lt}
+use Rattle.std.specs.Cmp.{IsTotalOrder, Equal-is, alike_right}
 use Rattle.std.proofs.lemmas.Bool.{false≢true}
 use Rattle.std.proofs.lemmas.List.{append-nil, get_or_default, length-map}
 use Rattle.std.specs.declared.cmp.Ordering.{Ordering}
@@ -16,13 +16,13 @@ use borrow.Author.Tests.{lt-ltb}
 use Rattle.tca_join.specs.Sets.{has, in_order}
 use Rattle.tca_join.proofs.Sets.{has-in_order, rises_in_order, all_more}
 use Rattle.tca_report.specs.report.Reports.{PacketReport, report_cmp}
-use Rattle.tca_report.specs.report.Identities.{identity_of, identity_cmp}
+use Rattle.tca_report.specs.report.Identities.{identity_of, identity_cmp, identity_total}
 use Rattle.tca_report.specs.declared.report.Identity.{Identity}
-use Rattle.tca_report.proofs.lemmas.report.Identities.{identity_total, identity_exact}
+use Rattle.tca_report.proofs.lemmas.report.Identities.{identity_exact}
 use Rattle.tca_log.specs.Additions.{times}
 use Rattle.tca_log.specs.Disputes.{has_identity, contents, disputed}
 use Rattle.tca_log.specs.Logs.{count_at, IsKept}
-use Rattle.tca_log.proofs.Contents.{disputed_is, has_identity_is, is_eq_then}
+use Rattle.tca_log.proofs.Contents.{disputed_is}
 use Rattle.tca_log.proofs.Gathering.{set_is}
 use Rattle.tca_log.proofs.OrderedRows.Parts.{turned}
 use Rattle.tca_log.proofs.OrderedRows.Ranks.{below_of}
@@ -178,17 +178,12 @@ repeated_end xs at so_far all h e =
     last (y ∷ z ∷ zs) zero l = absurd (omega arith)
     last (y ∷ ys) (suc n) l = last ys n (omega arith)
 
--- two identities by their fields
-pub same_identity_is : (a b : Identity) → ((a.domain == b.domain) && (a.place == b.place)) ≡ eq_by_cmp identity_cmp a b
-same_identity_is a b = sym (is_eq_then (nat_cmp a.domain b.domain) (nat_cmp a.place b.place) ∙ (λ j. unsigned_tied a.domain b.domain j && unsigned_tied a.place b.place j))
-
 times_mapped : (rs : List PacketReport) (i : Identity) → times identity_cmp i (map identity_of rs) ≡ count_at rs i
 unfolding times contents
 times_mapped [] i = refl
 times_mapped (r ∷ rs) i =
     let rest : length (filter (eq_by_cmp identity_cmp i) (map identity_of rs)) ≡ length (filter (has_identity i) rs) = times_mapped rs i in
-    ap (λ b. length (cond b (identity_of r ∷ filter (eq_by_cmp identity_cmp i) (map identity_of rs)) (filter (eq_by_cmp identity_cmp i) (map identity_of rs)))) (sym (has_identity_is i r))
-    ∙ elim (has_identity i r) as (λ b. length (cond b (identity_of r ∷ filter (eq_by_cmp identity_cmp i) (map identity_of rs)) (filter (eq_by_cmp identity_cmp i) (map identity_of rs))) ≡ length (cond b (r ∷ filter (has_identity i) rs) (filter (has_identity i) rs))) [ true ↦ ap suc rest | false ↦ rest ]
+    elim (has_identity i r) as (λ b. length (cond b (identity_of r ∷ filter (eq_by_cmp identity_cmp i) (map identity_of rs)) (filter (eq_by_cmp identity_cmp i) (map identity_of rs))) ≡ length (cond b (r ∷ filter (has_identity i) rs) (filter (has_identity i) rs))) [ true ↦ ap suc rest | false ↦ rest ]
 
 -- the identities that stand twice among those of reports are disputed
 pub disputes_are : (rs : List PacketReport) (identities again found : List Identity) → IsPermutation (map identity_of rs) identities → ((i : Identity) → has identity_cmp again i ≡ nat_lt 1 (times identity_cmp i identities))
@@ -212,12 +207,9 @@ unfolding disputed
 disputed_few rs =
     omega (arith, filter_few (λ i. nat_lt 1 (length (contents rs i))) (in_order identity_cmp (map identity_of rs)), in_order_few identity_cmp identity_total (map identity_of rs), length-map rs identity_of)
 
--- two identities by their fields, and a sorted list of identities without its repeats
-abbrev pub same_identity : Identity → Identity → Bool
-same_identity a b = (a.domain == b.domain) && (a.place == b.place)
-
-pub found_are : (again found : List Identity) → IsSorted identity_cmp again → found ≡ dedup same_identity again → found ≡ in_order identity_cmp again
-found_are again found sorted is = set_is identity_cmp identity_total identity_exact same_identity same_identity_is again again found (IsPermutation-refl again) sorted is
+-- a sorted list of identities without its repeats
+pub found_are : (again found : List Identity) → IsSorted identity_cmp again → found ≡ dedup (eq_by_cmp identity_cmp) again → found ≡ in_order identity_cmp again
+found_are again found sorted is = set_is identity_cmp identity_total identity_exact (eq_by_cmp identity_cmp) (λ a b. refl) again again found (IsPermutation-refl again) sorted is
 
 -- a set with its disputed identities alone
 pub kept_alone : (rs : List PacketReport) (found : List Identity) → IsStrictlySortedBy report_cmp rs → length rs ≤ 4194304 → found ≡ disputed rs → IsKept rs None found

@@ -12,16 +12,16 @@ use Rattle.std.proofs.lemmas.List.Elements.{filter-append}
 use Rattle.tca_join.specs.Sets.{has, put}
 use Rattle.tca_join.proofs.Sets.{has-put, has-append, all_put, all_more, or_swap}
 use Rattle.tca_report.specs.report.Reports.{PacketReport, report_cmp}
-use Rattle.tca_report.specs.report.Identities.{identity_of, identity_cmp}
+use Rattle.tca_report.specs.report.Identities.{identity_of, identity_cmp, identity_total}
 use Rattle.tca_report.proofs.lemmas.report.Order.{report_total}
-use Rattle.tca_report.proofs.lemmas.report.Identities.{identity_total, identity_exact}
+use Rattle.tca_report.proofs.lemmas.report.Identities.{identity_exact}
 use Rattle.tca_report.specs.declared.report.Identity.{Identity}
 use Rattle.tca_log.specs.declared.by_identity.ByIdentity.{ByIdentity}
 use Rattle.tca_log.specs.Rows.Ordered.{put_each}
 use Rattle.tca_log.specs.Disputes.{has_identity, contents}
 use Rattle.tca_log.specs.Logs.{index_cmp, indexed, count_at, IsLog}
 use Rattle.tca_log.specs.Additions.{AreAdditions, AddedRows, with_report, with_reports, reports_in}
-use Rattle.tca_log.proofs.Contents.{has-disputed, has_identity_is}
+use Rattle.tca_log.proofs.Contents.{has-disputed}
 use Rattle.tca_log.proofs.OrderedRows.Parts.{or_parts}
 use Rattle.tca_log.proofs.OrderedRows.Small.{put_longest}
 use Rattle.tca_log.proofs.Logs.{index_total, one_more, one_more_there, first_one, second_one, further_one}
@@ -76,7 +76,7 @@ unfolding contents
 count_snoc rs r i =
     ap length (filter-append (has_identity i) rs (r ∷ []))
     ∙ length-append (filter (has_identity i) rs) (filter (has_identity i) (r ∷ []))
-    ∙ ap (λ n. length (filter (has_identity i) rs) + n) (one (has_identity i r) ∙ ap (λ b. cond b 1 0) (has_identity_is i r))
+    ∙ ap (λ n. length (filter (has_identity i) rs) + n) (one (has_identity i r))
   where
     one : (b : Bool) → length (cond b (r ∷ []) []) ≡ cond b 1 0
     one true = refl

@@ -9,14 +9,13 @@ use borrow.Author.Tests.{ltb-true, ltb-false, eqb-true, eq-eqb}
 use Rattle.std.proofs.lemmas.List.Kept.{IsStrictlySortedBy-filter}
 use Rattle.tca_join.specs.Sets.{has}
 use Rattle.tca_report.specs.report.Reports.{PacketReport, report_cmp}
-use Rattle.tca_report.specs.report.Identities.{identity_of, identity_cmp}
+use Rattle.tca_report.specs.report.Identities.{identity_of, identity_cmp, identity_total}
 use Rattle.tca_report.proofs.lemmas.report.Order.{report_total, report_exact}
-use Rattle.tca_report.proofs.lemmas.report.Identities.{identity_total}
 use Rattle.tca_report.specs.declared.report.Identity.{Identity}
 use Rattle.tca_log.specs.Disputes.{has_identity, contents, disputed, undisputed, settled_of}
 use Rattle.tca_log.specs.Logs.{count_at}
 use Rattle.tca_log.proofs.OrderedRows.Each.{members}
-use Rattle.tca_log.proofs.Contents.{has-disputed, has_identity_is, has-filter}
+use Rattle.tca_log.proofs.Contents.{has-disputed, has-filter}
 
 pub settled_keep : (disputed_identities : List Identity) (r : PacketReport) (rs : List PacketReport) → has identity_cmp disputed_identities (identity_of r) ≡ false → settled_of disputed_identities (r ∷ rs) ≡ r ∷ settled_of disputed_identities rs
 unfolding settled_of
@@ -43,7 +42,7 @@ none_in (x ∷ xs) r h = omega arith
 pub member_counts : (rs : List PacketReport) (r : PacketReport) → has report_cmp rs r ≡ true → 0 < count_at rs (identity_of r)
 unfolding contents
 member_counts rs r h =
-    let own : has_identity (identity_of r) r ≡ true = has_identity_is (identity_of r) r ∙ ap is_eq (tied_itself identity_total (identity_of r)) in
+    let own : has_identity (identity_of r) r ≡ true = ap is_eq (tied_itself identity_total (identity_of r)) in
     none_in (filter (has_identity (identity_of r)) rs) r (has-filter report_cmp report_exact (has_identity (identity_of r)) rs r ∙ (λ i. own i && h i))
 
 one_alone : (n : ℕ) → 0 < n → not (nat_lt 1 n) ≡ (n == 1)

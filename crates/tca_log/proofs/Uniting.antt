@@ -11,9 +11,8 @@ use Rattle.std.proofs.lemmas.List.Sorted.{IsPermutation-map, list_any-IsPermutat
 use Rattle.tca_join.specs.Sets.{has, put, in_order}
 use Rattle.tca_join.proofs.Sets.{has-append, has-in_order, rises_in_order, only_one, all_more}
 use Rattle.tca_report.specs.report.Reports.{PacketReport, report_cmp}
-use Rattle.tca_report.specs.report.Identities.{identity_of, identity_cmp}
+use Rattle.tca_report.specs.report.Identities.{identity_of, identity_cmp, identity_total}
 use Rattle.tca_report.proofs.lemmas.report.Order.{report_total}
-use Rattle.tca_report.proofs.lemmas.report.Identities.{identity_total}
 use Rattle.tca_report.specs.declared.report.Identity.{Identity}
 use Rattle.tca_log.specs.declared.by_identity.ByIdentity.{ByIdentity}
 use Rattle.tca_log.specs.Rows.Ordered.{put_each, without_each, AreApart}

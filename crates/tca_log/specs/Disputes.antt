@@ -1,5 +1,6 @@
 -- Which reports of a set dispute one another.
-use Rattle.std.specs.Prelude.{◌==◌, Bool, ◌&&◌, if◌then◌else◌, List, [], ◌∷◌, length, filter, map, nat_lt, not}
+use Rattle.std.specs.Prelude.{◌==◌, Bool, if◌then◌else◌, List, [], ◌∷◌, length, filter, map, nat_lt, not}
+use Rattle.std.specs.Ordering.{eq_by_cmp}
 use Rattle.std.specs.declared.cmp.Ordering.{Ordering}
 use Rattle.tca_join.specs.Sets.{has, in_order}
 use Rattle.tca_report.specs.report.Reports.{PacketReport, report_cmp}
@@ -12,9 +13,9 @@ use Rattle.tca_log.specs.declared.answer.Added.TheVariants.{Fresh, Repeat, NewDi
 abbrev pub by_identity_cmp : PacketReport → PacketReport → Ordering
 by_identity_cmp a b = identity_cmp (identity_of a) (identity_of b)
 
--- whether a report has this identity: the same observation domain and the same place
+-- whether a report has this identity
 abbrev pub has_identity : Identity → PacketReport → Bool
-has_identity i r = (i.domain == r.domain) && (i.place == r.place)
+has_identity i r = eq_by_cmp identity_cmp i (identity_of r)
 
 -- the members with this identity
 unfoldable pub contents : List PacketReport → Identity → List PacketReport

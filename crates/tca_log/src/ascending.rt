@@ -1,14 +1,15 @@
 //! Reports whose identities or places ascend.
 ghost use Rattle.std.specs.Prelude.{◌≡◌, true, [], IfOk};
 ghost use Rattle.tca_log.specs.Disputes.{disputed};
+ghost use Rattle.tca_log.specs.Logs.{origin_of};
 
 use crate::rows::Rows;
 use std::alloc::{AllocError, Allocator};
 use std::collections::BTreeMap;
-use tca_report::Report;
+use tca_report::{Identity, Report};
 
-/// Whether each report's identity comes after that of the report before it, as where there is one domain, whose exporter
-/// counts. Then no two have one identity. It takes no memory.
+/// Whether each report's identity comes after that of the report before it, as where there is one session of one domain,
+/// whose exporter counts. Then no two have one identity. It takes no memory.
 pub(crate) fn identities_ascend<A: Allocator + Copy>(reports: &Rows<Report, A>) -> bool
     ensures { result ≡ true → disputed reports.now.rows ≡ [] }
 {
@@ -27,8 +28,15 @@ pub(crate) fn identities_ascend<A: Allocator + Copy>(reports: &Rows<Report, A>) 
     true
 }
 
-/// Whether each report's place is above those of all reports of its domain before it, as an exporter counts. Then
-/// no two have one identity. It takes memory for one number of each domain.
+// Domain and session of an identity as one number.
+fn origin(identity: Identity) -> u64
+    ensures { result ≡ origin_of identity }
+{
+    identity.domain as u64 * 4_294_967_296 + identity.session as u64
+}
+
+/// Whether each report's place is above those of all reports of its domain and session before it, as an exporter counts.
+/// Then no two have one identity. It takes memory for two numbers of each domain and session.
 pub(crate) fn places_ascend<A: Allocator + Copy>(
     alloc: A,
     reports: &Rows<Report, A>,
@@ -38,7 +46,7 @@ pub(crate) fn places_ascend<A: Allocator + Copy>(
     let mut last = BTreeMap::new(alloc);
     for report in reports.iter() {
         let identity = report.identity();
-        if let Some(before) = last.insert(identity.domain, identity.place)? {
+        if let Some(before) = last.insert(origin(identity), identity.place)? {
             if identity.place <= before {
                 return Ok(false);
             }

@@ -1,12 +1,10 @@
 //! A report in the order of identities.
-ghost use Rattle.std.specs.Prelude.{◌≡◌, ◌+◌, ◌*◌, ◌<◌};
 ghost use Rattle.std.specs.Ordering.{is_eq};
 ghost use Rattle.std.specs.Cmp;
 ghost use Rattle.std.specs.Cmp.{eq_by_cmp_equiv, partial_order_from_agreeing_total, partial_equiv_from_equiv};
 ghost use Rattle.std.proofs.Common.{refl, Some};
 ghost use Rattle.std.proofs.lemmas.Cmp.{on_total};
-ghost use Rattle.tca_report.specs.report.Identities.{identity_of};
-ghost use Rattle.tca_report.proofs.lemmas.report.Identities.{identity_total};
+ghost use Rattle.tca_report.specs.report.Identities.{identity_of, identity_total};
 ghost use Rattle.tca_log.specs.Disputes.{by_identity_cmp};
 
 use std::cmp::Ordering;
@@ -52,15 +50,6 @@ impl Ord for ByIdentity {
     ghost matches_eq = { λ _ _. refl };
 
     fn cmp(&self, other: &ByIdentity) -> Ordering {
-        one_number(&self.report).cmp(&one_number(&other.report))
+        self.report.identity().cmp(&other.report.identity())
     }
-}
-
-// A report's identity as one number, in the order of identities: most of what sorting costs is comparing.
-fn one_number(report: &Report) -> u64
-    ensures value { result ≡ report.now.domain * 4294967296 + report.now.place }
-    ensures below { report.now.place < 4294967296 }
-{
-    let identity = report.identity();
-    identity.domain as u64 * 4_294_967_296 + identity.place as u64
 }

@@ -12,5 +12,9 @@ pub mod Rfc4115
 pub mod Rfc4115Laws
 pub mod AnyMeters
 pub mod AnyMeterLaws
+pub mod Termed
+pub mod TermedLaws
+pub mod TermsApart
+pub mod Slots
 pub mod CodePoints
 pub mod MeterSpecs

@@ -95,4 +95,13 @@ impl Meter for AnyMeter {
             AnyMeter::Rfc4115(meter) => meter.offer(state, octets, pre),
         }
     }
+
+    // The kind is matched once for both.
+    fn step(&self, state: &mut Levels, last: u64, time: u64, octets: u32, pre: Colour) -> Colour {
+        match self {
+            AnyMeter::SrTcm(meter) => meter.step(state, last, time, octets, pre),
+            AnyMeter::TrTcm(meter) => meter.step(state, last, time, octets, pre),
+            AnyMeter::Rfc4115(meter) => meter.step(state, last, time, octets, pre),
+        }
+    }
 }

@@ -1,6 +1,6 @@
 //! What a meter is: the trait and its laws.
 ghost use Rattle.std.specs.Prelude.{◌≡◌, ◌<◌, ◌≤◌, Bool};
-ghost use Rattle.tca_meters.specs.Packets.{Rule};
+ghost use Rattle.tca_meters.specs.Packets.{Rule, answer};
 ghost use Rattle.tca_meters.specs.Laws.{IsAdditive, KeepsSizes, NeverBetters, IgnoresPrecolours, RedKeeps};
 ghost use Rattle.tca_buckets.specs.Tokens.{time_end};
 
@@ -32,6 +32,27 @@ pub trait Meter {
     /// The colour of a packet of so many octets with this precolour, and the state after it.
     fn offer(&self, state: Self::State, octets: u32, pre: Colour) -> (Colour, Self::State)
         ensures { result ≡ (rule self.now).judged state octets pre };
+
+    /// The colour of a packet that comes at `time` after one of time `last`: first the tokens come in that arrive in
+    /// between, and then the packet is judged. The state becomes the one after it.
+    fn step(
+        &self,
+        state: &mut Self::State,
+        last: u64,
+        time: u64,
+        octets: u32,
+        pre: Colour,
+    ) -> Colour
+        requires order { last ≤ time }
+        requires limit { time < time_end }
+        ensures colour { result ≡ (answer (rule self.now) state.old last (record { time = time; octets = octets; pre = pre })).0 }
+        ensures after { state.new ≡ (answer (rule self.now) state.old last (record { time = time; octets = octets; pre = pre })).1 }
+    {
+        let filled = self.advance(*state, last, time);
+        let (colour, next) = self.offer(filled, octets, pre);
+        *state = next;
+        colour
+    }
 
     /// Going on to a time in two steps is going on in one.
     ghost additive: { (m : Self) → IsAdditive (rule m) };

@@ -21,6 +21,7 @@ pub fn meter_packet<M: Meter>(
     requires limit { time < time_end }
     ensures { result ≡ answer (M.rule meter.now) state last (record { time = time; octets = octets; pre = pre }) }
 {
-    let filled = meter.advance(state, last, time);
-    meter.offer(filled, octets, pre)
+    let mut next = state;
+    let colour = meter.step(&mut next, last, time, octets, pre);
+    (colour, next)
 }

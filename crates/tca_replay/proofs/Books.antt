@@ -1,5 +1,5 @@
 -- Books as reports come.
-use Rattle.std.proofs.Common.{◌≡◌, ℕ, zero, suc, ◌+◌, ◌-◌, ◌<◌, ◌≤◌, Bool, true, false, cond, List, [], ◌∷◌, length, get_or, set, filter, Option, Some, None, refl, sym, ap, subst, ◌∙◌, arith, inl, inr}
+use Rattle.std.proofs.Common.{◌≡◌, ℕ, zero, suc, ◌+◌, ◌-◌, ◌<◌, ◌≤◌, Bool, true, false, cond, List, [], ◌∷◌, length, get_or, set, Option, Some, None, refl, sym, ap, subst, ◌∙◌, arith, inl, inr}
 use Rattle.std.specs.Prelude.{map, is_none, nat_lt, Result, Ok, Err, OnOk, OnErr}
 use Rattle.std.specs.List.Sorted.{IsStrictlySortedBy}
 use Rattle.std.proofs.lemmas.Bool.{cases_eq, eq-eqb, ne_eqb}
@@ -7,7 +7,7 @@ use Rattle.std.proofs.lemmas.List.{get_or-map, length-map}
 use Rattle.tca_join.specs.Sets.{put, has, in_order, by_order}
 use Rattle.tca_report.specs.report.Reports.{PacketReport, report_cmp}
 use Rattle.tca_report.specs.report.Identities.{identity_of, identity_cmp}
-use Rattle.tca_meters.specs.declared.any_meter.AnyMeter.{AnyMeter}
+use Rattle.tca_meters.specs.Termed.{TermedMeter}
 use Rattle.std.specs.declared.cmp.Ordering.TheVariants.{Less, Equal, Greater}
 use Rattle.tca_report.specs.declared.report.Identity.{Identity}
 use Rattle.tca_log.specs.Rows.Ordered.{without}
@@ -47,7 +47,7 @@ module _ {A : Type 0} (f : A → A) where
   get_unchanged (suc n) (suc k) (x ∷ xs) d h = get_unchanged n k xs d (λ e. h (ap suc e))
 
 -- a part of the lanes, of which the changed one has another
-pub lanes_part : {T : Type 0} (part : LaneView AnyMeter → T) (f : LaneView AnyMeter → LaneView AnyMeter) (g : T → T) → ((l : LaneView AnyMeter) → part (f l) ≡ g (part l)) → (o : Option ℕ) (lanes : List (LaneView AnyMeter)) (n : ℕ) (d : LaneView AnyMeter) → n < length lanes
+pub lanes_part : {T : Type 0} (part : LaneView TermedMeter → T) (f : LaneView TermedMeter → LaneView TermedMeter) (g : T → T) → ((l : LaneView TermedMeter) → part (f l) ≡ g (part l)) → (o : Option ℕ) (lanes : List (LaneView TermedMeter)) (n : ℕ) (d : LaneView TermedMeter) → n < length lanes
     → part (get_or (lanes_at f o lanes) n d) ≡ cond (is_number n o) (g (part (get_or lanes n d))) (part (get_or lanes n d))
 lanes_part part f g e None lanes n d h = refl
 lanes_part part f g e (Some m) lanes n d h = elim (cases_eq m n) [
@@ -55,7 +55,7 @@ lanes_part part f g e (Some m) lanes n d h = elim (cases_eq m n) [
   | inr apart ↦ rw (ne_eqb m n apart) (ap part (get_unchanged f m n lanes d (λ e. apart (sym e))))
 ]
 
-pub length-lanes_at : (f : LaneView AnyMeter → LaneView AnyMeter) (o : Option ℕ) (lanes : List (LaneView AnyMeter)) → length (lanes_at f o lanes) ≡ length lanes
+pub length-lanes_at : (f : LaneView TermedMeter → LaneView TermedMeter) (o : Option ℕ) (lanes : List (LaneView TermedMeter)) → length (lanes_at f o lanes) ≡ length lanes
 length-lanes_at f None lanes = refl
 length-lanes_at f (Some n) lanes = length-changed_at f n lanes
 
@@ -70,14 +70,14 @@ changed_twice f g zero (x ∷ xs) = refl
 changed_twice f g (suc n) (x ∷ xs) = ap (λ l. x ∷ l) (changed_twice f g n xs)
 
 -- the lane of a report's account, once it has room, can take the report
-pub lane_free : (plan : AccountPlan) (r : PacketReport) (lanes : List (LaneView AnyMeter)) (n : ℕ) (d old : LaneView AnyMeter) → CanEnter plan (lanes_at lane_ready (account_of plan r) lanes) r → account_of plan r ≡ Some n → n < length lanes → old ≡ get_or lanes n d
+pub lane_free : (plan : AccountPlan) (r : PacketReport) (lanes : List (LaneView TermedMeter)) (n : ℕ) (d old : LaneView TermedMeter) → CanEnter plan (lanes_at lane_ready (account_of plan r) lanes) r → account_of plan r ≡ Some n → n < length lanes → old ≡ get_or lanes n d
     → CanPut (lane_ready old) r
 lane_free plan r lanes n d old free own h e =
     let there : CanPut (get_or (lanes_at lane_ready (account_of plan r) lanes) n d) r = free n d (omega (arith, length-lanes_at lane_ready (account_of plan r) lanes)) own in
     subst (λ l. CanPut l r) (ap (λ o. get_or (lanes_at lane_ready o lanes) n d) own ∙ get_changed lane_ready n lanes d h ∙ ap lane_ready (sym e)) there
 
 -- lanes keep their accounts
-pub lanes_kept : (plan : AccountPlan) (k : ℕ) (f : LaneView AnyMeter → LaneView AnyMeter) → ((l : LaneView AnyMeter) → terms_of (f l) ≡ terms_of l) → (o : Option ℕ) (lanes : List (LaneView AnyMeter)) → AreLanes plan k lanes → AreLanes plan k (lanes_at f o lanes)
+pub lanes_kept : (plan : AccountPlan) (k : ℕ) (f : LaneView TermedMeter → LaneView TermedMeter) → ((l : LaneView TermedMeter) → terms_of (f l) ≡ terms_of l) → (o : Option ℕ) (lanes : List (LaneView TermedMeter)) → AreLanes plan k lanes → AreLanes plan k (lanes_at f o lanes)
 lanes_kept plan k f terms o lanes a = record {
   count = length-lanes_at f o lanes ∙ a.count;
   each = λ n p l h.
@@ -85,7 +85,7 @@ lanes_kept plan k f terms o lanes a = record {
       lanes_part terms_of f (λ x. x) terms o lanes n l inside ∙ same_cond (is_number n o) _ ∙ a.each n p l h;
 }
 
-pub lanes_resumed : (plan : AccountPlan) (k : ℕ) (lanes : List (LaneView AnyMeter)) → AreLanes plan k lanes → AreLanes plan k (map lane_resumed lanes)
+pub lanes_resumed : (plan : AccountPlan) (k : ℕ) (lanes : List (LaneView TermedMeter)) → AreLanes plan k lanes → AreLanes plan k (map lane_resumed lanes)
 lanes_resumed plan k lanes a = record {
   count = length-map lanes lane_resumed ∙ a.count;
   each = λ n p l h.
@@ -114,7 +114,7 @@ module _ (b : BookView) (rs : List PacketReport) (fits : Fits rs b) where
         ap (λ x. x.rows) (get_or-map lane_resumed b.lanes n l l inside) ∙ fits.rows n l inside;
   }
 
-  rows_after : (a : Added) (r : PacketReport) (n : ℕ) (l : LaneView AnyMeter) → n < length (lanes_after b.plan a r b.lanes) → (get_or (lanes_after b.plan a r b.lanes) n l).rows ≡ kept_after (λ q. is_number n (account_of b.plan q)) a r (reports_of b.plan n rs)
+  rows_after : (a : Added) (r : PacketReport) (n : ℕ) (l : LaneView TermedMeter) → n < length (lanes_after b.plan a r b.lanes) → (get_or (lanes_after b.plan a r b.lanes) n l).rows ≡ kept_after (λ q. is_number n (account_of b.plan q)) a r (reports_of b.plan n rs)
   rows_after Fresh r n l h =
       let inside : n < length b.lanes = omega (arith, length-lanes_at (λ x. lane_put x r) (account_of b.plan r) b.lanes) in
       lanes_part (λ x. x.rows) (λ x. lane_put x r) (put report_cmp r) (λ x. refl) (account_of b.plan r) b.lanes n l inside
@@ -185,7 +185,7 @@ module _ (b : BookView) (r : PacketReport) (a : Added) (t : Takes b r a) where
   pub unassigned_few : b.unassigned ≤ b.reports
   unassigned_few = omega (arith, t.fits.unassigned_is, t.fits.reports, filter_few (λ q. is_none (account_of b.plan q)) (undisputed t.set), undisputed_few t.set)
 
-  lane_few : (n : ℕ) (l : LaneView AnyMeter) → n < length b.lanes → length (get_or b.lanes n l).rows ≤ b.reports
+  lane_few : (n : ℕ) (l : LaneView TermedMeter) → n < length b.lanes → length (get_or b.lanes n l).rows ≤ b.reports
   lane_few n l h = omega (arith, ap length (t.fits.rows n l h), t.fits.reports, filter_few (λ q. is_number n (account_of b.plan q)) (undisputed t.set), undisputed_few t.set)
 
   fewer : a ≡ Fresh → length t.set < 4194304

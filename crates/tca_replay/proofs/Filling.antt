@@ -11,7 +11,7 @@ use Rattle.std.proofs.lemmas.List.Elements.{filter-append}
 use Rattle.tca_join.specs.Sets.{put, has}
 use Rattle.tca_report.specs.report.Reports.{PacketReport, report_cmp}
 use Rattle.tca_report.proofs.lemmas.report.Order.{report_total, report_exact}
-use Rattle.tca_meters.specs.declared.any_meter.AnyMeter.{AnyMeter}
+use Rattle.tca_meters.specs.Termed.{TermedMeter}
 use Rattle.tca_log.proofs.OrderedRows.Parts.{below_since, has_below, put_past, rises_front}
 use Rattle.tca_accounts.specs.Plans.{AccountPlan, account_of}
 use Rattle.tca_accounts.specs.Bills.{is_number}
@@ -70,20 +70,20 @@ same_pairs true r q h = put_changed r q.0 q.1 h
 same_pairs false r q h = h
 
 module _ (plan : AccountPlan) (k : ℕ) (all : List PacketReport) where
-  pub filled_none : (lanes : List (LaneView AnyMeter)) → AreLanes plan k lanes → AreEmpty lanes → AreFilled plan k all all 0 lanes
+  pub filled_none : (lanes : List (LaneView TermedMeter)) → AreLanes plan k lanes → AreEmpty lanes → AreFilled plan k all all 0 lanes
   filled_none lanes a e = record {
     sofar = [];
     split = refl;
     lanes_are = a;
-    rows = λ n l h. (all_at (λ (x : LaneView AnyMeter). (x.rows ≡ []) × (x.changed ≡ None)) n lanes l e h).0;
+    rows = λ n l h. (all_at (λ (x : LaneView TermedMeter). (x.rows ≡ []) × (x.changed ≡ None)) n lanes l e h).0;
     none = refl;
     changed = λ n l h.
-        let none = all_at (λ (x : LaneView AnyMeter). (x.rows ≡ []) × (x.changed ≡ None)) n lanes l e h in
+        let none = all_at (λ (x : LaneView TermedMeter). (x.rows ≡ []) × (x.changed ≡ None)) n lanes l e h in
         rw (none.1) (none.0);
   }
 
-  module _ (x : PacketReport) (rest : List PacketReport) (number : ℕ) (lanes : List (LaneView AnyMeter)) (f : AreFilled plan k all (x ∷ rest) number lanes) (rises : IsStrictlySortedBy report_cmp all) where
-    abbrev ready_lanes : List (LaneView AnyMeter)
+  module _ (x : PacketReport) (rest : List PacketReport) (number : ℕ) (lanes : List (LaneView TermedMeter)) (f : AreFilled plan k all (x ∷ rest) number lanes) (rises : IsStrictlySortedBy report_cmp all) where
+    abbrev ready_lanes : List (LaneView TermedMeter)
     ready_lanes = lanes_at lane_ready (account_of plan x) lanes
 
     whole : IsStrictlySortedBy report_cmp (f.sofar ++ (x ∷ rest))
@@ -95,7 +95,7 @@ module _ (plan : AccountPlan) (k : ℕ) (all : List PacketReport) where
     pub still_lanes : AreLanes plan k ready_lanes
     still_lanes = lanes_kept plan k lane_ready (λ l. refl) (account_of plan x) lanes f.lanes_are
 
-    rows_ready : (n : ℕ) (l : LaneView AnyMeter) → n < length ready_lanes → (get_or ready_lanes n l).rows ≡ filter (λ r. is_number n (account_of plan r)) f.sofar
+    rows_ready : (n : ℕ) (l : LaneView TermedMeter) → n < length ready_lanes → (get_or ready_lanes n l).rows ≡ filter (λ r. is_number n (account_of plan r)) f.sofar
     rows_ready n l h =
         let inside : n < length lanes = omega (arith, length-lanes_at lane_ready (account_of plan x) lanes) in
         lanes_part (λ l. l.rows) lane_ready (λ l. l) (λ l. refl) (account_of plan x) lanes n l inside ∙ same_cond (is_number n (account_of plan x)) _ ∙ f.rows n l inside
@@ -124,7 +124,7 @@ module _ (plan : AccountPlan) (k : ℕ) (all : List PacketReport) where
           ∙ filter_last f.sofar x rest whole (λ r. is_number n (account_of plan r));
       none = omega (arith, f.none, length-one f.sofar x rest whole (λ r. is_none (account_of plan r)));
       changed = λ n l h.
-          let part : LaneView AnyMeter → Option ℕ × List PacketReport = λ l. (l.changed, l.rows) in
+          let part : LaneView TermedMeter → Option ℕ × List PacketReport = λ l. (l.changed, l.rows) in
           let inside : n < length ready_lanes = omega (arith, length-lanes_at (λ l. lane_put l x) (account_of plan x) ready_lanes) in
           let before : n < length lanes = omega (arith, length-lanes_at lane_ready (account_of plan x) lanes) in
           let still : part (get_or ready_lanes n l) ≡ part (get_or lanes n l) = lanes_part part lane_ready (λ q. q) (λ l. refl) (account_of plan x) lanes n l before ∙ same_cond (is_number n (account_of plan x)) _ in
@@ -132,7 +132,7 @@ module _ (plan : AccountPlan) (k : ℕ) (all : List PacketReport) where
           subst (λ (q : Option ℕ × List PacketReport). AllChanged q.0 q.1) (sym next) (same_pairs (is_number n (account_of plan x)) x (part (get_or ready_lanes n l)) (subst (λ (q : Option ℕ × List PacketReport). AllChanged q.0 q.1) (sym still) (f.changed n l before)));
     }
 
-pub fits_filled : (plan : AccountPlan) (k : ℕ) (rs : List PacketReport) (number : ℕ) (lanes : List (LaneView AnyMeter)) → AreFilled plan k (undisputed rs) [] number lanes → Fits rs (record { plan = plan; k = k; lanes = lanes; reports = length rs; disputed = length (disputed rs); unassigned = number })
+pub fits_filled : (plan : AccountPlan) (k : ℕ) (rs : List PacketReport) (number : ℕ) (lanes : List (LaneView TermedMeter)) → AreFilled plan k (undisputed rs) [] number lanes → Fits rs (record { plan = plan; k = k; lanes = lanes; reports = length rs; disputed = length (disputed rs); unassigned = number })
 fits_filled plan k rs number lanes f =
     let done : f.sofar ≡ undisputed rs = sym (append-nil f.sofar) ∙ f.split in
     record {
@@ -142,12 +142,12 @@ fits_filled plan k rs number lanes f =
       rows = λ n l h. f.rows n l h ∙ ap (filter (λ r. is_number n (account_of plan r))) done;
     }
 
-changed_all : (o : Option ℕ) (rows : List PacketReport) (l : LaneView AnyMeter) → l.rows ≡ rows → AllChanged o rows → changed_rows l o ≡ length rows
+changed_all : (o : Option ℕ) (rows : List PacketReport) (l : LaneView TermedMeter) → l.rows ≡ rows → AllChanged o rows → changed_rows l o ≡ length rows
 changed_all None rows l is none = rw none refl
 changed_all (Some p) rows l is first = omega (arith, first, ap length is)
 
 -- where all rows changed, all are metered
-pub row_counts : (lanes : List (LaneView AnyMeter)) → ((n : ℕ) (l : LaneView AnyMeter) → n < length lanes → AllChanged (get_or lanes n l).changed (get_or lanes n l).rows) → row_count (map lane_resumed lanes) ≡ fewest_steps lanes
+pub row_counts : (lanes : List (LaneView TermedMeter)) → ((n : ℕ) (l : LaneView TermedMeter) → n < length lanes → AllChanged (get_or lanes n l).changed (get_or lanes n l).rows) → row_count (map lane_resumed lanes) ≡ fewest_steps lanes
 row_counts [] h = refl
 row_counts (l ∷ lanes) h =
-    omega (arith, row_counts lanes (λ n d i. h (suc n) d (omega arith)), changed_all l.changed l.rows l refl (h zero l (omega arith)), sum_by-cons (λ (x : LaneView AnyMeter). changed_rows x x.changed) l lanes, sum_by-cons (λ (x : LaneView AnyMeter). length x.rows) (lane_resumed l) (map lane_resumed lanes))
+    omega (arith, row_counts lanes (λ n d i. h (suc n) d (omega arith)), changed_all l.changed l.rows l refl (h zero l (omega arith)), sum_by-cons (λ (x : LaneView TermedMeter). changed_rows x x.changed) l lanes, sum_by-cons (λ (x : LaneView TermedMeter). length x.rows) (lane_resumed l) (map lane_resumed lanes))

@@ -5,7 +5,7 @@ use Rattle.std.specs.List.{AllByRecursion}
 use Rattle.std.proofs.lemmas.Bool.{cases_lt}
 use Rattle.std.proofs.lemmas.List.{length_push, get_or_push, get_or_append_left}
 use Rattle.std.proofs.lemmas.List.Sums.{sum_by-cons}
-use Rattle.tca_meters.specs.declared.any_meter.AnyMeter.{AnyMeter}
+use Rattle.tca_meters.specs.Termed.{TermedMeter}
 use Rattle.tca_meters.specs.declared.colour.Colour.{Colour}
 use Rattle.tca_accounts.specs.Plans.{AccountPlan, PlannedAccount}
 use Rattle.tca_replay.specs.Lanes.{LaneView, lane_resumed}
@@ -65,18 +65,18 @@ module _ {A : Type 0} (g : A → ℕ) where
   sum_all (suc n) [] h = refl
   sum_all (suc n) (x ∷ xs) h = omega (arith, sum_all n xs (omega arith), sum_by-cons g x xs)
 
-steps_by : (l : LaneView AnyMeter) (o : Option ℕ) (s : ℕ) → (o ≡ None → s ≡ 0) → IfSome o (λ p. s + p ≤ length l.rows + l.k) → s ≤ steps_of l o
+steps_by : (l : LaneView TermedMeter) (o : Option ℕ) (s : ℕ) → (o ≡ None → s ≡ 0) → IfSome o (λ p. s + p ≤ length l.rows + l.k) → s ≤ steps_of l o
 steps_by l None s none some = let e : s ≡ 0 = none refl in omega arith
 steps_by l (Some p) s none some = omega (arith, some)
 
-pub steps_bound : (l : LaneView AnyMeter) (s : ℕ) → (l.changed ≡ None → s ≡ 0) → IfSome l.changed (λ p. s + p ≤ length l.rows + l.k) → s ≤ steps_of l l.changed
+pub steps_bound : (l : LaneView TermedMeter) (s : ℕ) → (l.changed ≡ None → s ≡ 0) → IfSome l.changed (λ p. s + p ≤ length l.rows + l.k) → s ≤ steps_of l l.changed
 steps_bound l s none some = steps_by l l.changed s none some
 
-rows_by : (l : LaneView AnyMeter) (o : Option ℕ) (s : ℕ) → IfSome o (λ p. length l.rows ≤ s + p) → changed_rows l o ≤ s
+rows_by : (l : LaneView TermedMeter) (o : Option ℕ) (s : ℕ) → IfSome o (λ p. length l.rows ≤ s + p) → changed_rows l o ≤ s
 rows_by l None s all = omega arith
 rows_by l (Some p) s all = omega (arith, all)
 
-pub rows_bound : (l : LaneView AnyMeter) (s : ℕ) → IfSome l.changed (λ p. length l.rows ≤ s + p) → changed_rows l l.changed ≤ s
+pub rows_bound : (l : LaneView TermedMeter) (s : ℕ) → IfSome l.changed (λ p. length l.rows ≤ s + p) → changed_rows l l.changed ≤ s
 rows_bound l s all = rows_by l l.changed s all
 
 -- what holds of all holds at a place
@@ -99,19 +99,19 @@ pub map_more : {A B : Type 0} (f : A → B) (n : ℕ) (xs : List A) (d : A) → 
 map_more f n xs d h = rw add-one (ap (map f) (take_suc n xs d h) ∙ map_snoc f (take n xs) (get_or xs n d))
 
 -- the lanes of the first accounts
-pub record AreFirst (plan : AccountPlan) (marks n : ℕ) (lanes : List (LaneView AnyMeter)) : Type 0 where
+pub record AreFirst (plan : AccountPlan) (marks n : ℕ) (lanes : List (LaneView TermedMeter)) : Type 0 where
   pub count : length lanes ≡ n
-  pub each : (k : ℕ) (a : PlannedAccount) (l : LaneView AnyMeter) → k < n → IsLaneOf plan.period marks (get_or plan.accounts k a) (get_or lanes k l)
+  pub each : (k : ℕ) (a : PlannedAccount) (l : LaneView TermedMeter) → k < n → IsLaneOf plan.period marks (get_or plan.accounts k a) (get_or lanes k l)
   pub empty : AreEmpty lanes
 
-pub none_first : (plan : AccountPlan) (marks : ℕ) (lanes : List (LaneView AnyMeter)) → lanes ≡ [] → AreFirst plan marks 0 lanes
+pub none_first : (plan : AccountPlan) (marks : ℕ) (lanes : List (LaneView TermedMeter)) → lanes ≡ [] → AreFirst plan marks 0 lanes
 none_first plan marks lanes is = rw is (record { count = refl; each = λ k a l h. absurd (omega arith); empty = tt })
 
-pub first_more : (plan : AccountPlan) (marks n : ℕ) (lanes : List (LaneView AnyMeter)) (meter : AnyMeter) (other : Colour) → AreFirst plan marks n lanes → n < length plan.accounts
+pub first_more : (plan : AccountPlan) (marks n : ℕ) (lanes : List (LaneView TermedMeter)) (meter : TermedMeter) (other : Colour) → AreFirst plan marks n lanes → n < length plan.accounts
     → slice_get (map (λ a. a.meter) plan.accounts) n ≡ Some meter → slice_get (map (λ a. a.other) plan.accounts) n ≡ Some other
     → AreFirst plan marks (n + 1) (lanes ++ record { meter = meter; other = other; period = plan.period; k = marks; rows = []; changed = None; ready = false } ∷ [])
 first_more plan marks n lanes meter other b inside meter-is other-is =
-    let new : LaneView AnyMeter = record { meter = meter; other = other; period = plan.period; k = marks; rows = []; changed = None; ready = false } in
+    let new : LaneView TermedMeter = record { meter = meter; other = other; period = plan.period; k = marks; rows = []; changed = None; ready = false } in
     record {
       count = length_push lanes new ∙ ap (λ m. m + 1) b.count;
       each = λ k a l h. elim (cases_lt k n) [
@@ -126,10 +126,10 @@ first_more plan marks n lanes meter other b inside meter-is other-is =
     }
 
 -- lanes that are resumed keep their rows
-pub resumed_steps : (lanes : List (LaneView AnyMeter)) → most_steps lanes ≤ all_steps (map lane_resumed lanes)
+pub resumed_steps : (lanes : List (LaneView TermedMeter)) → most_steps lanes ≤ all_steps (map lane_resumed lanes)
 resumed_steps [] = omega arith
 resumed_steps (l ∷ lanes) =
-    omega (arith, resumed_steps lanes, one_lane l.changed, sum_by-cons (λ (x : LaneView AnyMeter). steps_of x x.changed) l lanes, sum_by-cons (λ (x : LaneView AnyMeter). length x.rows + x.k) (lane_resumed l) (map lane_resumed lanes))
+    omega (arith, resumed_steps lanes, one_lane l.changed, sum_by-cons (λ (x : LaneView TermedMeter). steps_of x x.changed) l lanes, sum_by-cons (λ (x : LaneView TermedMeter). length x.rows + x.k) (lane_resumed l) (map lane_resumed lanes))
   where
     one_lane : (o : Option ℕ) → steps_of l o ≤ length l.rows + l.k
     one_lane None = omega arith

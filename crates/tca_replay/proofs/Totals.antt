@@ -5,8 +5,7 @@ use Rattle.std.specs.List.{enumerate_from}
 use Rattle.std.proofs.lemmas.List.FromFn.{get_or-enumerate_from, length-enumerate_from}
 use Rattle.tca_join.specs.Sets.{in_order}
 use Rattle.tca_report.specs.report.Reports.{PacketReport}
-use Rattle.tca_meters.specs.declared.any_meter.AnyMeter.{AnyMeter}
-use Rattle.tca_meters.specs.AnyMeters.{any_rule}
+use Rattle.tca_meters.specs.Termed.{TermedMeter, termed_rule}
 use Rattle.tca_log.specs.Disputes.{undisputed, disputed}
 use Rattle.tca_accounts.specs.Plans.{AccountPlan, PlannedAccount}
 use Rattle.tca_accounts.specs.Bills.{coloured_by, coloured_in, reports_of, tally_of, bill_of}
@@ -16,28 +15,28 @@ use Rattle.tca_replay.specs.Books.{BookView, Fits, AreLanes, AreEmpty, AreSettle
 use Rattle.tca_accounts.proofs.Bills.{same_maps}
 use Rattle.tca_replay.proofs.Loops.{all_at}
 
-pub settled_all : (lanes : List (LaneView AnyMeter)) → AreSettled (map lane_resumed lanes)
+pub settled_all : (lanes : List (LaneView TermedMeter)) → AreSettled (map lane_resumed lanes)
 settled_all [] = tt
 settled_all (l ∷ lanes) = (refl, settled_all lanes)
 
-pub empty_settled : (lanes : List (LaneView AnyMeter)) → AreEmpty lanes → AreSettled lanes
+pub empty_settled : (lanes : List (LaneView TermedMeter)) → AreEmpty lanes → AreSettled lanes
 empty_settled [] a = tt
 empty_settled (l ∷ lanes) a = (a.0.1, empty_settled lanes a.1)
 
-pub fits_nothing : (plan : AccountPlan) (k : ℕ) (lanes : List (LaneView AnyMeter)) → AreEmpty lanes → Fits [] (record { plan = plan; k = k; lanes = lanes; reports = 0; disputed = 0; unassigned = 0 })
+pub fits_nothing : (plan : AccountPlan) (k : ℕ) (lanes : List (LaneView TermedMeter)) → AreEmpty lanes → Fits [] (record { plan = plan; k = k; lanes = lanes; reports = 0; disputed = 0; unassigned = 0 })
 unfolding undisputed disputed in_order
 fits_nothing plan k lanes a = record {
   reports = refl;
   disputed_is = refl;
   unassigned_is = refl;
-  rows = λ n l h. (all_at (λ (x : LaneView AnyMeter). (x.rows ≡ []) × (x.changed ≡ None)) n lanes l a h).0;
+  rows = λ n l h. (all_at (λ (x : LaneView TermedMeter). (x.rows ≡ []) × (x.changed ≡ None)) n lanes l a h).0;
 }
 
 module _ (b : BookView) (a : AreLanes b.plan b.k b.lanes) (rs : List PacketReport) (fits : Fits rs b) where
-  tally_at_place : (k : ℕ) (l : LaneView AnyMeter) (p : PlannedAccount) → k < length b.lanes → lane_tally (get_or b.lanes k l) ≡ tally_of b.plan.period (coloured_in (get_or b.plan.accounts k p) (reports_of b.plan k rs))
+  tally_at_place : (k : ℕ) (l : LaneView TermedMeter) (p : PlannedAccount) → k < length b.lanes → lane_tally (get_or b.lanes k l) ≡ tally_of b.plan.period (coloured_in (get_or b.plan.accounts k p) (reports_of b.plan k rs))
   tally_at_place k l p h =
       let is = a.each k p l (omega (arith, a.count)) in
-      λ i. tally_of (is i).2 (coloured_by (any_rule (is i).0) (is i).1 (fits.rows k l h i))
+      λ i. tally_of (is i).2 (coloured_by (termed_rule (is i).0) (is i).1 (fits.rows k l h i))
 
   tallies_are : map lane_tally b.lanes ≡ map (λ p. tally_of b.plan.period (coloured_in p.1 (reports_of b.plan p.0 rs))) (enumerate_from 0 b.plan.accounts)
   tallies_are =

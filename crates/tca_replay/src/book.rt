@@ -15,7 +15,7 @@ use std::alloc::{AllocError, Allocator, Global};
 use std::marker::Model;
 use tca_accounts::{Bill, Plan, Tallies, Tally};
 use tca_log::{Added, Log};
-use tca_meters::AnyMeter;
+use tca_meters::Termed;
 use tca_report::Report;
 
 /// A lane for each account of a plan, and the counts of the bill.
@@ -27,7 +27,7 @@ use tca_report::Report;
 pub struct Book<A: Allocator + Copy = Global> {
     plan: Plan,
     k: u32,
-    lanes: Vec<Lane<AnyMeter, A>, A>,
+    lanes: Vec<Lane<Termed, A>, A>,
     reports: u32,
     disputed: u32,
     unassigned: u32,
@@ -173,7 +173,7 @@ fn lanes_of<A: Allocator + Copy>(
     alloc: A,
     plan: &Plan,
     k: u32,
-) -> Result<Vec<Lane<AnyMeter, A>, A>, AllocError>
+) -> Result<Vec<Lane<Termed, A>, A>, AllocError>
     requires some_rows { 0 < k }
     requires few_rows { k ≤ 65536 }
     ensures lanes { IfOk result (λ lanes. AreLanes plan.now k lanes.items) }
@@ -188,7 +188,7 @@ fn lanes_of<A: Allocator + Copy>(
 }
 
 // Resumes each lane. The answer is how many rows were metered.
-fn resume_all<A: Allocator + Copy>(lanes: &mut Vec<Lane<AnyMeter, A>, A>) -> u64
+fn resume_all<A: Allocator + Copy>(lanes: &mut Vec<Lane<Termed, A>, A>) -> u64
     ensures lanes { lanes.new.items ≡ map lane_resumed lanes.old.items }
     ensures steps { result ≤ most_steps lanes.old.items }
     ensures all { min (fewest_steps lanes.old.items) (2 ^ 64 - 1) ≤ result }
@@ -204,7 +204,7 @@ fn resume_all<A: Allocator + Copy>(lanes: &mut Vec<Lane<AnyMeter, A>, A>) -> u64
 // The tally of each lane.
 fn tallies<A: Allocator + Copy>(
     alloc: Global,
-    lanes: &[Lane<AnyMeter, A>],
+    lanes: &[Lane<Termed, A>],
 ) -> Result<Vec<Tally>, AllocError>
     requires { AreSettled lanes.now }
     ensures { IfOk result (λ list. list.items ≡ map lane_tally lanes.now) }
@@ -219,7 +219,7 @@ fn tallies<A: Allocator + Copy>(
 // Puts a report into the lane of its account. The answer is 1 where no account owns it, else 0.
 fn enter<A: Allocator + Copy>(
     plan: &Plan,
-    lanes: &mut Vec<Lane<AnyMeter, A>, A>,
+    lanes: &mut Vec<Lane<Termed, A>, A>,
     report: Report,
 ) -> u32
     requires lanes { length lanes.old.items ≡ length plan.now.accounts }
@@ -238,7 +238,7 @@ fn enter<A: Allocator + Copy>(
 // Takes a report from the lane of its account. The answer is 1 where no account owns it, else 0.
 fn leave<A: Allocator + Copy>(
     plan: &Plan,
-    lanes: &mut Vec<Lane<AnyMeter, A>, A>,
+    lanes: &mut Vec<Lane<Termed, A>, A>,
     report: &Report,
 ) -> u32
     requires lanes { length lanes.old.items ≡ length plan.now.accounts }
@@ -257,7 +257,7 @@ fn leave<A: Allocator + Copy>(
 // Makes room in the lane of a report's account.
 fn make_room<A: Allocator + Copy>(
     plan: &Plan,
-    lanes: &mut Vec<Lane<AnyMeter, A>, A>,
+    lanes: &mut Vec<Lane<Termed, A>, A>,
     report: &Report,
 ) -> Result<(), AllocError>
     requires lanes { length lanes.old.items ≡ length plan.now.accounts }
@@ -275,7 +275,7 @@ fn make_room<A: Allocator + Copy>(
 // no account owns it, else 0.
 fn fill<A: Allocator + Copy>(
     plan: &Plan,
-    lanes: &mut Vec<Lane<AnyMeter, A>, A>,
+    lanes: &mut Vec<Lane<Termed, A>, A>,
     report: &Report,
 ) -> Result<u32, AllocError>
     requires lanes { length lanes.old.items ≡ length plan.now.accounts }
@@ -298,7 +298,7 @@ fn lanes_with<A: Allocator + Copy>(
     plan: &Plan,
     k: u32,
     log: &Log,
-) -> Result<(Vec<Lane<AnyMeter, A>, A>, u32), AllocError>
+) -> Result<(Vec<Lane<Termed, A>, A>, u32), AllocError>
     requires some_rows { 0 < k }
     requires few_rows { k ≤ 65536 }
     ensures { IfOk result (λ p. AreFilled plan.now k (disputes.undisputed log.now) [] p.1 p.0.items) }

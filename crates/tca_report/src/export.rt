@@ -1,6 +1,6 @@
 //! The log export: its limit, its faults and its law.
-ghost use Rattle.std.specs.Prelude.{◌≡◌, List};
-ghost use Rattle.tca_report.specs.export.Spelling.{IsExportable, export};
+ghost use Rattle.std.specs.Prelude.{◌≡◌, List, ℕ};
+ghost use Rattle.tca_report.specs.export.Spelling.{IsExport};
 ghost use Rattle.tca_report.specs.Faults.{export_number};
 ghost use Rattle.tca_report.specs.report.Reports.{PacketReport};
 
@@ -14,14 +14,23 @@ pub use writing::write_export;
 // How many reports one export may have.
 pub(crate) const MOST_REPORTS: u32 = 4_194_304;
 
+/// A version of the log export.
+#[derive(Clone, Copy)]
+pub(crate) enum Format {
+    /// Version 1, which spells no session: its reports are of session 0.
+    Version1,
+    /// Version 2, which spells a session for each report.
+    Version2,
+}
+
 /// What is wrong with an export: the first fault from the left.
 #[derive(Clone, Copy, Debug, PartialEq, Eq, Error)]
 pub enum ExportFault {
     /// The first four octets are not `TCAX`.
     #[error("the export does not begin with TCAX")]
     Magic,
-    /// The version is not 1.
-    #[error("the export has version {0}, not 1")]
+    /// The version is neither 1 nor 2.
+    #[error("the export has version {0}, neither 1 nor 2")]
     Version(u16),
     /// The count is above 4,194,304, or octets follow the last report.
     #[error("the export counts more than 4194304 reports, or octets follow its last report")]
@@ -57,8 +66,7 @@ impl ExportFault {
     }
 }
 
-/// The law of the format: no two lists of reports have the same octets.
+/// The law of the format: no two lists of reports have the same octets, in whichever versions.
 pub fn spelling_is_unique()
-    ensures { (a b : List PacketReport) → IsExportable a → IsExportable b
-        → export a ≡ export b → a ≡ b }
+    ensures { (octets : List ℕ) (a b : List PacketReport) → IsExport octets a → IsExport octets b → a ≡ b }
 {}

@@ -1,12 +1,12 @@
 //! Inputs: log exports and captures.
-ghost use Rattle.std.specs.Prelude.{◌≡◌, ◌≢◌, ◌<◌, ◌≤◌, List, ℕ, Ok, Err, IfErr, IsErrOf, IsTrue, length, true};
+ghost use Rattle.std.specs.Prelude.{◌≡◌, ◌≢◌, ◌<◌, ◌≤◌, List, ℕ, Ok, Err, IfErr, IsErrOf, IsTrue, length, false, true};
 ghost use Rattle.std.specs.List.{AllByRecursion};
 ghost use Rattle.tca_wire.specs.Results.{Gives};
 ghost use Rattle.tca_report.specs.Faults.{input_number};
 ghost use Rattle.tca_report.specs.report.Reports.{PacketReport};
-ghost use Rattle.tca_report.specs.export.Spelling.{IsExportable, export};
+ghost use Rattle.tca_report.specs.export.Spelling.{IsExport};
 ghost use Rattle.tca_report.specs.export.FirstFaults.{IsFaultyExport};
-ghost use Rattle.tca_report.specs.input.Inputs.{CaptureSoFar, input_of, is_export, nothing};
+ghost use Rattle.tca_report.specs.input.Inputs.{CaptureSoFar, InputView, input_view, is_export, nothing, read_input};
 ghost use Rattle.tca_report.specs.input.Captures.{IsInput};
 ghost use Rattle.tca_report.specs.input.FirstFaults.{IsFirstFault};
 ghost use Rattle.tca_report.specs.input.Wants.{WantsMemory};
@@ -25,6 +25,16 @@ use std::alloc::{AllocFailed, Global};
 use tca_templates::DecodeFault;
 use tca_wire::WireFault;
 use thiserror::Error;
+
+/// An input: a log export or a capture.
+#[derive(Drop)]
+pub struct Input {
+    /// The number of the transport session that a capture's messages are of (RFC 7011, section 2), as the operator gives
+    /// it. For a log export it has no effect.
+    pub session: u32,
+    /// All octets.
+    pub octets: Vec<u8>,
+}
 
 /// What an input held beside its reports. All are 0 for a log export.
 #[derive(Clone, Copy, Debug, PartialEq, Eq)]
@@ -88,10 +98,20 @@ impl InputFault {
     }
 }
 
+impl Input {
+    /// Whether another input is the same: octet for octet, and of the same session.
+    pub fn is_same(&self, other: &Input) -> bool
+        ensures same { result ≡ true → input_view self.now ≡ input_view other.now }
+        ensures other { result ≡ false → input_view self.now ≢ input_view other.now }
+    {
+        self.session == other.session && self.octets == other.octets
+    }
+}
+
 impl Notes {
     // The notes of an input that held its reports alone.
     pub(crate) fn none() -> Notes
-        ensures { result ≡ notes_of nothing }
+        ensures { result ≡ notes_of (nothing 0) }
     {
         Notes {
             messages: 0,
@@ -117,29 +137,30 @@ fn has_magic(octets: &[u8]) -> bool
 /// Reads an input: a log export where its first four octets are `TCAX`, else a capture, which is IPFIX messages
 /// one after the other, as a file of RFC 5655 has them.
 ///
-/// All messages of a capture are of one transport session, which knows no template at first. A data record that is
-/// a report is among the reports, in the order of the input; each other is counted in the notes.
+/// All messages of a capture are of one transport session (RFC 7011, section 2), which has this number and knows no
+/// template at first. For a log export the session has no effect: the reports have the sessions that it spells. A data
+/// record that is a report is among the reports, in the order of the input; each other is counted in the notes.
 ///
 /// The first fault from the left refuses the whole input: that of a message's header or of its sets' lengths before
 /// one of its templates and records, `Short` where the capture ends within a message. `Memory` is answered only where
 /// everything before that growth is right. An input without octets is a capture without messages.
-pub fn gather(alloc: Global, octets: &[u8]) -> Result<Gathered, InputFault>
-    ensures exact { Gives InputFault.Memory gathered_view result (gathered_of (input_of octets.now)) }
+pub fn gather(alloc: Global, octets: &[u8], session: u32) -> Result<Gathered, InputFault>
+    ensures exact { Gives InputFault.Memory gathered_view result (gathered_of (read_input (record { session = session; octets = octets.now }))) }
 
     // A fault is the first from the left, and a log export with a fault is refused for it.
-    ensures first { IfErr result (λ f. f ≢ InputFault.Memory → IsFirstFault octets.now f) }
+    ensures first { IfErr result (λ f. f ≢ InputFault.Memory → IsFirstFault (record { session = session; octets = octets.now }) f) }
     ensures refused { (f : ExportFault) → is_export octets.now ≡ true → IsFaultyExport octets.now f → result ≡ Err (faults.Export f) }
 
     // An input without octets takes no memory, and a log export only where nothing is wrong with it and it has a report.
     ensures memory { IsErrOf result InputFault.Memory → 0 < length octets.now }
     ensures memory_last { IsErrOf result InputFault.Memory → is_export octets.now ≡ true
-        → (rs : List PacketReport) × IsExportable rs × (octets.now ≡ export rs) × (0 < length rs) }
+        → (rs : List PacketReport) × IsExport octets.now rs × (0 < length rs) }
 
     // Memory is wanted only where everything before is right.
-    ensures memory_wanted { result ≡ Err InputFault.Memory → WantsMemory octets.now }
+    ensures memory_wanted { result ≡ Err InputFault.Memory → WantsMemory (record { session = session; octets = octets.now }) }
 {
     if !has_magic(octets) {
-        return read_capture(alloc, octets);
+        return read_capture(alloc, octets, session);
     }
     match read_export(alloc, octets) {
         Ok(reports) => Ok(Gathered {
@@ -155,8 +176,8 @@ pub fn gather(alloc: Global, octets: &[u8]) -> Result<Gathered, InputFault>
 /// other, each of which is what RFC 7011 says of it in the session of those before it. Where it is neither, the fault is the one before
 /// which all is right.
 pub fn input_words()
-    ensures found { (octets : List ℕ) (after : CaptureSoFar) → AllByRecursion (λ (b : ℕ). b < 256) octets → input_of octets ≡ Ok after → IsInput octets after }
-    ensures only { (octets : List ℕ) (after : CaptureSoFar) → IsInput octets after → input_of octets ≡ Ok after }
-    ensures fault { (octets : List ℕ) (f : InputFault) → (is_export octets ≡ true → AllByRecursion (λ (b : ℕ). b < 256) octets) → input_of octets ≡ Err f → IsFirstFault octets f }
-    ensures no_other { (octets : List ℕ) (f : InputFault) → IsFirstFault octets f → input_of octets ≡ Err f }
+    ensures found { (input : InputView) (after : CaptureSoFar) → AllByRecursion (λ (b : ℕ). b < 256) input.octets → read_input input ≡ Ok after → IsInput input after }
+    ensures only { (input : InputView) (after : CaptureSoFar) → IsInput input after → read_input input ≡ Ok after }
+    ensures fault { (input : InputView) (f : InputFault) → (is_export input.octets ≡ true → AllByRecursion (λ (b : ℕ). b < 256) input.octets) → read_input input ≡ Err f → IsFirstFault input f }
+    ensures no_other { (input : InputView) (f : InputFault) → IsFirstFault input f → read_input input ≡ Err f }
 {}

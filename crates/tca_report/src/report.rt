@@ -1,21 +1,78 @@
 //! A report of one packet, and the order of reports.
-ghost use Rattle.std.specs.Prelude.{◌≡◌};
-ghost use Rattle.std.specs.Cmp.{IsTotalOrder};
+ghost use Rattle.std.specs.Prelude.{◌≡◌, ◌+◌, ◌*◌, ◌<◌};
+ghost use Rattle.std.specs.Ordering.{is_eq};
+ghost use Rattle.std.specs.Cmp.{IsTotalOrder, eq_by_cmp_equiv, partial_order_from_agreeing_total, partial_equiv_from_equiv};
+ghost use Rattle.std.proofs.Common.{refl, Some};
 ghost use Rattle.std.specs.declared.cmp.Ordering.TheVariants.{Equal};
 ghost use Rattle.tca_report.specs.report.Reports.{PacketReport, InRange, reported, ranged, report_cmp};
-ghost use Rattle.tca_report.specs.report.Identities.{identity_cmp, identity_of};
+ghost use Rattle.tca_report.specs.report.Identities.{identity_cmp, identity_of, identity_total};
 ghost use Rattle.tca_report.specs.declared.report.Identity.{Identity};
 
+use std::cmp::Ordering;
 use std::marker::Model;
 
-/// Which record a report is of: the observation domain that exported it (RFC 7011 section 3.1), and
-/// its place among the domain's data records, modulo 2^32.
-#[derive(Clone, Copy, Debug, PartialEq, Eq, PartialOrd, Ord)]
+/// Which record a report is of: the observation domain that exported it, the transport session by which it came (RFC 7011,
+/// sections 2 and 3.1), and its place among the data records of both. Identities are ordered by domain, session and
+/// place, each ascending.
+#[derive(Clone, Copy, Debug)]
 pub struct Identity {
     /// The observation domain.
     pub domain: u32,
-    /// The place in the domain, modulo 2^32.
+    /// The number of the transport session, which the operator gives. Sessions of one domain have distinct numbers, since
+    /// each counts its data records for itself.
+    pub session: u32,
+    /// The place in domain and session, modulo 2^32.
     pub place: u32,
+}
+
+impl Identity {
+    // The identity as one number, in the order of identities: most of what sorting them costs is comparing.
+    fn one_number(&self) -> u128
+        ensures value { result ≡ (self.now.domain * 4294967296 + self.now.session) * 4294967296 + self.now.place }
+        ensures session { self.now.session < 4294967296 }
+        ensures place { self.now.place < 4294967296 }
+    {
+        let origin = self.domain as u64 * 4_294_967_296 + self.session as u64;
+        origin as u128 * 4_294_967_296 + self.place as u128
+    }
+}
+
+impl PartialEq for Identity {
+    ghost eq = { λ a b. is_eq (identity_cmp a b) };
+
+    ghost laws = { partial_equiv_from_equiv (eq_by_cmp_equiv identity_total) };
+
+    fn eq(&self, other: &Identity) -> bool {
+        self.cmp(other).is_eq()
+    }
+}
+
+impl Eq for Identity {
+    ghost laws = { eq_by_cmp_equiv identity_total };
+}
+
+impl PartialOrd for Identity {
+    ghost partial_cmp = { λ a b. Some (identity_cmp a b) };
+
+    ghost laws = { partial_order_from_agreeing_total identity_cmp identity_total (λ _ _. refl) (λ _ _. refl) };
+
+    fn partial_cmp(&self, other: &Identity) -> Option<Ordering> {
+        Some(self.cmp(other))
+    }
+}
+
+impl Ord for Identity {
+    ghost cmp = { identity_cmp };
+
+    ghost total = { identity_total };
+
+    ghost matches_partial_cmp = { λ _ _. refl };
+
+    ghost matches_eq = { λ _ _. refl };
+
+    fn cmp(&self, other: &Identity) -> Ordering {
+        self.one_number().cmp(&other.one_number())
+    }
 }
 
 /// What a report holds of its packet.
@@ -40,12 +97,13 @@ pub(crate) const MOST_OCTETS: u32 = 65_575;
 // The highest code point (RFC 2474).
 pub(crate) const MOST_DSCP: u8 = 63;
 
-/// A report of one packet. Reports are ordered by time, domain, place, octets, code point and
+/// A report of one packet. Reports are ordered by time, domain, session, place, octets, code point and
 /// interface, each ascending.
 #[derive(Clone, Copy, Debug, PartialEq, Eq, PartialOrd, Ord)]
 pub struct Report {
     time: u64,
     domain: u32,
+    session: u32,
     place: u32,
     octets: u32,
     dscp: u8,
@@ -57,11 +115,11 @@ impl Model for Report {
 
     ghost Value = { PacketReport };
 
-    ghost view = { λ r. record { time = r.time; domain = r.domain; place = r.place; octets = r.octets; dscp = r.dscp; iface = r.iface } };
+    ghost view = { λ r. record { time = r.time; domain = r.domain; session = r.session; place = r.place; octets = r.octets; dscp = r.dscp; iface = r.iface } };
 
-    ghost invariant = { λ r. InRange (record { time = r.time; domain = r.domain; place = r.place; octets = r.octets; dscp = r.dscp; iface = r.iface }) };
+    ghost invariant = { λ r. InRange (record { time = r.time; domain = r.domain; session = r.session; place = r.place; octets = r.octets; dscp = r.dscp; iface = r.iface }) };
 
-    ghost inverse = { λ r. record { time = r.time; domain = r.domain; place = r.place; octets = r.octets; dscp = r.dscp; iface = r.iface } };
+    ghost inverse = { λ r. record { time = r.time; domain = r.domain; session = r.session; place = r.place; octets = r.octets; dscp = r.dscp; iface = r.iface } };
 }
 
 impl Report {
@@ -77,6 +135,7 @@ impl Report {
             Some(Report {
                 time: content.time,
                 domain: identity.domain,
+                session: identity.session,
                 place: identity.place,
                 octets: content.octets,
                 dscp: content.dscp,
@@ -93,6 +152,7 @@ impl Report {
     {
         Identity {
             domain: self.domain,
+            session: self.session,
             place: self.place,
         }
     }

@@ -4,7 +4,7 @@ use Rattle.std.specs.Prelude.{nat_lt}
 use Rattle.std.proofs.lemmas.Bool.Decides.{nat_tests}
 use Rattle.std.proofs.lemmas.List.{length-drop, length-append, length-take-le, take-append-drop}
 use Rattle.tca_wire.specs.Walks.{walk}
-use Rattle.tca_wire.specs.declared.message.Header.{Header}
+use Rattle.tca_templates.specs.declared.source.Source.{Source}
 use Rattle.tca_templates.specs.declared.fault.DecodeFault.{DecodeFault}
 use Rattle.tca_templates.specs.declared.fault.DecodeFault.TheVariants.{RecordCut}
 use Rattle.tca_templates.specs.Templates.{TemplateView, shortest_of}
@@ -41,7 +41,7 @@ none_there t octets cut = go (fields_on [] 0 t.specs octets) refl
           behind = tt;
         }))
 
-module _ (h : Header) (t : TemplateView) (some : 0 < shortest_of t.specs) where
+module _ (h : Source) (t : TemplateView) (some : 0 < shortest_of t.specs) where
   fault_for : (most : ℕ) (before : List PlacedView) (at : ℕ) (octets : List ℕ) (fault : DecodeFault) → length octets < most
       → walk (data_front h t) before at octets ≡ Err fault → IsFaultyDataSet t at octets fault
   fault_for zero before at octets fault lt e = absurd (omega arith)

@@ -5,7 +5,7 @@ use Rattle.std.proofs.lemmas.Bool.Decides.{nat_tests}
 use Rattle.std.proofs.lemmas.List.{length-drop, length-append, length-take-le, append-nil, take_at, drop_at, take-append-drop}
 use Rattle.byteorder.specs.Endian.{big_number}
 use Rattle.tca_wire.specs.Walks.{walk}
-use Rattle.tca_wire.specs.declared.message.Header.{Header}
+use Rattle.tca_templates.specs.declared.source.Source.{Source}
 use Rattle.tca_templates.specs.declared.template.FieldSpec.{FieldSpec}
 use Rattle.tca_templates.specs.declared.fault.DecodeFault.TheVariants.{RecordCut}
 use Rattle.tca_templates.specs.Templates.{TemplateView, shortest_of}
@@ -113,12 +113,12 @@ fields_found fields used (s ∷ ss) octets x e = go (λ more u rest h. fields_fo
         }
 
 -- the records of a data set, and where they are placed
-pub record IsPlaced (h : Header) (t : TemplateView) (before after : List PlacedView) (octets : List ℕ) : Type 0 where
+pub record IsPlaced (h : Source) (t : TemplateView) (before after : List PlacedView) (octets : List ℕ) : Type 0 where
   pub records : List (List FieldView)
   pub set : IsDataSet t records octets
   pub is : after ≡ placed_behind h t.options before records
 
-module _ (h : Header) (t : TemplateView) (some : 0 < shortest_of t.specs) where
+module _ (h : Source) (t : TemplateView) (some : 0 < shortest_of t.specs) where
   found_for : (most : ℕ) (before after : List PlacedView) (at : ℕ) (octets : List ℕ) → length octets < most
       → walk (data_front h t) before at octets ≡ Ok after → IsPlaced h t before after octets
   found_for zero before after at octets lt e = absurd (omega arith)
@@ -248,7 +248,7 @@ fields_only fields used (s ∷ ss) (f ∷ more) own rest p =
     ∙ fields_only (fields ++ f ∷ []) (used + length p.own) ss more p.rest rest p.behind
     ∙ ap₂ (λ (fs : List FieldView) (n : ℕ). Some (fs, n)) (append_assoc fields (f ∷ []) more) all
 
-module _ (h : Header) (t : TemplateView) where
+module _ (h : Source) (t : TemplateView) where
   -- records in front of other octets are read one after the other
   pub records_pass : 0 < shortest_of t.specs → (rs : List (List FieldView)) (before : List PlacedView) (at : ℕ) (front rest : List ℕ) → InTurn (IsRecord t.specs) rs front
       → walk (data_front h t) before at (front ++ rest) ≡ walk (data_front h t) (placed_behind h t.options before rs) (at + length front) rest

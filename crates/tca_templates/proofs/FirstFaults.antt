@@ -5,7 +5,7 @@ use Rattle.std.proofs.lemmas.Bool.Decides.{nat_tests}
 use Rattle.tca_wire.specs.Results.{Gives, ◌>>=◌}
 use Rattle.tca_wire.proofs.Walking.{gives_err}
 use Rattle.tca_wire.specs.Walks.{walk}
-use Rattle.tca_wire.specs.declared.message.Header.{Header}
+use Rattle.tca_templates.specs.declared.source.Source.{Source}
 use Rattle.tca_wire.specs.declared.message.SetSpan.{SetSpan}
 use Rattle.tca_templates.specs.declared.fault.DecodeFault.{DecodeFault}
 use Rattle.tca_templates.specs.Templates.{Templates, TemplateView, known}
@@ -26,7 +26,7 @@ records_refused : (given : ReadMessage) (r : Result (List PlacedView) DecodeFaul
 records_refused given (Ok rs) fault e = absurd cc
 records_refused given (Err f) fault e = let same : f ≡ fault = cc in ap (λ (x : DecodeFault). Err x) same
 
-data_fault : (h : Header) (octets : List ℕ) (given : ReadMessage) (s : SetSpan) (fault : DecodeFault) → HaveOctets given.templates → 256 ≤ s.id
+data_fault : (h : Source) (octets : List ℕ) (given : ReadMessage) (s : SetSpan) (fault : DecodeFault) → HaveOctets given.templates → 256 ≤ s.id
     → (u : Option ℕ) → given.unplaced ≡ u → (o : Option TemplateView) → known (h.domain, s.id) given.templates ≡ o
     → data_of h octets s given u o ≡ Err fault → IsFaultySet h octets given s fault
 data_fault h octets given s fault all least (Some id) u o k e = absurd cc
@@ -36,7 +36,7 @@ data_fault h octets given s fault all least None u (Some t) k e =
     let refused = records_refused given (walk (data_front h t) given.records (s.at + 4) (body_of octets s)) fault e in
     DataSet least u t k (data_set_fault h t some given.records (s.at + 4) (body_of octets s) fault refused)
 
-set_fault : (h : Header) (octets : List ℕ) (given : ReadMessage) (s : SetSpan) (fault : DecodeFault)
+set_fault : (h : Source) (octets : List ℕ) (given : ReadMessage) (s : SetSpan) (fault : DecodeFault)
     → HaveOctets given.templates → set_of h octets given s ≡ Err fault → IsFaultySet h octets given s fault
 unfolding set_of
 set_fault h octets given s fault all e = elim (chosen (s.id == 2) _ _ (Err fault) e) [
@@ -57,7 +57,7 @@ set_fault h octets given s fault all e = elim (chosen (s.id == 2) _ _ (Err fault
 ]
 
 -- sets that were read, and the first behind them that is wrong
-record HasFault (h : Header) (octets : List ℕ) (given : ReadMessage) (sets : List SetSpan) (fault : DecodeFault) : Type 0 where
+record HasFault (h : Source) (octets : List ℕ) (given : ReadMessage) (sets : List SetSpan) (fault : DecodeFault) : Type 0 where
   front : List SetSpan
   set : SetSpan
   behind : List SetSpan
@@ -66,7 +66,7 @@ record HasFault (h : Header) (octets : List ℕ) (given : ReadMessage) (sets : L
   are : AreSets h octets given front now
   wrong : IsFaultySet h octets now set fault
 
-sets_fault : (h : Header) (octets : List ℕ) (given : ReadMessage) (ss : List SetSpan) (fault : DecodeFault) → HaveOctets given.templates → sets_on h octets given ss ≡ Err fault
+sets_fault : (h : Source) (octets : List ℕ) (given : ReadMessage) (ss : List SetSpan) (fault : DecodeFault) → HaveOctets given.templates → sets_on h octets given ss ≡ Err fault
     → HasFault h octets given ss fault
 unfolding sets_on
 sets_fault h octets given [] fault all e = absurd (no_fault given fault e)
@@ -92,13 +92,13 @@ sets_fault h octets given (s ∷ ss) fault all e = go (λ next have k. sets_faul
           wrong = r.wrong;
         }
 
-pub reading_fault : (ts : Templates) (h : Header) (octets : List ℕ) (ss : List SetSpan) (f : DecodeFault) → HaveOctets ts
+pub reading_fault : (ts : Templates) (h : Source) (octets : List ℕ) (ss : List SetSpan) (f : DecodeFault) → HaveOctets ts
     → read_of ts h octets ss ≡ Err f → IsFirstFault ts h octets ss f
 reading_fault ts h octets ss f all e =
     let r = sets_fault h octets (before ts) ss f all e in
     record { before = r.front; set = r.set; behind = r.behind; given = r.now; whole = r.whole; read = r.are; wrong = r.wrong }
 
-set_refused : (h : Header) (octets : List ℕ) (given : ReadMessage) (s : SetSpan) (fault : DecodeFault)
+set_refused : (h : Source) (octets : List ℕ) (given : ReadMessage) (s : SetSpan) (fault : DecodeFault)
     → HaveOctets given.templates → IsFaultySet h octets given s fault → set_of h octets given s ≡ Err fault
 unfolding set_of
 set_refused h octets given s fault all (TemplateSet two p) =
@@ -116,25 +116,25 @@ set_refused h octets given s fault all (DataSet least none t k p) =
     rw (t1, t2, t3) (ap₂ (λ u o. data_of h octets s given u o) none k ∙ ap (with_records given) (data_set_no_other h t some given.records (s.at + 4) (body_of octets s) fault p))
 
 -- what is read of the sets in front
-sets_pass : (h : Header) (octets : List ℕ) (given : ReadMessage) (front rest : List SetSpan) (now : ReadMessage) → AreSets h octets given front now
+sets_pass : (h : Source) (octets : List ℕ) (given : ReadMessage) (front rest : List SetSpan) (now : ReadMessage) → AreSets h octets given front now
     → sets_on h octets given (front ++ rest) ≡ sets_on h octets now rest
 unfolding sets_on
 sets_pass h octets given [] rest now p = ap (λ (x : ReadMessage). sets_on h octets x rest) (sym p)
 sets_pass h octets given (s ∷ front) rest now p =
     ap (λ (x : Result ReadMessage DecodeFault). x >>= (λ more. sets_on h octets more (front ++ rest))) (set_only h octets given p.next s p.first) ∙ sets_pass h octets p.next front rest now p.others
 
-sets_have : (h : Header) (octets : List ℕ) (given : ReadMessage) (front : List SetSpan) (now : ReadMessage)
+sets_have : (h : Source) (octets : List ℕ) (given : ReadMessage) (front : List SetSpan) (now : ReadMessage)
     → AreSets h octets given front now → HaveOctets given.templates → HaveOctets now.templates
 sets_have h octets given [] now p all = subst (λ (x : ReadMessage). HaveOctets x.templates) (sym p) all
 sets_have h octets given (s ∷ front) now p all =
     sets_have h octets p.next front now p.others (set_found h octets given p.next s all (set_only h octets given p.next s p.first)).have
 
-sets_stop : (h : Header) (octets : List ℕ) (given : ReadMessage) (s : SetSpan) (behind : List SetSpan) (fault : DecodeFault) → set_of h octets given s ≡ Err fault
+sets_stop : (h : Source) (octets : List ℕ) (given : ReadMessage) (s : SetSpan) (behind : List SetSpan) (fault : DecodeFault) → set_of h octets given s ≡ Err fault
     → sets_on h octets given (s ∷ behind) ≡ Err fault
 unfolding sets_on
 sets_stop h octets given s behind fault e = ap (λ (x : Result ReadMessage DecodeFault). x >>= (λ more. sets_on h octets more behind)) e
 
-pub reading_no_other : (ts : Templates) (h : Header) (octets : List ℕ) (ss : List SetSpan) (f : DecodeFault) → HaveOctets ts
+pub reading_no_other : (ts : Templates) (h : Source) (octets : List ℕ) (ss : List SetSpan) (f : DecodeFault) → HaveOctets ts
     → IsFirstFault ts h octets ss f → read_of ts h octets ss ≡ Err f
 reading_no_other ts h octets ss f all p =
     let have = sets_have h octets (before ts) p.before p.given p.read all in
@@ -142,7 +142,7 @@ reading_no_other ts h octets ss f all p =
     ∙ sets_stop h octets p.given p.set p.behind f (set_refused h octets p.given p.set f have p.wrong)
 
 -- the fault that a call returned, where it gives what the definition gives
-pub reading_refused : {X : Type 0} (memory : DecodeFault) (view : X → ReadMessage) (r : Result X DecodeFault) (ts : Templates) (h : Header) (octets : List ℕ) (ss : List SetSpan)
+pub reading_refused : {X : Type 0} (memory : DecodeFault) (view : X → ReadMessage) (r : Result X DecodeFault) (ts : Templates) (h : Source) (octets : List ℕ) (ss : List SetSpan)
     → HaveOctets ts → Gives memory view r (read_of ts h octets ss) → IfErr r (λ f. f ≢ memory → IsFirstFault ts h octets ss f)
 reading_refused memory view r ts h octets ss all g =
     gives_err memory view (λ (f : DecodeFault). IsFirstFault ts h octets ss f) r (read_of ts h octets ss) (λ f e. reading_fault ts h octets ss f all e) g

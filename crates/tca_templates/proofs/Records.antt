@@ -4,7 +4,7 @@ use Rattle.std.specs.Prelude.{nat_lt, option_map}
 use Rattle.std.proofs.lemmas.Bool.Decides.{nat_tests}
 use Rattle.std.proofs.lemmas.List.{append-nil}
 use Rattle.tca_wire.specs.Walks.{Ends, Bad, Next, walk, Advances}
-use Rattle.tca_wire.specs.declared.message.Header.{Header}
+use Rattle.tca_templates.specs.declared.source.Source.{Source}
 use Rattle.tca_wire.proofs.Walking.{walk_next, walk_ends, walk_bad}
 use Rattle.tca_templates.specs.declared.template.FieldSpec.{FieldSpec}
 use Rattle.tca_templates.specs.declared.fault.DecodeFault.TheVariants.{RecordCut}
@@ -45,7 +45,7 @@ size_alone front used specs octets =
     same (Some x) = refl
 
 -- the record at the front of a data set
-module _ (h : Header) (t : TemplateView) where
+module _ (h : Source) (t : TemplateView) where
   pub front_bad : (records : List PlacedView) (at : ℕ) (octets : List ℕ) → shortest_of t.specs ≤ length octets → fields_on [] 0 t.specs octets ≡ None
       → data_front h t records at octets ≡ Bad (RecordCut at)
   unfolding data_front
@@ -65,7 +65,7 @@ module _ (h : Header) (t : TemplateView) where
   front_sound records at octets own n le e = subst (λ f. IsSound f) (sym (front_next records at octets own n le e)) tt
 
 -- going over the records of a data set
-module _ (h : Header) (t : TemplateView) (some : 0 < shortest_of t.specs) where
+module _ (h : Source) (t : TemplateView) (some : 0 < shortest_of t.specs) where
   pub data_advances : Advances (data_front h t)
   unfolding data_front
   data_advances records next at n octets e = go (nat_lt (length octets) (shortest_of t.specs)) (fields_on [] 0 t.specs octets) refl refl e

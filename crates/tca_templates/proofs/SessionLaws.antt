@@ -7,7 +7,7 @@ use Rattle.tca_wire.proofs.Walking.{gives_ok}
 use Rattle.std.proofs.lemmas.Bool.Decides.{nat_tests}
 use Rattle.tca_wire.specs.Results.{Gives, ◌>>=◌}
 use Rattle.tca_wire.specs.Walks.{walk}
-use Rattle.tca_wire.specs.declared.message.Header.{Header}
+use Rattle.tca_templates.specs.declared.source.Source.{Source}
 use Rattle.tca_wire.specs.declared.message.SetSpan.{SetSpan}
 use Rattle.tca_templates.specs.declared.template.Template.{Template}
 use Rattle.tca_templates.specs.declared.fault.DecodeFault.{DecodeFault}
@@ -89,7 +89,7 @@ pub templates_have : (v : SlotsView) → HaveOctets (templates_of v)
 templates_have v = entries_have v.known
 
 -- what came of a set
-pub record IsFound (h : Header) (octets : List ℕ) (given after : ReadMessage) (s : SetSpan) : Type 0 where
+pub record IsFound (h : Source) (octets : List ℕ) (given after : ReadMessage) (s : SetSpan) : Type 0 where
   pub set : IsSet h octets given after s
   pub have : HaveOctets after.templates
 
@@ -101,7 +101,7 @@ records_holds : (given after : ReadMessage) (r : Result (List PlacedView) Decode
 records_holds given after (Ok rs) e = (rs, refl, sym (same_ok _ after e))
 records_holds given after (Err f) e = absurd cc
 
-data_found : (h : Header) (octets : List ℕ) (given after : ReadMessage) (s : SetSpan) → HaveOctets given.templates → 256 ≤ s.id
+data_found : (h : Source) (octets : List ℕ) (given after : ReadMessage) (s : SetSpan) → HaveOctets given.templates → 256 ≤ s.id
     → (u : Option ℕ) → given.unplaced ≡ u → (o : Option TemplateView) → known (h.domain, s.id) given.templates ≡ o
     → data_of h octets s given u o ≡ Ok after → IsFound h octets given after s
 data_found h octets given after s all least (Some id) u o k e =
@@ -119,7 +119,7 @@ data_found h octets given after s all least None u (Some t) k e =
       have = subst (λ (x : ReadMessage). HaveOctets x.templates) (sym r.2) all;
     }
 
-pub set_found : (h : Header) (octets : List ℕ) (given after : ReadMessage) (s : SetSpan) → HaveOctets given.templates → set_of h octets given s ≡ Ok after → IsFound h octets given after s
+pub set_found : (h : Source) (octets : List ℕ) (given after : ReadMessage) (s : SetSpan) → HaveOctets given.templates → set_of h octets given s ≡ Ok after → IsFound h octets given after s
 unfolding set_of
 set_found h octets given after s all e = elim (chosen (s.id == 2) _ _ (Ok after) e) [
   | inl w ↦
@@ -147,7 +147,7 @@ set_found h octets given after s all e = elim (chosen (s.id == 2) _ _ (Ok after)
   ]
 ]
 
-sets_found : (h : Header) (octets : List ℕ) (given : ReadMessage) (ss : List SetSpan) (after : ReadMessage) → HaveOctets given.templates → sets_on h octets given ss ≡ Ok after → AreSets h octets given ss after
+sets_found : (h : Source) (octets : List ℕ) (given : ReadMessage) (ss : List SetSpan) (after : ReadMessage) → HaveOctets given.templates → sets_on h octets given ss ≡ Ok after → AreSets h octets given ss after
 unfolding sets_on
 sets_found h octets given [] after all e = sym (same_ok given after e)
 sets_found h octets given (s ∷ ss) after all e = go (λ next have k. sets_found h octets next ss after have k) (set_of h octets given s) refl e
@@ -160,11 +160,11 @@ sets_found h octets given (s ∷ ss) after all e = go (λ next have k. sets_foun
         let f = set_found h octets given next s all k in
         record { next = next; first = f.set; others = more next f.have e }
 
-pub reading_found : (ts : Templates) (h : Header) (octets : List ℕ) (ss : List SetSpan) (after : ReadMessage) → HaveOctets ts
+pub reading_found : (ts : Templates) (h : Source) (octets : List ℕ) (ss : List SetSpan) (after : ReadMessage) → HaveOctets ts
     → read_of ts h octets ss ≡ Ok after → IsReading ts h octets ss after
 reading_found ts h octets ss after all e = sets_found h octets (before ts) ss after all e
 
-pub set_only : (h : Header) (octets : List ℕ) (given after : ReadMessage) (s : SetSpan) → IsSet h octets given after s → set_of h octets given s ≡ Ok after
+pub set_only : (h : Source) (octets : List ℕ) (given after : ReadMessage) (s : SetSpan) → IsSet h octets given after s → set_of h octets given s ≡ Ok after
 unfolding set_of
 set_only h octets given after s (TemplateSet two ts p is) =
     let t1 : (s.id == 2) ≡ true = grind (arith, nat_tests, two) in
@@ -194,20 +194,20 @@ set_only h octets given after s (Unread least id u is) =
     let t3 : nat_lt s.id 256 ≡ false = grind (arith, nat_tests, least) in
     rw (t1, t2, t3) (ap (λ u. data_of h octets s given u (known (h.domain, s.id) given.templates)) u ∙ ap (λ (x : ReadMessage). Ok x) (sym is))
 
-sets_only : (h : Header) (octets : List ℕ) (given : ReadMessage) (ss : List SetSpan) (after : ReadMessage) → AreSets h octets given ss after → sets_on h octets given ss ≡ Ok after
+sets_only : (h : Source) (octets : List ℕ) (given : ReadMessage) (ss : List SetSpan) (after : ReadMessage) → AreSets h octets given ss after → sets_on h octets given ss ≡ Ok after
 unfolding sets_on
 sets_only h octets given [] after p = ap (λ (x : ReadMessage). Ok x) (sym p)
 sets_only h octets given (s ∷ ss) after p =
     ap (λ (x : Result ReadMessage DecodeFault). x >>= (λ more. sets_on h octets more ss)) (set_only h octets given p.next s p.first) ∙ sets_only h octets p.next ss after p.others
 
-pub reading_only : (ts : Templates) (h : Header) (octets : List ℕ) (ss : List SetSpan) (after : ReadMessage) → IsReading ts h octets ss after → read_of ts h octets ss ≡ Ok after
+pub reading_only : (ts : Templates) (h : Source) (octets : List ℕ) (ss : List SetSpan) (after : ReadMessage) → IsReading ts h octets ss after → read_of ts h octets ss ≡ Ok after
 reading_only ts h octets ss after p = sets_only h octets (before ts) ss after p
 
 -- what a call returned, where it gives what the definition gives
-pub reading_holds : {X : Type 0} (memory : DecodeFault) (view : X → ReadMessage) (r : Result X DecodeFault) (ts : Templates) (h : Header) (octets : List ℕ) (ss : List SetSpan)
+pub reading_holds : {X : Type 0} (memory : DecodeFault) (view : X → ReadMessage) (r : Result X DecodeFault) (ts : Templates) (h : Source) (octets : List ℕ) (ss : List SetSpan)
     → HaveOctets ts → Gives memory view r (read_of ts h octets ss) → IfOk r (λ x. IsReading ts h octets ss (view x))
 reading_holds memory view r ts h octets ss all g = gives_ok memory view (λ given. IsReading ts h octets ss given) r (read_of ts h octets ss) (λ given e. reading_found ts h octets ss given all e) g
 
-pub reading_given : {X : Type 0} (memory : DecodeFault) (view : X → ReadMessage) (r : Result X DecodeFault) (ts : Templates) (h : Header) (octets : List ℕ) (ss : List SetSpan)
+pub reading_given : {X : Type 0} (memory : DecodeFault) (view : X → ReadMessage) (r : Result X DecodeFault) (ts : Templates) (h : Source) (octets : List ℕ) (ss : List SetSpan)
     → Gives memory view r (read_of ts h octets ss) → (given : ReadMessage) → IsReading ts h octets ss given → Gives memory view r (Ok given)
 reading_given memory view r ts h octets ss g given p = subst (λ (given : Result ReadMessage DecodeFault). Gives memory view r given) (reading_only ts h octets ss given p) g

@@ -4,7 +4,7 @@ use Rattle.std.specs.List.{IsDistinct, AllByRecursion}
 use Rattle.std.specs.Map.{keys_of}
 use Rattle.std.proofs.lemmas.Bool.Decides.{nat_tests}
 use Rattle.tca_wire.specs.Results.{◌>>=◌}
-use Rattle.tca_wire.specs.declared.message.Header.{Header}
+use Rattle.tca_templates.specs.declared.source.Source.{Source}
 use Rattle.tca_wire.specs.declared.message.SetSpan.{SetSpan}
 use Rattle.tca_templates.specs.declared.fault.DecodeFault.{DecodeFault}
 use Rattle.tca_templates.specs.declared.fault.DecodeFault.TheVariants.{TooMany}
@@ -294,7 +294,7 @@ after_stays domain options (c ∷ cs) records ts us p s e = go (λ vs h k. after
     go more (Err f) k = let bad : Err f ≡ Ok us = sym (ap (λ (x : Result Templates DecodeFault). x >>= (λ vs. after_changes domain options vs cs)) k) ∙ e in absurd cc
     go more (Ok vs) k = more vs (changed_stays domain options c p.own ts vs p.is s k) (sym (ap (λ (x : Result Templates DecodeFault). x >>= (λ vs. after_changes domain options vs cs)) k) ∙ e)
 
-set_stays : (h : Header) (octets : List ℕ) (given after : ReadMessage) (s : SetSpan) → IsSet h octets given after s → IsSession given.templates → IsSession after.templates
+set_stays : (h : Source) (octets : List ℕ) (given after : ReadMessage) (s : SetSpan) → IsSet h octets given after s → IsSession given.templates → IsSession after.templates
 set_stays h octets given after s (TemplateSet two ts p is) ok =
     subst (λ (x : ReadMessage). IsSession x.templates) (sym is) (after_stays h.domain false p.changes p.records given.templates ts p.each ok p.effect)
 set_stays h octets given after s (OptionsTemplateSet three ts p is) ok =
@@ -304,29 +304,29 @@ set_stays h octets given after s (DataSet least none t k records p is) ok = subs
 set_stays h octets given after s (Unplaced least none k is) ok = subst (λ (x : ReadMessage). IsSession x.templates) (sym is) ok
 set_stays h octets given after s (Unread least id u is) ok = subst (λ (x : ReadMessage). IsSession x.templates) (sym is) ok
 
-sets_stay : (h : Header) (octets : List ℕ) (given : ReadMessage) (ss : List SetSpan) (after : ReadMessage) → AreSets h octets given ss after → IsSession given.templates → IsSession after.templates
+sets_stay : (h : Source) (octets : List ℕ) (given : ReadMessage) (ss : List SetSpan) (after : ReadMessage) → AreSets h octets given ss after → IsSession given.templates → IsSession after.templates
 sets_stay h octets given [] after p ok = subst (λ (x : ReadMessage). IsSession x.templates) (sym p) ok
 sets_stay h octets given (s ∷ ss) after p ok = sets_stay h octets p.next ss after p.others (set_stays h octets given p.next s p.first ok)
 
-pub session_stays : (ts : Templates) (h : Header) (octets : List ℕ) (ss : List SetSpan) (given : ReadMessage) → IsSession ts → IsReading ts h octets ss given → IsSession given.templates
+pub session_stays : (ts : Templates) (h : Source) (octets : List ℕ) (ss : List SetSpan) (given : ReadMessage) → IsSession ts → IsReading ts h octets ss given → IsSession given.templates
 session_stays ts h octets ss given ok p = sets_stay h octets (before ts) ss given p ok
 
-placed_last : (h : Header) (i : ℕ) (rs : List PlacedView) (r : PlacedView) → ArePlaced h i rs → r.domain ≡ h.domain → r.place ≡ (h.sequence + (i + length rs)) % 2 ^ 32
+placed_last : (h : Source) (i : ℕ) (rs : List PlacedView) (r : PlacedView) → ArePlaced h i rs → r.session ≡ h.session → r.domain ≡ h.domain → r.place ≡ (h.sequence + (i + length rs)) % 2 ^ 32
     → ArePlaced h i (rs ++ r ∷ [])
-placed_last h i [] r all d p =
+placed_last h i [] r all s d p =
     let e : i + 0 ≡ i = omega arith in
-    (d, p ∙ ap (λ n. (h.sequence + n) % 2 ^ 32) e, tt)
-placed_last h i (x ∷ xs) r all d p =
+    (s, d, p ∙ ap (λ n. (h.sequence + n) % 2 ^ 32) e, tt)
+placed_last h i (x ∷ xs) r all s d p =
     let e : i + suc (length xs) ≡ (i + 1) + length xs = omega arith in
-    (all.0, all.1, placed_last h (i + 1) xs r all.2 d (p ∙ ap (λ n. (h.sequence + n) % 2 ^ 32) e))
+    (all.0, all.1, all.2, placed_last h (i + 1) xs r all.3 s d (p ∙ ap (λ n. (h.sequence + n) % 2 ^ 32) e))
 
-placed_all : (h : Header) (options : Bool) (front : List PlacedView) (rs : List (List FieldView)) → ArePlaced h 0 front → ArePlaced h 0 (placed_behind h options front rs)
+placed_all : (h : Source) (options : Bool) (front : List PlacedView) (rs : List (List FieldView)) → ArePlaced h 0 front → ArePlaced h 0 (placed_behind h options front rs)
 placed_all h options front [] all = all
 placed_all h options front (r ∷ rs) all =
     let e : length front ≡ 0 + length front = omega arith in
-    placed_all h options (front ++ placed h options front r ∷ []) rs (placed_last h 0 front (placed h options front r) all refl (ap (λ n. (h.sequence + n) % 2 ^ 32) e))
+    placed_all h options (front ++ placed h options front r ∷ []) rs (placed_last h 0 front (placed h options front r) all refl refl (ap (λ n. (h.sequence + n) % 2 ^ 32) e))
 
-set_places : (h : Header) (octets : List ℕ) (given after : ReadMessage) (s : SetSpan) → IsSet h octets given after s → ArePlaced h 0 given.records → ArePlaced h 0 after.records
+set_places : (h : Source) (octets : List ℕ) (given after : ReadMessage) (s : SetSpan) → IsSet h octets given after s → ArePlaced h 0 given.records → ArePlaced h 0 after.records
 set_places h octets given after s (TemplateSet two ts p is) all = subst (λ (x : ReadMessage). ArePlaced h 0 x.records) (sym is) all
 set_places h octets given after s (OptionsTemplateSet three ts p is) all = subst (λ (x : ReadMessage). ArePlaced h 0 x.records) (sym is) all
 set_places h octets given after s (Skipped small not2 not3 is) all = subst (λ (x : ReadMessage). ArePlaced h 0 x.records) (sym is) all
@@ -334,9 +334,9 @@ set_places h octets given after s (DataSet least none t k records p is) all = su
 set_places h octets given after s (Unplaced least none k is) all = subst (λ (x : ReadMessage). ArePlaced h 0 x.records) (sym is) all
 set_places h octets given after s (Unread least id u is) all = subst (λ (x : ReadMessage). ArePlaced h 0 x.records) (sym is) all
 
-sets_places : (h : Header) (octets : List ℕ) (given : ReadMessage) (ss : List SetSpan) (after : ReadMessage) → AreSets h octets given ss after → ArePlaced h 0 given.records → ArePlaced h 0 after.records
+sets_places : (h : Source) (octets : List ℕ) (given : ReadMessage) (ss : List SetSpan) (after : ReadMessage) → AreSets h octets given ss after → ArePlaced h 0 given.records → ArePlaced h 0 after.records
 sets_places h octets given [] after p all = subst (λ (x : ReadMessage). ArePlaced h 0 x.records) (sym p) all
 sets_places h octets given (s ∷ ss) after p all = sets_places h octets p.next ss after p.others (set_places h octets given p.next s p.first all)
 
-pub reading_places : (ts : Templates) (h : Header) (octets : List ℕ) (ss : List SetSpan) (given : ReadMessage) → IsReading ts h octets ss given → ArePlaced h 0 given.records
+pub reading_places : (ts : Templates) (h : Source) (octets : List ℕ) (ss : List SetSpan) (given : ReadMessage) → IsReading ts h octets ss given → ArePlaced h 0 given.records
 reading_places ts h octets ss given p = sets_places h octets (before ts) ss given p tt

@@ -8,7 +8,7 @@ use Rattle.std.proofs.lemmas.List.{length-drop, nil_from_length}
 use Rattle.tca_wire.specs.Results.{◌>>=◌}
 use Rattle.tca_wire.proofs.Tiles.{blank_set}
 use Rattle.tca_wire.specs.Walks.{walk}
-use Rattle.tca_wire.specs.declared.message.Header.{Header}
+use Rattle.tca_templates.specs.declared.source.Source.{Source}
 use Rattle.tca_wire.specs.declared.message.SetSpan.{SetSpan}
 use Rattle.tca_templates.specs.declared.fault.DecodeFault.{DecodeFault}
 use Rattle.tca_templates.specs.Templates.{TemplateView, known}
@@ -28,7 +28,7 @@ is_less m n h = grind (arith, nat_tests, h)
 no_less : (m n : ℕ) → n ≤ m → nat_lt m n ≡ false
 no_less m n h = grind (arith, nat_tests, h)
 
-module _ (h : Header) (octets : List ℕ) (given : ReadMessage) (s : SetSpan) where
+module _ (h : Source) (octets : List ℕ) (given : ReadMessage) (s : SetSpan) where
   chain : Bool → Bool → Bool → Result ReadMessage DecodeFault
   chain a b d = cond a (with_templates given (walk (template_front h.domain false) given.templates (s.at + 4) (body_of octets s)))
       (cond b (with_templates given (walk (template_front h.domain true) given.templates (s.at + 4) (body_of octets s)))
@@ -81,13 +81,13 @@ module _ (h : Header) (octets : List ℕ) (given : ReadMessage) (s : SetSpan) wh
   set_known n m l e t k = open_set n m l e ∙ ap (data_of h octets s given None) k
 
 -- one set after the other
-pub sets_step : (h : Header) (octets : List ℕ) (given : ReadMessage) (ss : List SetSpan) (i : ℕ) (r : Result ReadMessage DecodeFault) → i < length ss
+pub sets_step : (h : Source) (octets : List ℕ) (given : ReadMessage) (ss : List SetSpan) (i : ℕ) (r : Result ReadMessage DecodeFault) → i < length ss
     → set_of h octets given (get_or ss i blank_set) ≡ r → sets_on h octets given (drop i ss) ≡ (r >>= (λ more. sets_on h octets more (drop (i + 1) ss)))
 unfolding sets_on
 sets_step h octets given ss i r lt e =
     rw (add-one) (ap (λ (l : List SetSpan). sets_on h octets given l) (drop-cons ss i blank_set lt) ∙ ap (λ (x : Result ReadMessage DecodeFault). x >>= (λ more. sets_on h octets more (drop (suc i) ss))) e)
 
-pub sets_all : (h : Header) (octets : List ℕ) (given : ReadMessage) (ss : List SetSpan) (i : ℕ) → length ss ≤ i → sets_on h octets given (drop i ss) ≡ Ok given
+pub sets_all : (h : Source) (octets : List ℕ) (given : ReadMessage) (ss : List SetSpan) (i : ℕ) → length ss ≤ i → sets_on h octets given (drop i ss) ≡ Ok given
 unfolding sets_on
 sets_all h octets given ss i le = ap (λ (l : List SetSpan). sets_on h octets given l) (nil_from_length (drop i ss) (omega (arith, length-drop i ss)))
 

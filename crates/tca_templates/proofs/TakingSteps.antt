@@ -1,7 +1,7 @@
 -- One record more in the hands of a taker.
 use Rattle.std.proofs.Common.{◌≡◌, ℕ, suc, ◌+◌, ◌%◌, ◌<◌, ◌≤◌, List, [], ◌∷◌, ◌++◌, length, drop, Some, Result, Bool, refl, sym, ap, ap₂, ◌∙◌, arith, length-append}
 use Rattle.tca_wire.specs.Walks.{walk, Next}
-use Rattle.tca_wire.specs.declared.message.Header.{Header}
+use Rattle.tca_templates.specs.declared.source.Source.{Source}
 use Rattle.tca_templates.specs.declared.fault.DecodeFault.{DecodeFault}
 use Rattle.tca_templates.specs.Templates.{TemplateView, shortest_of}
 use Rattle.tca_templates.specs.Records.{PlacedView, fields_on, placed, data_front}
@@ -16,7 +16,7 @@ use Rattle.tca_templates.proofs.Records.{data_next, front_next, front_sound}
 use Rattle.tca_templates.proofs.Wanting.{leads_more}
 
 -- The taker holds some records, behind which the rest leads to the same end.
-pub record Walked {T : Type 0} (took : T → List PlacedView → T → Type 0) (h : Header) (t : TemplateView) (start now : T) (count at : ℕ) (rest : List ℕ) (first : List PlacedView) (from : ℕ) (octets : List ℕ) : Type 0 where
+pub record Walked {T : Type 0} (took : T → List PlacedView → T → Type 0) (h : Source) (t : TemplateView) (start now : T) (count at : ℕ) (rest : List ℕ) (first : List PlacedView) (from : ℕ) (octets : List ℕ) : Type 0 where
   pub all : List PlacedView
   pub pieces : ℕ
   pub leads : Leads (data_front h t) pieces first from octets all at rest
@@ -25,16 +25,16 @@ pub record Walked {T : Type 0} (took : T → List PlacedView → T → Type 0) (
   pub counted : length all ≡ count
 
 -- the record at the front, when so many stand before it
-abbrev pub next_record : Header → TemplateView → ℕ → List ℕ → PlacedView
-next_record h t count octets = record { domain = h.domain; place = (h.sequence + count) % 4294967296; options = t.options; fields = fields_in t.specs octets }
+abbrev pub next_record : Source → TemplateView → ℕ → List ℕ → PlacedView
+next_record h t count octets = record { session = h.session; domain = h.domain; place = (h.sequence + count) % 4294967296; options = t.options; fields = fields_in t.specs octets }
 
-pub walked_more : {T : Type 0} (took : T → List PlacedView → T → Type 0) (h : Header) (t : TemplateView) (start now next : T) (count at n : ℕ) (rest : List ℕ) (first : List PlacedView) (from : ℕ) (octets : List ℕ)
+pub walked_more : {T : Type 0} (took : T → List PlacedView → T → Type 0) (h : Source) (t : TemplateView) (start now next : T) (count at n : ℕ) (rest : List ℕ) (first : List PlacedView) (from : ℕ) (octets : List ℕ)
     → 0 < shortest_of t.specs → (w : Walked took h t start now count at rest first from octets) → shortest_of t.specs ≤ length rest → fields_on [] 0 t.specs rest ≡ Some (fields_in t.specs rest, n)
     → took start (w.all ++ next_record h t count rest ∷ []) next → Walked took h t start next (count + 1) (at + n) (drop n rest) first from octets
 walked_more took h t start now next count at n rest first from octets some w le read taken =
     let own = fields_in t.specs rest in
     let place : placed h t.options w.all own ≡ next_record h t count rest =
-    ap (λ (m : ℕ). record { domain = h.domain; place = (h.sequence + m) % 4294967296; options = t.options; fields = own }) w.counted in
+    ap (λ (m : ℕ). record { session = h.session; domain = h.domain; place = (h.sequence + m) % 4294967296; options = t.options; fields = own }) w.counted in
     record {
       all = w.all ++ next_record h t count rest ∷ [];
       pieces = suc w.pieces;
@@ -46,7 +46,7 @@ walked_more took h t start now next count at n rest first from octets some w le 
     }
 
 -- memory is wanted for the record at the front
-pub walked_wants : {T : Type 0} (took : T → List PlacedView → T → Type 0) (h : Header) (t : TemplateView) (start now : T) (count at n : ℕ) (rest : List ℕ) (first : List PlacedView) (from : ℕ) (octets : List ℕ)
+pub walked_wants : {T : Type 0} (took : T → List PlacedView → T → Type 0) (h : Source) (t : TemplateView) (start now : T) (count at n : ℕ) (rest : List ℕ) (first : List PlacedView) (from : ℕ) (octets : List ℕ)
     → Walked took h t start now count at rest first from octets → shortest_of t.specs ≤ length rest → fields_on [] 0 t.specs rest ≡ Some (fields_in t.specs rest, n)
     → IsWanted (data_front h t) first from octets
 walked_wants took h t start now count at n rest first from octets w le read = record {
@@ -58,12 +58,12 @@ walked_wants took h t start now count at n rest first from octets w le read = re
   sound = front_sound h t w.all at rest (fields_in t.specs rest) n le read;
 }
 
-pub walked_first : {T : Type 0} (took : T → List PlacedView → T → Type 0) (h : Header) (t : TemplateView) (start now : T) (count at : ℕ) (rest : List ℕ) (records : List PlacedView)
+pub walked_first : {T : Type 0} (took : T → List PlacedView → T → Type 0) (h : Source) (t : TemplateView) (start now : T) (count at : ℕ) (rest : List ℕ) (records : List PlacedView)
     → Took took start now count records → Walked took h t start now count at rest records at rest
 walked_first took h t start now count at rest records taken = record { all = records; pieces = 0; leads = (refl, refl, refl); same = refl; holds = taken.0; counted = taken.1 }
 
 -- a set of templates, when these are known
-pub set_changes : (h : Header) (octets : List ℕ) (given : ReadMessage) (s : SetSpan) (options : Bool) (ts : Templates) (body : List ℕ) (r : Result Templates DecodeFault)
+pub set_changes : (h : Source) (octets : List ℕ) (given : ReadMessage) (s : SetSpan) (options : Bool) (ts : Templates) (body : List ℕ) (r : Result Templates DecodeFault)
     → set_of h octets given s ≡ with_templates given (walk (template_front h.domain options) given.templates (s.at + 4) (body_of octets s))
     → given.templates ≡ ts → body ≡ body_of octets s → walk (template_front h.domain options) ts (s.at + 4) body ≡ r → set_of h octets given s ≡ with_templates given r
 set_changes h octets given s options ts body r is known here found =
@@ -72,7 +72,7 @@ set_changes h octets given s options ts body r is known here found =
     ∙ ap (with_templates given) found
 
 -- a set of records
-pub set_records : (h : Header) (octets : List ℕ) (given : ReadMessage) (s : SetSpan) (t : TemplateView) (body : List ℕ) (r : Result (List PlacedView) DecodeFault)
+pub set_records : (h : Source) (octets : List ℕ) (given : ReadMessage) (s : SetSpan) (t : TemplateView) (body : List ℕ) (r : Result (List PlacedView) DecodeFault)
     → set_of h octets given s ≡ with_records given (walk (data_front h t) given.records (s.at + 4) (body_of octets s))
     → body ≡ body_of octets s → walk (data_front h t) given.records (s.at + 4) body ≡ r → set_of h octets given s ≡ with_records given r
 set_records h octets given s t body r is here found =

@@ -3,7 +3,7 @@ use Rattle.std.proofs.Common.{◌≡◌, ℕ, zero, suc, ◌+◌, ◌<◌, List,
 use Rattle.std.specs.Prelude.{is_some, false}
 use Rattle.tca_wire.specs.Walks.{Front, Next}
 use Rattle.tca_wire.specs.Results.{◌>>=◌}
-use Rattle.tca_wire.specs.declared.message.Header.{Header}
+use Rattle.tca_templates.specs.declared.source.Source.{Source}
 use Rattle.tca_wire.specs.declared.message.SetSpan.{SetSpan}
 use Rattle.tca_wire.proofs.Tiles.{blank_set}
 use Rattle.tca_templates.specs.declared.fault.DecodeFault.{DecodeFault}
@@ -24,12 +24,12 @@ module _ {S F : Type 0} (front : S → ℕ → List ℕ → Front S F) where
       (l.0, l.1, l.2, leads_more k l.0 t u (at + l.1) there n (drop l.1 octets) rest l.3 e)
 
 -- before the first set
-pub none_read : (h : Header) (octets : List ℕ) (first : ReadMessage) → sets_on h octets first [] ≡ Ok first
+pub none_read : (h : Source) (octets : List ℕ) (first : ReadMessage) → sets_on h octets first [] ≡ Ok first
 unfolding sets_on
 none_read h octets first = refl
 
 -- the sets so far, and one more
-pub sets_more : (h : Header) (octets : List ℕ) (first given next : ReadMessage) (ss : List SetSpan) (i : ℕ) → i < length ss → sets_on h octets first (take i ss) ≡ Ok given
+pub sets_more : (h : Source) (octets : List ℕ) (first given next : ReadMessage) (ss : List SetSpan) (i : ℕ) → i < length ss → sets_on h octets first (take i ss) ≡ Ok given
     → set_of h octets given (get_or ss i blank_set) ≡ Ok next → sets_on h octets first (take (suc i) ss) ≡ Ok next
 unfolding sets_on
 sets_more h octets first given next [] i lt read here = absurd (omega arith)

@@ -1,7 +1,7 @@
 -- The grammar of data sets (RFC 7011, sections 3.3, 3.4.3 and 7): records of one template one after the other, and padding.
 use Rattle.std.specs.Prelude.{◌≡◌, ◌≢◌, ℕ, ◌≤◌, ◌<◌, Bool, List, [], ◌∷◌, ◌++◌, length}
 use Rattle.byteorder.specs.Endian.{big_number}
-use Rattle.tca_wire.specs.declared.message.Header.{Header}
+use Rattle.tca_templates.specs.declared.source.Source.{Source}
 use Rattle.tca_templates.specs.declared.template.FieldSpec.{FieldSpec}
 use Rattle.tca_templates.specs.Templates.{TemplateView, shortest_of}
 use Rattle.tca_templates.specs.Records.{FieldView, PlacedView, placed}
@@ -53,6 +53,6 @@ pub record IsDataSet (t : TemplateView) (records : List (List FieldView)) (octet
 
 -- Records behind those of the message that stand before them. Record i of a message, counted from 0, has the place of its
 -- sequence number and i, modulo 2^32; records of options templates are counted with the others.
-abbrev pub placed_behind : Header → Bool → List PlacedView → List (List FieldView) → List PlacedView
-placed_behind h options before [] = before
-placed_behind h options before (r ∷ rs) = placed_behind h options (before ++ placed h options before r ∷ []) rs
+abbrev pub placed_behind : Source → Bool → List PlacedView → List (List FieldView) → List PlacedView
+placed_behind source options before [] = before
+placed_behind source options before (r ∷ rs) = placed_behind source options (before ++ placed source options before r ∷ []) rs

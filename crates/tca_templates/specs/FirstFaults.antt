@@ -1,7 +1,7 @@
 -- Messages that no reading in their session takes, and the fault that is the first from the left.
 use Rattle.std.specs.Prelude.{◌≡◌, ◌≢◌, ◌⊎◌, ℕ, ◌+◌, ◌≤◌, ◌<◌, Bool, true, false, List, [], ◌∷◌, ◌++◌, length, drop, Some, None, Ok}
 use Rattle.byteorder.specs.Endian.{big_number}
-use Rattle.tca_wire.specs.declared.message.Header.{Header}
+use Rattle.tca_templates.specs.declared.source.Source.{Source}
 use Rattle.tca_wire.specs.declared.message.SetSpan.{SetSpan}
 use Rattle.tca_templates.specs.declared.template.FieldSpec.{FieldSpec}
 use Rattle.tca_templates.specs.declared.fault.DecodeFault.{DecodeFault}
@@ -87,18 +87,18 @@ pub record IsFaultyDataSet (t : TemplateView) (at : ℕ) (octets : List ℕ) (fa
   pub is : fault ≡ RecordCut (at + length front)
 
 -- A set that is wrong, when this has come of the message before it. What is skipped or unread is never wrong.
-pub data IsFaultySet (h : Header) (octets : List ℕ) (given : ReadMessage) (s : SetSpan) (fault : DecodeFault) : Type 0 where
-  TemplateSet : s.id ≡ 2 → IsFaultyTemplateSet h.domain false given.templates (s.at + 4) (body_of octets s) fault → IsFaultySet h octets given s fault
-  OptionsTemplateSet : s.id ≡ 3 → IsFaultyTemplateSet h.domain true given.templates (s.at + 4) (body_of octets s) fault → IsFaultySet h octets given s fault
-  DataSet : 256 ≤ s.id → given.unplaced ≡ None → (t : TemplateView) → known (h.domain, s.id) given.templates ≡ Some t
-      → IsFaultyDataSet t (s.at + 4) (body_of octets s) fault → IsFaultySet h octets given s fault
+pub data IsFaultySet (source : Source) (octets : List ℕ) (given : ReadMessage) (s : SetSpan) (fault : DecodeFault) : Type 0 where
+  TemplateSet : s.id ≡ 2 → IsFaultyTemplateSet source.domain false given.templates (s.at + 4) (body_of octets s) fault → IsFaultySet source octets given s fault
+  OptionsTemplateSet : s.id ≡ 3 → IsFaultyTemplateSet source.domain true given.templates (s.at + 4) (body_of octets s) fault → IsFaultySet source octets given s fault
+  DataSet : 256 ≤ s.id → given.unplaced ≡ None → (t : TemplateView) → known (source.domain, s.id) given.templates ≡ Some t
+      → IsFaultyDataSet t (s.at + 4) (body_of octets s) fault → IsFaultySet source octets given s fault
 
 -- The sets of a message up to the first that is wrong, and its fault.
-pub record IsFirstFault (ts : Templates) (h : Header) (octets : List ℕ) (sets : List SetSpan) (fault : DecodeFault) : Type 0 where
+pub record IsFirstFault (ts : Templates) (source : Source) (octets : List ℕ) (sets : List SetSpan) (fault : DecodeFault) : Type 0 where
   pub before : List SetSpan
   pub set : SetSpan
   pub behind : List SetSpan
   pub given : ReadMessage
   pub whole : sets ≡ before ++ set ∷ behind
-  pub read : IsReading ts h octets before given
-  pub wrong : IsFaultySet h octets given set fault
+  pub read : IsReading ts source octets before given
+  pub wrong : IsFaultySet source octets given set fault

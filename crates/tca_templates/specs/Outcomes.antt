@@ -11,7 +11,7 @@ abbrev pub value_view : FieldValue → FieldView
 value_view f = record { element = f.element; enterprise = f.enterprise; value = f.value.items }
 
 abbrev pub placed_view : PlacedFields → PlacedView
-placed_view r = record { domain = r.domain; place = r.place; options = r.options; fields = map value_view r.fields.items }
+placed_view r = record { session = r.session; domain = r.domain; place = r.place; options = r.options; fields = map value_view r.fields.items }
 
 abbrev pub outcome_view : Templates → Outcome → ReadMessage
 outcome_view ts o = record { templates = ts; records = map placed_view o.fields.items; unplaced = o.unplaced; skipped = o.skipped }

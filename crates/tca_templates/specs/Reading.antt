@@ -2,7 +2,7 @@
 use Rattle.std.specs.Prelude.{ℕ, ◌+◌, ◌==◌, nat_lt, true, false, if◌then◌else◌, List, [], ◌∷◌, take, drop, Option, Some, None, Result, Ok, Err}
 use Rattle.tca_wire.specs.Results.{◌>>=◌}
 use Rattle.tca_wire.specs.Walks.{walk}
-use Rattle.tca_wire.specs.declared.message.Header.{Header}
+use Rattle.tca_templates.specs.declared.source.Source.{Source}
 use Rattle.tca_wire.specs.declared.message.SetSpan.{SetSpan}
 use Rattle.tca_templates.specs.declared.fault.DecodeFault.{DecodeFault}
 use Rattle.tca_templates.specs.Templates.{Templates, TemplateView, known}
@@ -31,30 +31,30 @@ abbrev pub body_of : List ℕ → SetSpan → List ℕ
 body_of octets s = drop (s.at + 4) (take (s.at + s.length) octets)
 
 -- A data set: of a known template its records follow. From the first set of an unknown template on none is read.
-abbrev pub data_of : Header → List ℕ → SetSpan → ReadMessage → Option ℕ → Option TemplateView → Result ReadMessage DecodeFault
-data_of h octets s given (Some id) t = Ok given
-data_of h octets s given None None = Ok (record given { unplaced = Some s.id })
-data_of h octets s given None (Some t) = with_records given (walk (data_front h t) given.records (s.at + 4) (body_of octets s))
+abbrev pub data_of : Source → List ℕ → SetSpan → ReadMessage → Option ℕ → Option TemplateView → Result ReadMessage DecodeFault
+data_of source octets s given (Some id) t = Ok given
+data_of source octets s given None None = Ok (record given { unplaced = Some s.id })
+data_of source octets s given None (Some t) = with_records given (walk (data_front source t) given.records (s.at + 4) (body_of octets s))
 
 -- What a set does. The identifiers 0, 1 and 4 to 255 aren't used or are reserved (RFC 7011, section 3.3.2): their sets
 -- are skipped and counted, wherever they stand. A set without records is accepted.
-unfoldable pub set_of : Header → List ℕ → ReadMessage → SetSpan → Result ReadMessage DecodeFault
-set_of h octets given s =
-    if s.id == 2 then with_templates given (walk (template_front h.domain false) given.templates (s.at + 4) (body_of octets s))
-    else (if s.id == 3 then with_templates given (walk (template_front h.domain true) given.templates (s.at + 4) (body_of octets s))
+unfoldable pub set_of : Source → List ℕ → ReadMessage → SetSpan → Result ReadMessage DecodeFault
+set_of source octets given s =
+    if s.id == 2 then with_templates given (walk (template_front source.domain false) given.templates (s.at + 4) (body_of octets s))
+    else (if s.id == 3 then with_templates given (walk (template_front source.domain true) given.templates (s.at + 4) (body_of octets s))
     else (if nat_lt s.id 256 then Ok (record given { skipped = given.skipped + 1 })
-    else data_of h octets s given given.unplaced (known (h.domain, s.id) given.templates)))
+    else data_of source octets s given given.unplaced (known (source.domain, s.id) given.templates)))
 
 -- no set is read behind a fault
 -- The sets take effect one after the other.
-unfoldable pub sets_on : Header → List ℕ → ReadMessage → List SetSpan → Result ReadMessage DecodeFault
-sets_on h octets given [] = Ok given
-sets_on h octets given (s ∷ ss) = set_of h octets given s >>= (λ more. sets_on h octets more ss)
+unfoldable pub sets_on : Source → List ℕ → ReadMessage → List SetSpan → Result ReadMessage DecodeFault
+sets_on source octets given [] = Ok given
+sets_on source octets given (s ∷ ss) = set_of source octets given s >>= (λ more. sets_on source octets more ss)
 
 -- before the first set
 abbrev pub before : Templates → ReadMessage
 before ts = record { templates = ts; records = []; unplaced = None; skipped = 0 }
 
 -- what has come at the end of a message, or the first fault from the left
-abbrev pub read_of : Templates → Header → List ℕ → List SetSpan → Result ReadMessage DecodeFault
-read_of ts h octets sets = sets_on h octets (before ts) sets
+abbrev pub read_of : Templates → Source → List ℕ → List SetSpan → Result ReadMessage DecodeFault
+read_of ts source octets sets = sets_on source octets (before ts) sets

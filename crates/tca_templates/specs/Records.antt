@@ -3,6 +3,7 @@ use Rattle.std.specs.Prelude.{ℕ, ◌+◌, ◌%◌, ◌^◌, ◌==◌, nat_lt, 
 use Rattle.byteorder.specs.Endian.{big_number}
 use Rattle.tca_wire.specs.Walks.{Front, Ends, Bad, Next}
 use Rattle.tca_wire.specs.declared.message.Header.{Header}
+use Rattle.tca_templates.specs.declared.source.Source.{Source}
 use Rattle.tca_templates.specs.declared.template.FieldSpec.{FieldSpec}
 use Rattle.tca_templates.specs.declared.fault.DecodeFault.{DecodeFault}
 use Rattle.tca_templates.specs.declared.fault.DecodeFault.TheVariants.{RecordCut}
@@ -14,8 +15,9 @@ pub record FieldView : Type 0 where
   pub enterprise : Option ℕ
   pub value : List ℕ
 
--- a data record with its place
+-- A data record with its place among those of its observation domain in its session.
 pub record PlacedView : Type 0 where
+  pub session : ℕ
   pub domain : ℕ
   pub place : ℕ
   pub options : Bool
@@ -44,19 +46,23 @@ fields_on fields used (s ∷ ss) octets = elim (field_at s.length octets) [
   | Some x ↦ fields_on (fields ++ record { element = s.element; enterprise = s.enterprise; value = take x.1 (drop x.0 octets) } ∷ []) (used + (x.0 + x.1)) ss (drop (x.0 + x.1) octets)
 ]
 
+-- whose records a message of this header has in a session of this number
+abbrev pub source_of : ℕ → Header → Source
+source_of session header = record { session = session; domain = header.domain; sequence = header.sequence }
+
 -- The place of the next record: the records before it are counted from the sequence number on, modulo 2^32. The
 -- sequence number counts data records (RFC 7011, section 3.1), and records of options templates are read as such.
-abbrev pub placed : Header → Bool → List PlacedView → List FieldView → PlacedView
-placed h options records fields =
-    record { domain = h.domain; place = (h.sequence + length records) % 2 ^ 32; options = options; fields = fields }
+abbrev pub placed : Source → Bool → List PlacedView → List FieldView → PlacedView
+placed source options records fields =
+    record { session = source.session; domain = source.domain; place = (source.sequence + length records) % 2 ^ 32; options = options; fields = fields }
 
 -- a record that begins and isn't there whole is cut
-abbrev pub after_record : Header → Bool → List PlacedView → ℕ → Option (List FieldView × ℕ) → Front (List PlacedView) DecodeFault
-after_record h options records at None = Bad (RecordCut at)
-after_record h options records at (Some x) = Next (records ++ placed h options records x.0 ∷ []) x.1
+abbrev pub after_record : Source → Bool → List PlacedView → ℕ → Option (List FieldView × ℕ) → Front (List PlacedView) DecodeFault
+after_record source options records at None = Bad (RecordCut at)
+after_record source options records at (Some x) = Next (records ++ placed source options records x.0 ∷ []) x.1
 
 -- Fewer octets than the shortest record are padding. RFC 7011, section 3.3.1, has exporters write zeros there; here
 -- any value is taken.
-unfoldable pub data_front : Header → TemplateView → List PlacedView → ℕ → List ℕ → Front (List PlacedView) DecodeFault
-data_front h t records at octets =
-    if nat_lt (length octets) (shortest_of t.specs) then Ends else after_record h t.options records at (fields_on [] 0 t.specs octets)
+unfoldable pub data_front : Source → TemplateView → List PlacedView → ℕ → List ℕ → Front (List PlacedView) DecodeFault
+data_front source t records at octets =
+    if nat_lt (length octets) (shortest_of t.specs) then Ends else after_record source t.options records at (fields_on [] 0 t.specs octets)

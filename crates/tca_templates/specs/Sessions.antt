@@ -2,7 +2,7 @@
 use Rattle.std.specs.Prelude.{◌≡◌, ◌≢◌, ⊤, ℕ, ◌+◌, ◌%◌, ◌^◌, ◌≤◌, ◌<◌, Bool, true, false, if◌then◌else◌, List, [], ◌∷◌, length, Option, Some, None}
 use Rattle.std.specs.List.{IsDistinct, AllByRecursion}
 use Rattle.std.specs.Map.{keys_of}
-use Rattle.tca_wire.specs.declared.message.Header.{Header}
+use Rattle.tca_templates.specs.declared.source.Source.{Source}
 use Rattle.tca_wire.specs.declared.message.SetSpan.{SetSpan}
 use Rattle.tca_templates.specs.Templates.{Key, Templates, TemplateView, same_key, stays, known, shortest_of}
 use Rattle.tca_templates.specs.Records.{FieldView, PlacedView}
@@ -28,43 +28,43 @@ abbrev pub of_others : ℕ → Bool → Key → Option TemplateView → Option T
 of_others domain options k None = None
 of_others domain options k (Some t) = if stays domain options (k, t) then Some t else None
 
--- Records of the message's observation domain, the first of which has so many before it: each has the place of the sequence number
+-- Records of the message's session and observation domain, the first of which has so many before it: each has the place of the sequence number
 -- and the count of those before it, modulo 2^32.
-abbrev pub ArePlaced : Header → ℕ → List PlacedView → Type 0
-ArePlaced h i [] = ⊤
-ArePlaced h i (r ∷ rs) = (r.domain ≡ h.domain) × (r.place ≡ (h.sequence + i) % 2 ^ 32) × ArePlaced h (i + 1) rs
+abbrev pub ArePlaced : Source → ℕ → List PlacedView → Type 0
+ArePlaced source i [] = ⊤
+ArePlaced source i (r ∷ rs) = (r.session ≡ source.session) × (r.domain ≡ source.domain) × (r.place ≡ (source.sequence + i) % 2 ^ 32) × ArePlaced source (i + 1) rs
 
 -- One set, and what has come of the message before it and with it.
-pub data IsSet (h : Header) (octets : List ℕ) (given after : ReadMessage) (s : SetSpan) : Type 0 where
+pub data IsSet (source : Source) (octets : List ℕ) (given after : ReadMessage) (s : SetSpan) : Type 0 where
   -- A template set, of identifier 2.
-  TemplateSet : s.id ≡ 2 → (ts : Templates) → IsTemplateSet h.domain false given.templates ts (body_of octets s)
-      → after ≡ record given { templates = ts } → IsSet h octets given after s
+  TemplateSet : s.id ≡ 2 → (ts : Templates) → IsTemplateSet source.domain false given.templates ts (body_of octets s)
+      → after ≡ record given { templates = ts } → IsSet source octets given after s
   -- An options template set, of identifier 3.
-  OptionsTemplateSet : s.id ≡ 3 → (ts : Templates) → IsTemplateSet h.domain true given.templates ts (body_of octets s)
-      → after ≡ record given { templates = ts } → IsSet h octets given after s
+  OptionsTemplateSet : s.id ≡ 3 → (ts : Templates) → IsTemplateSet source.domain true given.templates ts (body_of octets s)
+      → after ≡ record given { templates = ts } → IsSet source octets given after s
   -- The other identifiers below 256 are skipped and counted.
-  Skipped : s.id < 256 → s.id ≢ 2 → s.id ≢ 3 → after ≡ record given { skipped = given.skipped + 1 } → IsSet h octets given after s
+  Skipped : s.id < 256 → s.id ≢ 2 → s.id ≢ 3 → after ≡ record given { skipped = given.skipped + 1 } → IsSet source octets given after s
   -- A data set of a template that is known by then.
-  DataSet : 256 ≤ s.id → given.unplaced ≡ None → (t : TemplateView) → known (h.domain, s.id) given.templates ≡ Some t
+  DataSet : 256 ≤ s.id → given.unplaced ≡ None → (t : TemplateView) → known (source.domain, s.id) given.templates ≡ Some t
       → (records : List (List FieldView)) → IsDataSet t records (body_of octets s)
-      → after ≡ record given { records = placed_behind h t.options given.records records } → IsSet h octets given after s
+      → after ≡ record given { records = placed_behind source t.options given.records records } → IsSet source octets given after s
   -- The first data set of a template that isn't known: how many records it has isn't known, so no record from here on has a place.
-  Unplaced : 256 ≤ s.id → given.unplaced ≡ None → known (h.domain, s.id) given.templates ≡ None
-      → after ≡ record given { unplaced = Some s.id } → IsSet h octets given after s
+  Unplaced : 256 ≤ s.id → given.unplaced ≡ None → known (source.domain, s.id) given.templates ≡ None
+      → after ≡ record given { unplaced = Some s.id } → IsSet source octets given after s
   -- Any data set behind it.
-  Unread : 256 ≤ s.id → (id : ℕ) → given.unplaced ≡ Some id → after ≡ given → IsSet h octets given after s
+  Unread : 256 ≤ s.id → (id : ℕ) → given.unplaced ≡ Some id → after ≡ given → IsSet source octets given after s
 
 -- What comes of these sets, one after the other.
-pub record Then (h : Header) (octets : List ℕ) (given : ReadMessage) (s : SetSpan) (Others : ReadMessage → Type 0) : Type 0 where
+pub record Then (source : Source) (octets : List ℕ) (given : ReadMessage) (s : SetSpan) (Others : ReadMessage → Type 0) : Type 0 where
   pub next : ReadMessage
-  pub first : IsSet h octets given next s
+  pub first : IsSet source octets given next s
   pub others : Others next
 
-abbrev pub AreSets : Header → List ℕ → ReadMessage → List SetSpan → ReadMessage → Type 0
-AreSets h octets given [] after = after ≡ given
-AreSets h octets given (s ∷ ss) after = Then h octets given s (λ next. AreSets h octets next ss after)
+abbrev pub AreSets : Source → List ℕ → ReadMessage → List SetSpan → ReadMessage → Type 0
+AreSets source octets given [] after = after ≡ given
+AreSets source octets given (s ∷ ss) after = Then source octets given s (λ next. AreSets source octets next ss after)
 
--- A message of this header and these sets, read when these templates are known: its records in their order, the first data set
+-- A message of this source and these sets, read when these templates are known: its records in their order, the first data set
 -- that has no known template, how many sets were skipped, and the templates after it.
-abbrev pub IsReading : Templates → Header → List ℕ → List SetSpan → ReadMessage → Type 0
-IsReading ts h octets sets after = AreSets h octets (before ts) sets after
+abbrev pub IsReading : Templates → Source → List ℕ → List SetSpan → ReadMessage → Type 0
+IsReading ts source octets sets after = AreSets source octets (before ts) sets after

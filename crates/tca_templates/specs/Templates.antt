@@ -54,6 +54,11 @@ abbrev pub shortest_of : List FieldSpec → ℕ
 shortest_of [] = 0
 shortest_of (s ∷ ss) = least_of s + shortest_of ss
 
+-- A session: its number, and the templates that its messages defined.
+pub record SessionView : Type 0 where
+  pub number : ℕ
+  pub templates : Templates
+
 -- Of each template its observation domain, its identifier and whether it is an options template.
 abbrev pub listed : Templates → List (ℕ × ℕ × Bool)
 listed ts = map (λ e. (e.0.0, e.0.1, e.1.options)) ts

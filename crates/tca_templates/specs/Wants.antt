@@ -1,7 +1,7 @@
 -- Where memory is wanted for a message: all that stands before is right, and so is the record that it is wanted for.
 use Rattle.std.specs.Prelude.{◌≡◌, ℕ, zero, suc, ◌+◌, ◌≤◌, false, true, List, ◌∷◌, ◌++◌, drop, Some, None}
 use Rattle.tca_wire.specs.Walks.{Front, Next}
-use Rattle.tca_wire.specs.declared.message.Header.{Header}
+use Rattle.tca_templates.specs.declared.source.Source.{Source}
 use Rattle.tca_wire.specs.declared.message.SetSpan.{SetSpan}
 use Rattle.tca_templates.specs.Templates.{Templates, TemplateView, known}
 use Rattle.tca_templates.specs.Specifiers.{template_front}
@@ -25,18 +25,18 @@ pub record IsWanted {S F : Type 0} (front : S → ℕ → List ℕ → Front S F
   pub sound : IsSound (front come there rest)
 
 -- The set with that record, when this has come of the message before it.
-pub data IsWantedInSet (h : Header) (octets : List ℕ) (given : ReadMessage) (s : SetSpan) : Type 0 where
-  TemplateSet : s.id ≡ 2 → IsWanted (template_front h.domain false) given.templates (s.at + 4) (body_of octets s) → IsWantedInSet h octets given s
-  OptionsTemplateSet : s.id ≡ 3 → IsWanted (template_front h.domain true) given.templates (s.at + 4) (body_of octets s) → IsWantedInSet h octets given s
-  DataSet : 256 ≤ s.id → given.unplaced ≡ None → (t : TemplateView) → known (h.domain, s.id) given.templates ≡ Some t
-      → IsWanted (data_front h t) given.records (s.at + 4) (body_of octets s) → IsWantedInSet h octets given s
+pub data IsWantedInSet (source : Source) (octets : List ℕ) (given : ReadMessage) (s : SetSpan) : Type 0 where
+  TemplateSet : s.id ≡ 2 → IsWanted (template_front source.domain false) given.templates (s.at + 4) (body_of octets s) → IsWantedInSet source octets given s
+  OptionsTemplateSet : s.id ≡ 3 → IsWanted (template_front source.domain true) given.templates (s.at + 4) (body_of octets s) → IsWantedInSet source octets given s
+  DataSet : 256 ≤ s.id → given.unplaced ≡ None → (t : TemplateView) → known (source.domain, s.id) given.templates ≡ Some t
+      → IsWanted (data_front source t) given.records (s.at + 4) (body_of octets s) → IsWantedInSet source octets given s
 
 -- The sets of a message before that one are a reading.
-pub record WantsMemory (ts : Templates) (h : Header) (octets : List ℕ) (sets : List SetSpan) : Type 0 where
+pub record WantsMemory (ts : Templates) (source : Source) (octets : List ℕ) (sets : List SetSpan) : Type 0 where
   pub before : List SetSpan
   pub set : SetSpan
   pub behind : List SetSpan
   pub given : ReadMessage
   pub whole : sets ≡ before ++ set ∷ behind
-  pub read : IsReading ts h octets before given
-  pub wanted : IsWantedInSet h octets given set
+  pub read : IsReading ts source octets before given
+  pub wanted : IsWantedInSet source octets given set

@@ -3,6 +3,7 @@ ghost use Rattle.std.specs.Prelude.{◌≡◌, ◌≢◌, ◌<◌, ◌≤◌, �
 ghost use Rattle.std.specs.List.{list_any};
 ghost use Rattle.tca_wire.specs.Results.{Gives};
 ghost use Rattle.tca_templates.specs.Templates.{listed};
+ghost use Rattle.tca_templates.specs.Records.{source_of};
 ghost use Rattle.tca_templates.specs.Reading.{read_of, ReadMessage};
 ghost use Rattle.tca_templates.specs.Sessions.{IsReading};
 ghost use Rattle.tca_templates.specs.FirstFaults.{IsFirstFault};
@@ -18,13 +19,15 @@ use crate::outcome::{Outcome, read_message};
 use crate::reading::read_sets;
 use crate::record::TakesRecords;
 use crate::slots::Slots;
+use crate::source::Source;
 use std::alloc::Global;
 use std::marker::Model;
 use tca_wire::Message;
 
-/// One transport session, with the templates that its messages defined (RFC 7011, section 8).
+/// One transport session: its number, and the templates that its messages defined (RFC 7011, sections 2 and 8).
 #[derive(Drop)]
 pub struct Decoder {
+    session: u32,
     templates: Slots,
 }
 
@@ -40,22 +43,27 @@ pub struct Handed {
 }
 
 impl Model for Decoder {
-    ghost use Rattle.tca_templates.specs.Templates.{Templates};
+    ghost use Rattle.tca_templates.specs.Templates.{SessionView};
     ghost use Rattle.tca_templates.specs.Fields.{templates_of};
 
-    ghost Value = { Templates };
+    ghost Value = { SessionView };
 
-    ghost view = { λ d. templates_of d.templates };
+    ghost view = { λ d. record { number = d.session; templates = templates_of d.templates } };
 }
 
 impl Decoder {
     ghost use Rattle.std.specs.Prelude.{[]};
 
-    /// A session without templates. It takes no memory.
-    pub fn new(alloc: Global) -> Decoder
-        ensures { result ≡ [] }
+    /// A transport session without templates. It takes no memory.
+    ///
+    /// No message says which session it is of: the operator gives each a number. In every session an exporter counts the
+    /// data records of an observation domain anew (RFC 7011, sections 2 and 3.1), so two sessions of one domain are to
+    /// have distinct numbers, lest records of both have one place.
+    pub fn new(alloc: Global, session: u32) -> Decoder
+        ensures { result ≡ record { number = session; templates = [] } }
     {
         Decoder {
+            session,
             templates: Slots::new(alloc),
         }
     }
@@ -64,7 +72,7 @@ impl Decoder {
     /// they were first seen. A redefined template keeps its place; one that was withdrawn and is defined again
     /// goes last. It takes no memory.
     pub fn templates(&self) -> TemplatesIter<'_>
-        ensures list { result ≡ listed self.now }
+        ensures list { result ≡ listed self.now.templates }
         ensures fits { length result < 2 ^ 63 }
     {
         TemplatesIter::new(&self.templates)
@@ -89,26 +97,28 @@ impl Decoder {
     ) -> Result<Handed, DecodeFault>
         // What the taker holds is what the message is in this session.
         ensures found { (start : T) → T.took start [] taker.old → IfOk result (λ x. (given : ReadMessage)
-            × IsReading self message.now.header message.now.octets.now message.now.sets.items given
-            × IsHanded T.took start taker.new message.now.header.length x given) }
+            × IsReading self.templates (source_of self.number message.now.header) message.now.octets.now message.now.sets.items given
+            × IsHanded T.took start taker.new self.number message.now.header.length x given) }
         // The records of the grammar, the templates after them, or the first fault.
         ensures exact { (start : T) → T.took start [] taker.old
-            → GivesAs DecodeFault.Memory (λ x after. IsHanded T.took start taker.new message.now.header.length x after) result
-            (read_of self message.now.header message.now.octets.now message.now.sets.items) }
+            → GivesAs DecodeFault.Memory (λ x after. IsHanded T.took start taker.new self.number message.now.header.length x after) result
+            (read_of self.templates (source_of self.number message.now.header) message.now.octets.now message.now.sets.items) }
         // A fault is the first from the left.
         ensures first { (start : T) → T.took start [] taker.old → IfErr result (λ f. f ≢ DecodeFault.Memory
-            → IsFirstFault self message.now.header message.now.octets.now message.now.sets.items f) }
+            → IsFirstFault self.templates (source_of self.number message.now.header) message.now.octets.now message.now.sets.items f) }
         ensures skipped { IfOk result (λ x. x.skipped ≤ message.now.header.length) }
         // Memory is wanted only where all before is right, and the record that it is wanted for.
         ensures wanted { result ≡ Err DecodeFault.Memory → (start : T) → T.took start [] taker.old
-            → WantsMemory self message.now.header message.now.octets.now message.now.sets.items }
+            → WantsMemory self.templates (source_of self.number message.now.header) message.now.octets.now message.now.sets.items }
         // It is wanted only where a set isn't skipped.
         ensures memory { result ≡ Err DecodeFault.Memory → list_any is_read message.now.sets.items ≡ true }
     {
+        let session = self.session;
+        let source = Source::of(session, message.header);
         let mut templates = self.templates;
-        let aside = read_sets(alloc, &mut templates, message, taker)?;
+        let aside = read_sets(alloc, &mut templates, source, message, taker)?;
         Ok(Handed {
-            decoder: Decoder { templates },
+            decoder: Decoder { session, templates },
             unplaced: aside.unplaced,
             skipped: aside.skipped,
         })
@@ -124,23 +134,25 @@ impl Decoder {
     /// record past the set's end is `RecordCut`.
     pub fn read(&mut self, alloc: Global, message: &Message<'_>) -> Result<Outcome, DecodeFault>
         // What is read is what the message is in this session.
-        ensures found { IfOk result (λ o. IsReading self.old message.now.header message.now.octets.now message.now.sets.items (outcome_view self.new o)) }
+        ensures found { IfOk result (λ o. IsReading self.old.templates (source_of self.old.number message.now.header) message.now.octets.now message.now.sets.items (outcome_view self.new.templates o)) }
         // A fault is the first from the left.
         ensures first { IfErr result (λ f. f ≢ DecodeFault.Memory
-            → IsFirstFault self.old message.now.header message.now.octets.now message.now.sets.items f) }
+            → IsFirstFault self.old.templates (source_of self.old.number message.now.header) message.now.octets.now message.now.sets.items f) }
         // What the message is in this session is read, unless memory runs out.
-        ensures only { (given : ReadMessage) → IsReading self.old message.now.header message.now.octets.now message.now.sets.items given →
-            Gives DecodeFault.Memory (λ o. outcome_view self.new o) result (Ok given) }
+        ensures only { (given : ReadMessage) → IsReading self.old.templates (source_of self.old.number message.now.header) message.now.octets.now message.now.sets.items given →
+            Gives DecodeFault.Memory (λ o. outcome_view self.new.templates o) result (Ok given) }
         // Which fault it is else: the first from the left.
-        ensures exact { Gives DecodeFault.Memory (λ o. outcome_view self.new o) result
-            (read_of self.old message.now.header message.now.octets.now message.now.sets.items) }
+        ensures exact { Gives DecodeFault.Memory (λ o. outcome_view self.new.templates o) result
+            (read_of self.old.templates (source_of self.old.number message.now.header) message.now.octets.now message.now.sets.items) }
+        ensures session { self.new.number ≡ self.old.number }
         ensures err { OnErr result (self.new ≡ self.old) }
         // Memory is wanted only where all before is right, and the record that it is wanted for.
         ensures wanted { result ≡ Err DecodeFault.Memory
-            → WantsMemory self.old message.now.header message.now.octets.now message.now.sets.items }
+            → WantsMemory self.old.templates (source_of self.old.number message.now.header) message.now.octets.now message.now.sets.items }
         // It is wanted only where a set isn't skipped.
         ensures memory { result ≡ Err DecodeFault.Memory → list_any is_read message.now.sets.items ≡ true }
     {
-        read_message(alloc, &mut self.templates, message)
+        let source = Source::of(self.session, message.header);
+        read_message(alloc, &mut self.templates, source, message)
     }
 }

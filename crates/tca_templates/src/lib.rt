@@ -13,6 +13,7 @@
 //! - `template`, `specifiers`, `store`: what a template says, the records that define and withdraw templates, and
 //!   the sets of these; `slots`: the templates that are known; `iter`: all of them in order;
 //! - `layout`: which fields of a template are chosen, and where they stand in a record;
+//! - `source`: whose records a message has;
 //! - `record`, `outcome`: the records of data sets, in the message's octets and as values of their own;
 //! - `fault`: what can be wrong.
 #![tactic(auto)]
@@ -25,6 +26,7 @@ mod outcome;
 mod reading;
 mod record;
 mod slots;
+mod source;
 mod specifiers;
 mod store;
 mod template;

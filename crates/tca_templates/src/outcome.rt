@@ -11,6 +11,7 @@ use crate::fault::DecodeFault;
 use crate::reading::read_sets;
 use crate::record::{Record, TakesRecords};
 use crate::slots::Slots;
+use crate::source::Source;
 use std::alloc::{AllocError, Global};
 use tca_wire::Message;
 
@@ -25,10 +26,12 @@ pub struct FieldValue {
     pub value: Vec<u8>,
 }
 
-/// A data record, and its place among those of its session and observation domain.
+/// A data record, and its place among those of its observation domain in its session.
 #[derive(Drop)]
 pub struct PlacedFields {
-    /// The observation domain.
+    /// The number of its transport session, as the decoder was given it.
+    pub session: u32,
+    /// Its observation domain.
     pub domain: u32,
     /// The message's sequence number and the records of the message before this one, modulo 2^32.
     pub place: u32,
@@ -65,6 +68,7 @@ impl TakesRecords for Collector {
     fn take(&mut self, next: &Record<'_>) -> Result<(), AllocError> {
         let fields = next.fields(self.alloc)?;
         self.placed.push(PlacedFields {
+            session: next.session(),
             domain: next.domain(),
             place: next.place(),
             options: next.is_options(),
@@ -78,20 +82,21 @@ impl TakesRecords for Collector {
 fn read_values(
     alloc: Global,
     templates: &mut Slots,
+    source: Source,
     message: &Message<'_>,
 ) -> Result<Outcome, DecodeFault>
     ensures exact { Gives DecodeFault.Memory (λ o. outcome_view (templates_of templates.new) o) result
-        (read_of (templates_of templates.old) message.now.header message.now.octets.now message.now.sets.items) }
+        (read_of (templates_of templates.old) source message.now.octets.now message.now.sets.items) }
     ensures before { templates.new.before ≡ templates.old.before }
     ensures wanted { result ≡ Err DecodeFault.Memory
-        → WantsMemory (templates_of templates.old) message.now.header message.now.octets.now message.now.sets.items }
+        → WantsMemory (templates_of templates.old) source message.now.octets.now message.now.sets.items }
     ensures memory { result ≡ Err DecodeFault.Memory → list_any is_read message.now.sets.items ≡ true }
 {
     let mut collector = Collector {
         alloc,
         placed: Vec::new(alloc),
     };
-    let aside = read_sets(alloc, templates, message, &mut collector)?;
+    let aside = read_sets(alloc, templates, source, message, &mut collector)?;
     Ok(Outcome {
         fields: collector.placed,
         unplaced: aside.unplaced,
@@ -103,17 +108,18 @@ fn read_values(
 pub(crate) fn read_message(
     alloc: Global,
     templates: &mut Slots,
+    source: Source,
     message: &Message<'_>,
 ) -> Result<Outcome, DecodeFault>
     ensures exact { Gives DecodeFault.Memory (λ o. outcome_view (templates_of templates.new) o) result
-        (read_of (templates_of templates.old) message.now.header message.now.octets.now message.now.sets.items) }
+        (read_of (templates_of templates.old) source message.now.octets.now message.now.sets.items) }
     ensures err { OnErr result (templates_of templates.new ≡ templates_of templates.old) }
     ensures wanted { result ≡ Err DecodeFault.Memory
-        → WantsMemory (templates_of templates.old) message.now.header message.now.octets.now message.now.sets.items }
+        → WantsMemory (templates_of templates.old) source message.now.octets.now message.now.sets.items }
     ensures memory { result ≡ Err DecodeFault.Memory → list_any is_read message.now.sets.items ≡ true }
 {
     templates.begin(alloc);
-    match read_values(alloc, templates, message) {
+    match read_values(alloc, templates, source, message) {
         Ok(outcome) => {
             templates.keep();
             Ok(outcome)

@@ -8,7 +8,7 @@ ghost use Rattle.tca_templates.specs.Sessions.{HaveOctets, IsSession, of_others,
 ghost use Rattle.tca_templates.specs.FirstFaults.{IsFirstFault};
 ghost use Rattle.tca_templates.specs.declared.fault.DecodeFault.{DecodeFault};
 ghost use Rattle.tca_templates.specs.Templates.{Key, Templates, TemplateView, same_key, define, withdraw, withdraw_all, known};
-ghost use Rattle.tca_wire.specs.declared.message.Header.{Header};
+ghost use Rattle.tca_templates.specs.declared.source.Source.{Source};
 ghost use Rattle.tca_wire.specs.declared.message.SetSpan.{SetSpan};
 ghost use Rattle.tca_templates.specs.Fields.{templates_of, is_read};
 ghost use Rattle.tca_templates.specs.Taking.{GivesAs, HasCome};
@@ -17,6 +17,7 @@ ghost use Rattle.tca_templates.specs.Wants.{IsWantedInSet, WantsMemory};
 use crate::fault::DecodeFault;
 use crate::record::{TakesRecords, read_records};
 use crate::slots::Slots;
+use crate::source::Source;
 use crate::store::read_templates;
 use std::alloc::Global;
 use tca_wire::{Message, SetSpan};
@@ -47,6 +48,7 @@ fn set_body<'a>(octets: &'a [u8], set: SetSpan) -> &'a [u8]
 fn read_set<T: TakesRecords>(
     alloc: Global,
     templates: &mut Slots,
+    source: Source,
     message: &Message<'_>,
     set: SetSpan,
     aside: Aside,
@@ -59,23 +61,22 @@ fn read_set<T: TakesRecords>(
     requires skipped { aside.skipped + 1 < 2 ^ 32 }
     ensures exact { (start : T) (given : ReadMessage) → HasCome T.took start taker.old templates.old aside given
         → GivesAs DecodeFault.Memory (λ x after. HasCome T.took start taker.new templates.new x after) result
-        (set_of message.now.header message.now.octets.now given set) }
+        (set_of source message.now.octets.now given set) }
     ensures wanted { result ≡ Err DecodeFault.Memory → (start : T) (given : ReadMessage) → HasCome T.took start taker.old templates.old aside given
-        → IsWantedInSet message.now.header message.now.octets.now given set }
+        → IsWantedInSet source message.now.octets.now given set }
     ensures few { IfOk result (λ x. x.count ≤ set.at + set.length) }
     ensures skipped { IfOk result (λ x. x.skipped ≤ aside.skipped + 1) }
     ensures before { templates.new.before ≡ templates.old.before }
     ensures memory { result ≡ Err DecodeFault.Memory → is_read set ≡ true }
 {
-    let header = message.header;
     let at = set.at + 4;
     let body = set_body(message.octets, set);
     if set.id == 2 {
-        read_templates(alloc, templates, header.domain, false, at, body)?;
+        read_templates(alloc, templates, source.domain, false, at, body)?;
         return Ok(aside);
     }
     if set.id == 3 {
-        read_templates(alloc, templates, header.domain, true, at, body)?;
+        read_templates(alloc, templates, source.domain, true, at, body)?;
         return Ok(aside);
     }
     if set.id < 256 {
@@ -88,14 +89,14 @@ fn read_set<T: TakesRecords>(
     if aside.unplaced.is_some() {
         return Ok(aside);
     }
-    let Some(template) = templates.find(header.domain, set.id) else {
+    let Some(template) = templates.find(source.domain, set.id) else {
         return Ok(Aside {
             unplaced: Some(set.id),
             skipped: aside.skipped,
             count: aside.count,
         });
     };
-    let count = read_records(header, template, aside.count, at, body, taker)?;
+    let count = read_records(source, template, aside.count, at, body, taker)?;
     Ok(Aside {
         unplaced: aside.unplaced,
         skipped: aside.skipped,
@@ -108,14 +109,15 @@ fn read_set<T: TakesRecords>(
 pub(crate) fn read_sets<T: TakesRecords>(
     alloc: Global,
     templates: &mut Slots,
+    source: Source,
     message: &Message<'_>,
     taker: &mut T,
 ) -> Result<Aside, DecodeFault>
     ensures exact { (start : T) → T.took start [] taker.old
         → GivesAs DecodeFault.Memory (λ x after. HasCome T.took start taker.new templates.new x after) result
-        (read_of (templates_of templates.old) message.now.header message.now.octets.now message.now.sets.items) }
+        (read_of (templates_of templates.old) source message.now.octets.now message.now.sets.items) }
     ensures wanted { result ≡ Err DecodeFault.Memory → (start : T) → T.took start [] taker.old
-        → WantsMemory (templates_of templates.old) message.now.header message.now.octets.now message.now.sets.items }
+        → WantsMemory (templates_of templates.old) source message.now.octets.now message.now.sets.items }
     ensures few { IfOk result (λ x. x.count ≤ message.now.header.length) }
     ensures skipped { IfOk result (λ x. x.skipped ≤ message.now.header.length) }
     ensures before { templates.new.before ≡ templates.old.before }
@@ -127,7 +129,7 @@ pub(crate) fn read_sets<T: TakesRecords>(
         count: 0,
     };
     for set in &message.sets {
-        aside = read_set(alloc, templates, message, *set, aside, taker)?;
+        aside = read_set(alloc, templates, source, message, *set, aside, taker)?;
     }
     Ok(aside)
 }
@@ -136,14 +138,14 @@ pub(crate) fn read_sets<T: TakesRecords>(
 /// where it is no message of that session, the one fault before which all is right. So it is where no template that is
 /// known gives its records no octet.
 pub fn reading_words()
-    ensures found { (ts : Templates) (h : Header) (octets : List ℕ) (ss : List SetSpan) (given : ReadMessage) → HaveOctets ts
-        → read_of ts h octets ss ≡ Ok given → IsReading ts h octets ss given }
-    ensures only { (ts : Templates) (h : Header) (octets : List ℕ) (ss : List SetSpan) (given : ReadMessage) → IsReading ts h octets ss given
-        → read_of ts h octets ss ≡ Ok given }
-    ensures fault { (ts : Templates) (h : Header) (octets : List ℕ) (ss : List SetSpan) (f : DecodeFault) → HaveOctets ts
-        → read_of ts h octets ss ≡ Err f → IsFirstFault ts h octets ss f }
-    ensures no_other { (ts : Templates) (h : Header) (octets : List ℕ) (ss : List SetSpan) (f : DecodeFault) → HaveOctets ts
-        → IsFirstFault ts h octets ss f → read_of ts h octets ss ≡ Err f }
+    ensures found { (ts : Templates) (source : Source) (octets : List ℕ) (ss : List SetSpan) (given : ReadMessage) → HaveOctets ts
+        → read_of ts source octets ss ≡ Ok given → IsReading ts source octets ss given }
+    ensures only { (ts : Templates) (source : Source) (octets : List ℕ) (ss : List SetSpan) (given : ReadMessage) → IsReading ts source octets ss given
+        → read_of ts source octets ss ≡ Ok given }
+    ensures fault { (ts : Templates) (source : Source) (octets : List ℕ) (ss : List SetSpan) (f : DecodeFault) → HaveOctets ts
+        → read_of ts source octets ss ≡ Err f → IsFirstFault ts source octets ss f }
+    ensures no_other { (ts : Templates) (source : Source) (octets : List ℕ) (ss : List SetSpan) (f : DecodeFault) → HaveOctets ts
+        → IsFirstFault ts source octets ss f → read_of ts source octets ss ≡ Err f }
 {}
 
 /// The law of sessions: what a session knows is a finite map from observation domain and ID to a template, within its limits, and
@@ -151,13 +153,13 @@ pub fn reading_words()
 /// and withdrawals remove theirs. Record `i` of a message, from 0, has the place of the message's sequence number and `i`.
 pub fn session_words()
     ensures opens { IsSession [] }
-    ensures stays { (ts : Templates) (h : Header) (octets : List ℕ) (ss : List SetSpan) (given : ReadMessage) → IsSession ts
-        → IsReading ts h octets ss given → IsSession given.templates }
+    ensures stays { (ts : Templates) (source : Source) (octets : List ℕ) (ss : List SetSpan) (given : ReadMessage) → IsSession ts
+        → IsReading ts source octets ss given → IsSession given.templates }
     ensures defined { (k j : Key) (t : TemplateView) (ts : Templates) → known j (define k t ts) ≡ (if same_key j k then Some t else known j ts) }
     ensures order { (k : Key) (t : TemplateView) (ts : Templates) → keys_of (define k t ts) ≡ (if is_none (known k ts) then keys_of ts ++ k ∷ [] else keys_of ts) }
     ensures withdrawn { (k j : Key) (ts : Templates) → IsSession ts → known j (withdraw k ts) ≡ (if same_key j k then None else known j ts) }
     ensures all_withdrawn { (domain : ℕ) (options : Bool) (j : Key) (ts : Templates) → IsSession ts
         → known j (withdraw_all domain options ts) ≡ of_others domain options j (known j ts) }
-    ensures places { (ts : Templates) (h : Header) (octets : List ℕ) (ss : List SetSpan) (given : ReadMessage) → IsReading ts h octets ss given
-        → ArePlaced h 0 given.records }
+    ensures places { (ts : Templates) (source : Source) (octets : List ℕ) (ss : List SetSpan) (given : ReadMessage) → IsReading ts source octets ss given
+        → ArePlaced source 0 given.records }
 {}

@@ -14,16 +14,16 @@ ghost use Rattle.tca_templates.specs.Wants.{IsWanted};
 use crate::fault::DecodeFault;
 use crate::layout::{Spot, Spots, locate};
 use crate::outcome::FieldValue;
+use crate::source::Source;
 use crate::template::{FieldSpec, Template, VARIABLE};
 use byteorder::{BigEndian, ByteOrder};
 use std::alloc::{AllocError, Global};
 use std::marker::Model;
-use tca_wire::Header;
 
 /// A data record that is there whole, in the octets of its message (RFC 7011, section 3.4.3).
 #[derive(Drop)]
 pub struct Record<'r> {
-    domain: u32,
+    source: Source,
     place: u32,
     template: &'r Template,
     spots: &'r Spots,
@@ -37,7 +37,7 @@ impl<'r> Model for Record<'r> {
 
     ghost Value = { PlacedView };
 
-    ghost view = { λ r. record { domain = r.domain; place = r.place; options = r.template.now.options; fields = fields_in r.template.now.specs.items r.octets.now } };
+    ghost view = { λ r. record { session = r.source.session; domain = r.source.domain; place = r.place; options = r.template.now.options; fields = fields_in r.template.now.specs.items r.octets.now } };
 
     ghost invariant = { λ r. IsFound r.template.now.specs.items r.spots.now r.octets.now };
 }
@@ -127,11 +127,18 @@ fn copied_fields(
 }
 
 impl<'r> Record<'r> {
-    /// The observation domain.
+    /// The number of its transport session, as the decoder was given it.
+    pub fn session(&self) -> u32
+        ensures { result ≡ self.now.session }
+    {
+        self.source.session
+    }
+
+    /// Its observation domain.
     pub fn domain(&self) -> u32
         ensures { result ≡ self.now.domain }
     {
-        self.domain
+        self.source.domain
     }
 
     /// The message's sequence number and the records of the message before this one, modulo 2^32.
@@ -197,7 +204,7 @@ impl<'r> Record<'r> {
 // the chosen fields stand in the same places. `count` records of the message stand before them; the answer counts
 // these too. Fewer octets than a record has are padding.
 fn read_fixed<T: TakesRecords>(
-    header: Header,
+    source: Source,
     template: &Template,
     spots: &Spots,
     count: u32,
@@ -207,8 +214,8 @@ fn read_fixed<T: TakesRecords>(
     requires laid { IsLaidOut template.now.choice template.now.specs.items spots.now }
     requires few { count + length octets.now < 2 ^ 32 }
     ensures exact { IfOk result (λ n. (start : T) (records : List PlacedView) (at : ℕ) → Took T.took start taker.old count records
-        → (all : List PlacedView) × (walk (data_front header (template_of template.now)) records at octets.now ≡ Ok all) × Took T.took start taker.new n all) }
-    ensures wanted { OnErr result ((start : T) (records : List PlacedView) (at : ℕ) → Took T.took start taker.old count records → IsWanted (data_front header (template_of template.now)) records at octets.now) }
+        → (all : List PlacedView) × (walk (data_front source (template_of template.now)) records at octets.now ≡ Ok all) × Took T.took start taker.new n all) }
+    ensures wanted { OnErr result ((start : T) (records : List PlacedView) (at : ℕ) → Took T.took start taker.old count records → IsWanted (data_front source (template_of template.now)) records at octets.now) }
     ensures few { IfOk result (λ n. n ≤ count + length octets.now) }
 {
     let size = template.shortest as usize;
@@ -216,8 +223,8 @@ fn read_fixed<T: TakesRecords>(
     let mut rest = octets;
     while rest.len() >= size {
         let record = Record {
-            domain: header.domain,
-            place: header.sequence.wrapping_add(count),
+            source,
+            place: source.sequence.wrapping_add(count),
             template,
             spots,
             octets: rest,
@@ -233,7 +240,7 @@ fn read_fixed<T: TakesRecords>(
 // The same where a field has a variable length: each record is gone over once, and is handed on when it is there
 // whole. `at` is where the octets begin in the message.
 fn read_variable<T: TakesRecords>(
-    header: Header,
+    source: Source,
     template: &Template,
     count: u32,
     at: u16,
@@ -243,9 +250,9 @@ fn read_variable<T: TakesRecords>(
     requires few { count + length octets.now < 2 ^ 32 }
     requires place { at + length octets.now < 2 ^ 16 }
     ensures exact { (start : T) (records : List PlacedView) → Took T.took start taker.old count records
-        → GivesAs DecodeFault.Memory (λ n all. Took T.took start taker.new n all) result (walk (data_front header (template_of template.now)) records at octets.now) }
+        → GivesAs DecodeFault.Memory (λ n all. Took T.took start taker.new n all) result (walk (data_front source (template_of template.now)) records at octets.now) }
     ensures wanted { result ≡ Err DecodeFault.Memory → (start : T) (records : List PlacedView) → Took T.took start taker.old count records
-        → IsWanted (data_front header (template_of template.now)) records at octets.now }
+        → IsWanted (data_front source (template_of template.now)) records at octets.now }
     ensures few { IfOk result (λ n. n ≤ count + length octets.now) }
 {
     let shortest = template.shortest as usize;
@@ -258,8 +265,8 @@ fn read_variable<T: TakesRecords>(
             return Err(DecodeFault::RecordCut { at });
         };
         let record = Record {
-            domain: header.domain,
-            place: header.sequence.wrapping_add(count),
+            source,
+            place: source.sequence.wrapping_add(count),
             template,
             spots: &spots,
             octets: rest,
@@ -276,7 +283,7 @@ fn read_variable<T: TakesRecords>(
 // Hands on the records of a data set, whose octets begin at `at` in the message. `count` records of the message
 // stand before them; the answer counts these too.
 pub(crate) fn read_records<T: TakesRecords>(
-    header: Header,
+    source: Source,
     template: &Template,
     count: u32,
     at: u16,
@@ -286,13 +293,13 @@ pub(crate) fn read_records<T: TakesRecords>(
     requires few { count + length octets.now < 2 ^ 32 }
     requires place { at + length octets.now < 2 ^ 16 }
     ensures exact { (start : T) (records : List PlacedView) → Took T.took start taker.old count records
-        → GivesAs DecodeFault.Memory (λ n all. Took T.took start taker.new n all) result (walk (data_front header (template_of template.now)) records at octets.now) }
+        → GivesAs DecodeFault.Memory (λ n all. Took T.took start taker.new n all) result (walk (data_front source (template_of template.now)) records at octets.now) }
     ensures wanted { result ≡ Err DecodeFault.Memory → (start : T) (records : List PlacedView) → Took T.took start taker.old count records
-        → IsWanted (data_front header (template_of template.now)) records at octets.now }
+        → IsWanted (data_front source (template_of template.now)) records at octets.now }
     ensures few { IfOk result (λ n. n ≤ count + length octets.now) }
 {
     match &template.fixed {
-        None => read_variable(header, template, count, at, octets, taker),
-        Some(spots) => Ok(read_fixed(header, template, spots, count, octets, taker)?),
+        None => read_variable(source, template, count, at, octets, taker),
+        Some(spots) => Ok(read_fixed(source, template, spots, count, octets, taker)?),
     }
 }

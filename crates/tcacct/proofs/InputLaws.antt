@@ -1,18 +1,14 @@
 -- What an input holds, as it is added to a set.
-use Rattle.std.proofs.Common.{◌≡◌, ◌≢◌, ◌∙◌, ℕ, true, false, List, Result, Ok, Err, refl, sym, ap, subst}
+use Rattle.std.proofs.Common.{◌≡◌, ◌≢◌, ◌∙◌, ℕ, true, false, List, Result, Ok, Err, inl, inr, refl, sym, ap}
 use Rattle.tca_report.specs.report.Reports.{PacketReport}
-use Rattle.std.specs.Prelude.{IsOk, Bool, if◌then◌else◌, ◌<◌, length}
-use Rattle.tca_report.specs.export.Reading.{reading}
-use Rattle.tca_report.specs.export.Spelling.{IsExportable, export}
-use Rattle.tca_report.proofs.lemmas.export.Spelling.{reading-export}
-use Rattle.tca_report.specs.input.Inputs.{CaptureSoFar, capture_of, exported, input_of, is_export}
-use Rattle.tca_report.specs.declared.export.ExportFault.{ExportFault}
+use Rattle.tca_report.specs.input.Inputs.{CaptureSoFar, InputView, read_input}
+use Rattle.tca_report.specs.input.Wants.{WantsMemory}
 use Rattle.tca_report.specs.input.Gathered.{notes_of, gathered_of, reports_and_notes}
 use Rattle.tca_report.specs.declared.input.Notes.{Notes}
 use Rattle.tca_report.specs.declared.input.InputFault.{InputFault}
 use Rattle.tca_report.specs.declared.input.InputFault.TheVariants.{Export, Wire, Decode, Memory}
 use Rattle.tcacct.specs.declared.fault.RunFault.{RunFault}
-use Rattle.tcacct.specs.Runs.{IsRefusedAs, IsSoundExport, input_refusal, is_memory, wants_memory, with_input}
+use Rattle.tcacct.specs.Runs.{IsRefusedAs, MayLackMemory, input_refusal, is_memory, wants_memory, with_input}
 
 -- reports and notes are those of a capture that was read
 pub gathered_ok : (r : Result CaptureSoFar InputFault) (x : List PacketReport × Notes) → gathered_of r ≡ Ok x → (h : CaptureSoFar) × (r ≡ Ok h) × (x.0 ≡ h.reports) × (x.1 ≡ notes_of h)
@@ -41,19 +37,10 @@ memory_alone n (Wire at fault) e = absurd cc
 memory_alone n (Decode at fault) e = absurd cc
 memory_alone n Memory e = refl
 
--- want of memory of an input is that of gathering it, which comes last
-pub memory_of_gather : (n : ℕ) (input : List ℕ) (fault : InputFault) (e : RunFault) → e ≡ input_refusal n fault
-    → (fault ≡ Memory → is_export input ≡ true → (rs : List PacketReport) × IsExportable rs × (input ≡ export rs) × (0 < length rs)) → is_memory e ≡ true → IsSoundExport input
-memory_of_gather n input fault e is last short whole =
-    let spelled = last (memory_alone n fault (sym (ap is_memory is) ∙ short)) whole in
-    subst (λ (r : Result (List PacketReport) ExportFault). IsOk r) (sym (ap reading spelled.2 ∙ reading-export spelled.0 spelled.1)) refl
-
-no_fault : (r : Result (List PacketReport) ExportFault) (h : CaptureSoFar) → exported r ≡ Ok h → IsOk r
-no_fault (Ok rs) h e = refl
-no_fault (Err fault) h e = absurd cc
+-- want of memory of an input is that of gathering it, which comes where all before is right
+pub memory_of_gather : (n : ℕ) (input : InputView) (fault : InputFault) (e : RunFault) → e ≡ input_refusal n fault → (fault ≡ Memory → WantsMemory input) → is_memory e ≡ true → MayLackMemory input
+memory_of_gather n input fault e is wanted short = inl (wanted (memory_alone n fault (sym (ap is_memory is) ∙ short)))
 
 -- nothing is wrong with an input that was read
-pub sound_if_read : (input : List ℕ) (h : CaptureSoFar) → input_of input ≡ Ok h → IsSoundExport input
-sound_if_read input h read whole =
-    let chosen : input_of input ≡ exported (reading input) = ap (λ (b : Bool). if b then exported (reading input) else capture_of input) whole in
-    no_fault (reading input) h (sym chosen ∙ read)
+pub may_lack_if_read : (input : InputView) (h : CaptureSoFar) → read_input input ≡ Ok h → MayLackMemory input
+may_lack_if_read input h read = inr (rw read refl)

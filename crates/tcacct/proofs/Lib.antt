@@ -11,3 +11,5 @@ pub mod ReadLaws
 pub mod ReplicatedLaws
 pub mod AbsorbLaws
 pub mod ShareLaws
+pub mod Splitting
+pub mod Asking

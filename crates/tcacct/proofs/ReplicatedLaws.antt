@@ -2,6 +2,7 @@
 use Rattle.std.proofs.Common.{◌≡◌, ◌∙◌, ◌⊎◌, ℕ, List, true, false, refl, ap, inl, inr}
 use Rattle.tca_report.specs.declared.input.InputFault.{InputFault}
 use Rattle.tca_report.specs.declared.input.InputFault.TheVariants.{Export, Wire, Decode, Memory}
+use Rattle.tca_report.specs.input.Inputs.{InputView}
 use Rattle.tcacct.specs.declared.fault.RunFault.{RunFault}
 use Rattle.tcacct.specs.declared.fault.Family.{Family}
 use Rattle.tcacct.specs.declared.fault.Family.TheVariants as family
@@ -33,15 +34,15 @@ of_input n (Wire at fault) = refl
 of_input n (Decode at fault) = refl
 of_input n Memory = refl
 
-at_input : (n : ℕ) (input : List ℕ) (e : RunFault) → IsInputFault n input e → is_write e ≡ false
+at_input : (n : ℕ) (input : InputView) (e : RunFault) → IsInputFault n input e → is_write e ≡ false
 at_input n input e (inl own) = ap is_write own.1 ∙ of_input n own.0
 at_input n input e (inr untaken) = of_take n e untaken.1
 
-of_replicas : (inputs : List (List ℕ)) (e : RunFault) → AreReplicasRefused inputs e → is_write e ≡ false
+of_replicas : (inputs : List InputView) (e : RunFault) → AreReplicasRefused inputs e → is_write e ≡ false
 of_replicas inputs e (inl reading) = of_run e.family reading.0.1
 of_replicas inputs e (inr (inl at)) = at_input at.place at.input e at.why
 of_replicas inputs e (inr (inr telling)) = of_run e.family telling.1.1
 
-pub no_write : (plan : List ℕ) (inputs : List (List ℕ)) (e : RunFault) → IsReplicatedUnmade plan inputs e → is_write e ≡ false
+pub no_write : (plan : List ℕ) (inputs : List InputView) (e : RunFault) → IsReplicatedUnmade plan inputs e → is_write e ≡ false
 no_write plan inputs e (inl of_plan) = ap is_write of_plan.2
 no_write plan inputs e (inr run) = of_replicas inputs e run.2

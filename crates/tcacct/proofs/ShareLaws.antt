@@ -6,23 +6,25 @@ use Rattle.std.specs.Borrow.{Bor}
 use Rattle.std.specs.Prelude.{slice_get, slice_set}
 use Rattle.std.specs.List.{AllZip, enumerate_from, filter}
 use Rattle.tca_ingest.specs.declared.job.Done.{Done}
+use Rattle.tca_report.specs.input.Inputs.{InputView, input_view}
+use Rattle.tca_report.specs.declared.input.Input.{Input}
 use Rattle.tcacct.specs.Replicated.{AnswerView, ArePut, answers_of, share_of}
 
 -- the share of inputs, the first of which has this number
-unfoldable pub share_from : (n remainder divisor : ℕ) → List (List ℕ) → List (List ℕ)
+unfoldable pub share_from : (n remainder divisor : ℕ) → List InputView → List InputView
 share_from n remainder divisor inputs = map (λ p. p.1) (filter (λ p. p.0 % divisor == remainder) (enumerate_from n inputs))
 
-pub share_is : (remainder divisor : ℕ) (inputs : List (List ℕ)) → share_from 0 remainder divisor inputs ≡ share_of remainder divisor inputs
+pub share_is : (remainder divisor : ℕ) (inputs : List InputView) → share_from 0 remainder divisor inputs ≡ share_of remainder divisor inputs
 unfolding share_from share_of
 share_is remainder divisor inputs = refl
 
 -- an input of the share, and one that isn't
-pub share_takes : (n remainder divisor : ℕ) (so_far : List (List ℕ)) (input : List ℕ) (rest : List (List ℕ)) → (n % divisor == remainder) ≡ true
+pub share_takes : (n remainder divisor : ℕ) (so_far : List InputView) (input : InputView) (rest : List InputView) → (n % divisor == remainder) ≡ true
     → (so_far ++ input ∷ []) ++ share_from (n + 1) remainder divisor rest ≡ so_far ++ share_from n remainder divisor (input ∷ rest)
 unfolding share_from
 share_takes n remainder divisor so_far input rest is = rw is (append_assoc so_far (input ∷ []) (share_from (n + 1) remainder divisor rest))
 
-pub share_skips : (n remainder divisor : ℕ) (so_far : List (List ℕ)) (input : List ℕ) (rest : List (List ℕ)) → (n % divisor == remainder) ≡ false
+pub share_skips : (n remainder divisor : ℕ) (so_far : List InputView) (input : InputView) (rest : List InputView) → (n % divisor == remainder) ≡ false
     → so_far ++ share_from (n + 1) remainder divisor rest ≡ so_far ++ share_from n remainder divisor (input ∷ rest)
 unfolding share_from
 share_skips n remainder divisor so_far input rest is = rw is refl
@@ -46,8 +48,8 @@ pub none_put : (place step : ℕ) (places : List (Option AnswerView)) → put_fr
 unfolding put_from
 none_put place step places = refl
 
-one_answer : (input : Bor (List ℕ)) (inputs : List (Bor (List ℕ))) (d : Done) (done : List Done)
-    → answers_of (input ∷ inputs) (d ∷ done) ≡ record { input = input.now; result = d.result } ∷ answers_of inputs done
+one_answer : (input : Bor Input) (inputs : List (Bor Input)) (d : Done) (done : List Done)
+    → answers_of (input ∷ inputs) (d ∷ done) ≡ record { input = input_view input.now; result = d.result } ∷ answers_of inputs done
 unfolding answers_of
 one_answer input inputs d done = refl
 
@@ -56,7 +58,7 @@ unfolding answers_of
 no_answer done = refl
 
 -- no input has more than one answer
-pub few_answers : (inputs : List (Bor (List ℕ))) (done : List Done) → length (answers_of inputs done) ≤ length inputs
+pub few_answers : (inputs : List (Bor Input)) (done : List Done) → length (answers_of inputs done) ≤ length inputs
 unfolding answers_of
 few_answers [] done = omega arith
 few_answers (input ∷ inputs) [] = omega arith
@@ -124,15 +126,15 @@ pub next_result : {A B : Type 0} (R : A → B → Type 0) (xs : List A) (ys : Li
 next_result R xs ys i inside zip = rw add-one (result_at R xs ys i inside zip)
 
 -- the answer of that input is put, and those of the others from the next place on
-pub one_more_put : (share : List (Bor (List ℕ))) (i place next step : ℕ) (places new : List (Option AnswerView)) (left more : List Done) (input : Bor (List ℕ)) (d : Done)
-    → drop i share ≡ input ∷ drop (i + 1) share → left ≡ d ∷ more → next ≡ place + step → new ≡ slice_set places place (Some (record { input = input.now; result = d.result }))
+pub one_more_put : (share : List (Bor Input)) (i place next step : ℕ) (places new : List (Option AnswerView)) (left more : List Done) (input : Bor Input) (d : Done)
+    → drop i share ≡ input ∷ drop (i + 1) share → left ≡ d ∷ more → next ≡ place + step → new ≡ slice_set places place (Some (record { input = input_view input.now; result = d.result }))
     → put_from next step new (answers_of (drop (i + 1) share) more) ≡ put_from place step places (answers_of (drop i share) left)
 one_more_put share i place next step places new left more input d here first next-is new-is =
     ap (λ n. put_from n step new (answers_of (drop (i + 1) share) more)) next-is
     ∙ ap (λ (p : List (Option AnswerView)). put_from (place + step) step p (answers_of (drop (i + 1) share) more)) new-is
-    ∙ sym (one_put place step places (record { input = input.now; result = d.result }) (answers_of (drop (i + 1) share) more))
+    ∙ sym (one_put place step places (record { input = input_view input.now; result = d.result }) (answers_of (drop (i + 1) share) more))
     ∙ ap (put_from place step places) (sym (one_answer input (drop (i + 1) share) d more))
-    ∙ ap (λ (xs : List (Bor (List ℕ))). put_from place step places (answers_of xs (d ∷ more))) (sym here)
+    ∙ ap (λ (xs : List (Bor Input)). put_from place step places (answers_of xs (d ∷ more))) (sym here)
     ∙ ap (λ (ds : List Done). put_from place step places (answers_of (drop i share) ds)) (sym first)
 
 -- a place among all is the one that was counted, and the next place may saturate

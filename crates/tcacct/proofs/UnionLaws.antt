@@ -9,10 +9,11 @@ use Rattle.tca_join.proofs.Sets.{has-append, has-in_order}
 use Rattle.tca_join.proofs.Merge.{in_order_of_rising, in_order_alike}
 use Rattle.tca_report.specs.report.Reports.{PacketReport, report_cmp}
 use Rattle.tca_report.proofs.lemmas.report.Order.{report_total, report_exact}
+use Rattle.tca_report.specs.input.Inputs.{InputView}
 use Rattle.tcacct.specs.Runs.{HoldsReports, HoldReports, IsUnion}
 
 -- the reports that the inputs hold, together with a set
-pub record IsUnionWith (held : List PacketReport) (inputs : List (List ℕ)) (rs : List PacketReport) : Type 0 where
+pub record IsUnionWith (held : List PacketReport) (inputs : List InputView) (rs : List PacketReport) : Type 0 where
   pub lists : List (List PacketReport)
   pub hold : HoldReports inputs lists
   pub whole : rs ≡ in_order report_cmp (held ++ flat_map (λ rs. rs) lists)
@@ -33,7 +34,7 @@ inside a b = in_order_alike report_cmp report_total report_exact (in_order repor
     ∙ sym (has-append report_cmp report_total a b q))
 
 -- one input more in front
-pub in_front : (held first more rs : List PacketReport) (input : List ℕ) (inputs : List (List ℕ)) → HoldsReports input first → more ≡ in_order report_cmp (held ++ first)
+pub in_front : (held first more rs : List PacketReport) (input : InputView) (inputs : List InputView) → HoldsReports input first → more ≡ in_order report_cmp (held ++ first)
     → IsUnionWith more inputs rs → IsUnionWith held (input ∷ inputs) rs
 unfolding HoldReports
 in_front held first more rs input inputs holds is all =
@@ -48,5 +49,5 @@ in_front held first more rs input inputs holds is all =
           ∙ ap (in_order report_cmp) (append_assoc held first rest ∙ ap (λ (l : List PacketReport). held ++ l) (sym (flat_map-cons (λ rs. rs) first all.lists)));
     }
 
-pub as_union : (inputs : List (List ℕ)) (rs : List PacketReport) → IsUnionWith [] inputs rs → IsUnion inputs rs
+pub as_union : (inputs : List InputView) (rs : List PacketReport) → IsUnionWith [] inputs rs → IsUnion inputs rs
 as_union inputs rs all = record { lists = all.lists; hold = all.hold; whole = all.whole }

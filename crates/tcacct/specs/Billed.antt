@@ -11,6 +11,7 @@ use Rattle.tca_accounts.specs.Faults.{plan_number}
 use Rattle.tca_accounts.specs.declared.fault.PlanFault.{PlanFault}
 use Rattle.tca_accounts.specs.declared.fault.PlanFault.TheVariants.{Syntax, Memory}
 use Rattle.tca_statements.specs.Statements.{statement_text}
+use Rattle.tca_report.specs.input.Inputs.{InputView}
 use Rattle.tcacct.specs.declared.fault.RunFault.{RunFault}
 use Rattle.tcacct.specs.declared.fault.Family.TheVariants as family
 use Rattle.tcacct.specs.Devices.{Device, IsCutOff, IsCutOffIfGiven, Receives, ReceivesIfGiven}
@@ -31,7 +32,7 @@ statement_under p rs = statement_text p (bill_of p rs)
 
 -- The text is a plan, and each input a log export or a capture; where it was asked the export of the union of them all was written,
 -- and the statement of that union under the plan; and these are the inputs' notes.
-pub record IsBillDone (plan : List ℕ) (inputs : List (List ℕ)) (old_export new_export : Option Device) (old new : Device) (notes : List Notes) : Type 0 where
+pub record IsBillDone (plan : List ℕ) (inputs : List InputView) (old_export new_export : Option Device) (old new : Device) (notes : List Notes) : Type 0 where
   pub under : AccountPlan
   pub named : IsPlanOf plan under
   pub reports : List PacketReport
@@ -42,7 +43,7 @@ pub record IsBillDone (plan : List ℕ) (inputs : List (List ℕ)) (old_export n
 
 -- A write failed: of the export, where it was asked, only a part went out, and nothing of the statement; or all of the export where
 -- it was asked, and of the statement only a part.
-pub record IsBillCutOff (plan : List ℕ) (inputs : List (List ℕ)) (old_export new_export : Option Device) (old new : Device) (e : RunFault) : Type 0 where
+pub record IsBillCutOff (plan : List ℕ) (inputs : List InputView) (old_export new_export : Option Device) (old new : Device) (e : RunFault) : Type 0 where
   pub fault : e ≡ write_refusal
   pub under : AccountPlan
   pub named : IsPlanOf plan under
@@ -54,21 +55,21 @@ pub record IsBillCutOff (plan : List ℕ) (inputs : List (List ℕ)) (old_export
       ⊎ (ReceivesIfGiven (export reports) old_export new_export × IsCutOff (statement_under under reports) old new)
 
 -- the refusal that is due: that of the plan, or else the first of the inputs
-abbrev pub IsBillRefusalDue : List ℕ → List (List ℕ) → RunFault → Type 0
+abbrev pub IsBillRefusalDue : List ℕ → List InputView → RunFault → Type 0
 IsBillRefusalDue plan inputs e =
     ((f : PlanFault) × RefusesPlan plan f × (e ≡ refusal None family.Plan (plan_number f)))
     ⊎ ((p : AccountPlan) × IsPlanOf plan p × (united inputs ≡ Err e))
 
 -- Why there is no statement: the first refusal that is due, the plan's before those of the inputs in order, also where memory ran
 -- out.
-pub record IsBillUnmade (plan : List ℕ) (inputs : List (List ℕ)) (e : RunFault) : Type 0 where
+pub record IsBillUnmade (plan : List ℕ) (inputs : List InputView) (e : RunFault) : Type 0 where
   pub due : wants_memory e ≡ false → IsBillRefusalDue plan inputs e
   pub plan_first : is_family e.family family.Plan ≡ false → (p : AccountPlan) × IsPlanOf plan p
   pub turn : is_family e.family family.Plan ≡ false → IsInTurn inputs e
   pub no_write : is_write e ≡ false
 
 -- What a refusal is, and what it leaves of the devices: as they were, unless a write failed.
-pub record IsBillRefused (plan : List ℕ) (inputs : List (List ℕ)) (old_export new_export : Option Device) (old new : Device) (e : RunFault) : Type 0 where
+pub record IsBillRefused (plan : List ℕ) (inputs : List InputView) (old_export new_export : Option Device) (old new : Device) (e : RunFault) : Type 0 where
   pub unmade : is_write e ≡ false → IsBillUnmade plan inputs e
   pub untouched_export : is_write e ≡ false → new_export ≡ old_export
   pub untouched : is_write e ≡ false → new ≡ old

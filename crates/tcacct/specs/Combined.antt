@@ -2,6 +2,7 @@
 use Rattle.std.specs.Prelude.{◌≡◌, ◌⊎◌, ℕ, true, false, List, length, Ok}
 use Rattle.tca_report.specs.report.Reports.{PacketReport}
 use Rattle.tca_report.specs.export.Spelling.{export}
+use Rattle.tca_report.specs.input.Inputs.{InputView}
 use Rattle.tcacct.specs.Devices.{Device, IsCutOff, Receives}
 use Rattle.tcacct.specs.Texts.{combine_text}
 use Rattle.tcacct.specs.declared.fault.RunFault.{RunFault}
@@ -9,7 +10,7 @@ use Rattle.tcacct.specs.Runs.{IsUnion, IsUnitingRefused, is_write, united, write
 
 -- Each input is a log export or a capture; the export of the union of them all was written, and a line with the number of its
 -- reports.
-pub record IsCombineDone (inputs : List (List ℕ)) (old_export new_export old new : Device) : Type 0 where
+pub record IsCombineDone (inputs : List InputView) (old_export new_export old new : Device) : Type 0 where
   pub reports : List PacketReport
   pub union : IsUnion inputs reports
   pub exported : Receives (export reports) old_export new_export
@@ -17,7 +18,7 @@ pub record IsCombineDone (inputs : List (List ℕ)) (old_export new_export old n
 
 -- A write failed: of the export of the union only a part went out, and nothing of the line; or all of the export, and of the line
 -- only a part.
-pub record IsCombineCutOff (inputs : List (List ℕ)) (old_export new_export old new : Device) (e : RunFault) : Type 0 where
+pub record IsCombineCutOff (inputs : List InputView) (old_export new_export old new : Device) (e : RunFault) : Type 0 where
   pub fault : e ≡ write_refusal
   pub reports : List PacketReport
   pub union : IsUnion inputs reports
@@ -27,7 +28,7 @@ pub record IsCombineCutOff (inputs : List (List ℕ)) (old_export new_export old
       ⊎ (Receives (export reports) old_export new_export × IsCutOff (combine_text (length reports)) old new)
 
 -- What a refusal is, and what it leaves of the devices: as they were, unless a write failed.
-pub record IsCombineRefused (inputs : List (List ℕ)) (old_export new_export old new : Device) (e : RunFault) : Type 0 where
+pub record IsCombineRefused (inputs : List InputView) (old_export new_export old new : Device) (e : RunFault) : Type 0 where
   pub ununited : is_write e ≡ false → IsUnitingRefused inputs e
   pub untouched_export : is_write e ≡ false → new_export ≡ old_export
   pub untouched : is_write e ≡ false → new ≡ old

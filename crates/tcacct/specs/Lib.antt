@@ -12,3 +12,4 @@ pub mod Replicated
 pub mod Absorbs
 pub mod Endings
 pub mod Audited
+pub mod Words

@@ -11,6 +11,7 @@ use Rattle.tca_meters.specs.Faults.{spec_number}
 use Rattle.tca_meters.specs.MeterSpecs.{spec_in}
 use Rattle.tca_log.specs.Disputes.{undisputed}
 use Rattle.tca_accounts.specs.Sums.{packet_of, sums_of}
+use Rattle.tca_report.specs.input.Inputs.{InputView}
 use Rattle.tcacct.specs.declared.fault.RunFault.{RunFault}
 use Rattle.tcacct.specs.declared.fault.Family.TheVariants as family
 use Rattle.tcacct.specs.Devices.{Device, IsCutOff, Receives}
@@ -28,12 +29,12 @@ meter_or_refusal (Ok meter) = Ok meter
 meter_or_refusal (Err fault) = Err (refusal None family.Spec (spec_number fault))
 
 -- the lines for a spec and inputs, or the first refusal: of the spec, then of the inputs in order
-abbrev pub metering : List ℕ → List (List ℕ) → Result (List ℕ) RunFault
+abbrev pub metering : List ℕ → List InputView → Result (List ℕ) RunFault
 metering spec inputs = meter_or_refusal (spec_in spec) >>= (λ meter. united inputs >>= (λ rs. Ok (metered_lines meter rs)))
 
 -- These are the lines for a spec and inputs: the spec names a meter, each input is a log export or a capture, and the lines are
 -- those of the union of them all.
-pub record AreMeterLines (spec : List ℕ) (inputs : List (List ℕ)) (lines : List ℕ) : Type 0 where
+pub record AreMeterLines (spec : List ℕ) (inputs : List InputView) (lines : List ℕ) : Type 0 where
   pub meter : AnyMeter
   pub named : spec_in spec ≡ Ok meter
   pub reports : List PacketReport
@@ -41,27 +42,27 @@ pub record AreMeterLines (spec : List ℕ) (inputs : List (List ℕ)) (lines : L
   pub lines_are : lines ≡ metered_lines meter reports
 
 -- The lines were written.
-pub record IsMeterDone (spec : List ℕ) (inputs : List (List ℕ)) (old new : Device) : Type 0 where
+pub record IsMeterDone (spec : List ℕ) (inputs : List InputView) (old new : Device) : Type 0 where
   pub lines : List ℕ
   pub made : AreMeterLines spec inputs lines
   pub written : Receives lines old new
 
 -- A write failed, and of the lines only a part went out.
-pub record IsMeterCutOff (spec : List ℕ) (inputs : List (List ℕ)) (old new : Device) (e : RunFault) : Type 0 where
+pub record IsMeterCutOff (spec : List ℕ) (inputs : List InputView) (old new : Device) (e : RunFault) : Type 0 where
   pub fault : e ≡ write_refusal
   pub lines : List ℕ
   pub due : metering spec inputs ≡ Ok lines
   pub part : IsCutOff lines old new
 
 -- Why there are no lines: the first refusal that is due, the spec's before those of the inputs in order, also where memory ran out.
-pub record IsMeterUnmade (spec : List ℕ) (inputs : List (List ℕ)) (e : RunFault) : Type 0 where
+pub record IsMeterUnmade (spec : List ℕ) (inputs : List InputView) (e : RunFault) : Type 0 where
   pub due : IsRefusedAs e (metering spec inputs)
   pub spec_first : is_family e.family family.Spec ≡ false → IsOk (spec_in spec)
   pub turn : is_family e.family family.Spec ≡ false → IsInTurn inputs e
   pub no_write : is_write e ≡ false
 
 -- What a refusal is, and what it leaves of the device: as it was, unless a write failed.
-pub record IsMeterRefused (spec : List ℕ) (inputs : List (List ℕ)) (old new : Device) (e : RunFault) : Type 0 where
+pub record IsMeterRefused (spec : List ℕ) (inputs : List InputView) (old new : Device) (e : RunFault) : Type 0 where
   pub unmade : is_write e ≡ false → IsMeterUnmade spec inputs e
   pub untouched : is_write e ≡ false → new ≡ old
   pub cut_off : is_write e ≡ true → IsMeterCutOff spec inputs old new e

@@ -4,7 +4,8 @@ use Rattle.std.specs.Borrow.{Bor}
 use Rattle.std.specs.List.{AllByRecursion, enumerate_from, filter, zip}
 use Rattle.tca_report.specs.report.Reports.{PacketReport}
 use Rattle.tca_report.specs.export.Spelling.{export}
-use Rattle.tca_report.specs.input.Inputs.{input_of}
+use Rattle.tca_report.specs.input.Inputs.{InputView, input_view, read_input}
+use Rattle.tca_report.specs.declared.input.Input.{Input}
 use Rattle.tca_report.specs.input.Wants.{WantsMemory}
 use Rattle.tca_report.specs.declared.input.InputFault.{InputFault}
 use Rattle.tca_report.specs.declared.input.InputFault.TheVariants.{Memory}
@@ -20,7 +21,7 @@ use Rattle.tca_ingest.specs.declared.job.Done.{Done}
 use Rattle.tca_ingest.specs.declared.fault.ShareFault.{ShareFault}
 use Rattle.tca_ingest.specs.declared.fault.ShareFault.TheVariants.{PassesOut}
 use Rattle.tca_ingest.specs.declared.job.JobFault.{JobFault}
-use Rattle.tca_ingest.specs.declared.job.JobFault.TheVariants.{Input, Share}
+use Rattle.tca_ingest.specs.declared.job.JobFault.TheVariants as job
 use Rattle.tca_log.specs.Faults.{fault_number}
 use Rattle.tca_log.specs.declared.fault.LogFault.{LogFault}
 use Rattle.tcacct.specs.declared.fault.RunFault.{RunFault}
@@ -43,16 +44,16 @@ pub record IsWithinLimits (replicas workers inputs : ℕ) : Type 0 where
 
 -- an input, and what came of it
 pub record AnswerView : Type 0 where
-  pub input : List ℕ
+  pub input : InputView
   pub result : Result (Notes × Receipt) JobFault
 
 -- of inputs in order those whose numbers, counted from 0, leave this remainder
-unfoldable pub share_of : (remainder divisor : ℕ) → List (List ℕ) → List (List ℕ)
+unfoldable pub share_of : (remainder divisor : ℕ) → List InputView → List InputView
 share_of remainder divisor inputs = map (λ p. p.1) (filter (λ p. p.0 % divisor == remainder) (enumerate_from 0 inputs))
 
 -- what came of each input of a share
-unfoldable pub answers_of : List (Bor (List ℕ)) → List Done → List AnswerView
-answers_of inputs done = map (λ p. record { input = p.0.now; result = p.1.result }) (zip inputs done)
+unfoldable pub answers_of : List (Bor Input) → List Done → List AnswerView
+answers_of inputs done = map (λ p. record { input = input_view p.0.now; result = p.1.result }) (zip inputs done)
 
 -- Answers put at places: the first at one, each other one so many places after the one before it. Of all other places nothing changes.
 pub record ArePut (first step : ℕ) (answers : List AnswerView) (old new : List (Option AnswerView)) : Type 0 where
@@ -61,7 +62,7 @@ pub record ArePut (first step : ℕ) (answers : List AnswerView) (old new : List
   pub others : (place : ℕ) → ((k : ℕ) → k < length answers → place ≢ first + k * step) → slice_get new place ≡ slice_get old place
 
 -- each input was read: these are the inputs' notes, and each holds the reports beside it
-pub record AreRead (inputs : List (List ℕ)) (notes : List Notes) (lists : List (List PacketReport)) : Type 0 where
+pub record AreRead (inputs : List InputView) (notes : List Notes) (lists : List (List PacketReport)) : Type 0 where
   pub noted : AreNotes inputs notes
   pub hold : HoldReports inputs lists
 
@@ -91,14 +92,14 @@ abbrev pub IsShareRefusal : ℕ → RunFault → Type 0
 IsShareRefusal n e = (fault : ShareFault) × (fault ≢ PassesOut) × (e ≡ refusal (Some n) family.Share (share_number fault))
 
 -- input n is refused by its own fault, or because it found no memory, where all that stands before is right
-abbrev pub IsOwnFault : ℕ → List ℕ → RunFault → Type 0
-IsOwnFault n input e = (fault : InputFault) × (e ≡ input_refusal n fault) × (fault ≢ Memory → input_of input ≡ Err fault) × (fault ≡ Memory → WantsMemory input)
+abbrev pub IsOwnFault : ℕ → InputView → RunFault → Type 0
+IsOwnFault n input e = (fault : InputFault) × (e ≡ input_refusal n fault) × (fault ≢ Memory → read_input input ≡ Err fault) × (fault ≡ Memory → WantsMemory input)
 
 -- input n is read, and its replica didn't take its reports, or not all
-abbrev pub IsNotTaken : ℕ → List ℕ → RunFault → Type 0
-IsNotTaken n input e = IsOk (input_of input) × (IsLogRefusal n e ⊎ IsShareRefusal n e)
+abbrev pub IsNotTaken : ℕ → InputView → RunFault → Type 0
+IsNotTaken n input e = IsOk (read_input input) × (IsLogRefusal n e ⊎ IsShareRefusal n e)
 
-abbrev pub IsInputFault : ℕ → List ℕ → RunFault → Type 0
+abbrev pub IsInputFault : ℕ → InputView → RunFault → Type 0
 IsInputFault n input e = IsOwnFault n input e ⊎ IsNotTaken n input e
 
 -- the refusal of an entry of input n: that of the log, where it took not all reports
@@ -109,24 +110,24 @@ stop_refusal n other = None
 -- the refusal that an answer of input n is, if it is one: by its own fault, by the replica's, or by the log's
 abbrev pub refusal_of : ℕ → Result (Notes × Receipt) JobFault → Option RunFault
 refusal_of n (Ok r) = stop_refusal n (entry_view r.1.entry)
-refusal_of n (Err (Input fault)) = Some (input_refusal n fault)
-refusal_of n (Err (Share fault)) = Some (refusal (Some n) family.Share (share_number fault))
+refusal_of n (Err (job.Input fault)) = Some (input_refusal n fault)
+refusal_of n (Err (job.Share fault)) = Some (refusal (Some n) family.Share (share_number fault))
 
 -- inputs without a fault
-abbrev pub AreSound : List (List ℕ) → Type 0
-AreSound inputs = AllByRecursion (λ input. IsOk (input_of input)) inputs
+abbrev pub AreSound : List InputView → Type 0
+AreSound inputs = AllByRecursion (λ input. IsOk (read_input input)) inputs
 
 -- the refusal of an input, before which all inputs are without a fault
-pub record IsInputRefused (inputs : List (List ℕ)) (e : RunFault) : Type 0 where
+pub record IsInputRefused (inputs : List InputView) (e : RunFault) : Type 0 where
   pub place : ℕ
-  pub input : List ℕ
+  pub input : InputView
   pub here : slice_get inputs place ≡ Some input
   pub before : AreSound (take place inputs)
   pub why : IsInputFault place input e
 
 -- what replicas and workers refuse: the reading of the inputs; an input; or, where no input has a fault, that the replicas tell each
 -- other what they hold
-abbrev pub AreReplicasRefused : List (List ℕ) → RunFault → Type 0
+abbrev pub AreReplicasRefused : List InputView → RunFault → Type 0
 AreReplicasRefused inputs e = IsReadingRefused e ⊎ (IsInputRefused inputs e ⊎ (AreSound inputs × IsRunRefused e))
 
 -- the plan's refusal
@@ -134,12 +135,12 @@ abbrev pub IsPlanRefused : List ℕ → RunFault → Type 0
 IsPlanRefused plan e = (f : PlanFault) × RefusesPlan plan f × (e ≡ refusal None family.Plan (plan_number f))
 
 -- why there is no statement: the plan's refusal, or where the text is a plan that of an input or of the run
-abbrev pub IsReplicatedUnmade : List ℕ → List (List ℕ) → RunFault → Type 0
+abbrev pub IsReplicatedUnmade : List ℕ → List InputView → RunFault → Type 0
 IsReplicatedUnmade plan inputs e = IsPlanRefused plan e ⊎ ((p : AccountPlan) × IsPlanOf plan p × AreReplicasRefused inputs e)
 
 -- A write failed: of the export, where it was asked, only a part went out, and nothing of the statement; or all of the export where
 -- it was asked, and of the statement only a part.
-pub record IsReplicatedCutOff (plan : List ℕ) (inputs : List (List ℕ)) (old_export new_export : Option Device) (old new : Device) (e : RunFault) : Type 0 where
+pub record IsReplicatedCutOff (plan : List ℕ) (inputs : List InputView) (old_export new_export : Option Device) (old new : Device) (e : RunFault) : Type 0 where
   pub fault : e ≡ write_refusal
   pub under : AccountPlan
   pub named : IsPlanOf plan under
@@ -150,7 +151,7 @@ pub record IsReplicatedCutOff (plan : List ℕ) (inputs : List (List ℕ)) (old_
       ⊎ (ReceivesIfGiven (export reports) old_export new_export × IsCutOff (statement_under under reports) old new)
 
 -- What a refusal is, and what it leaves of the devices: as they were, unless a write failed.
-pub record IsReplicatedRefused (plan : List ℕ) (inputs : List (List ℕ)) (old_export new_export : Option Device) (old new : Device) (e : RunFault) : Type 0 where
+pub record IsReplicatedRefused (plan : List ℕ) (inputs : List InputView) (old_export new_export : Option Device) (old new : Device) (e : RunFault) : Type 0 where
   pub unmade : is_write e ≡ false → IsReplicatedUnmade plan inputs e
   pub untouched_export : is_write e ≡ false → new_export ≡ old_export
   pub untouched : is_write e ≡ false → new ≡ old

@@ -1,34 +1,34 @@
 -- What the inputs of a command hold together, and what they are refused for.
-use Rattle.std.specs.Prelude.{◌≡◌, ◌==◌, ℕ, ◌+◌, ◌<◌, Bool, true, false, ◌||◌, ◌&&◌, List, [], ◌∷◌, ◌++◌, length, map, take, Option, Some, None, IfSome, is_some, Result, Ok, Err, IsOk, nat_lt, slice_get, if◌then◌else◌}
+use Rattle.std.specs.Prelude.{◌≡◌, ◌⊎◌, ◌==◌, ℕ, ◌+◌, ◌<◌, Bool, true, false, ◌||◌, ◌&&◌, List, [], ◌∷◌, ◌++◌, length, map, take, Option, Some, None, IfSome, is_some, Result, Ok, Err, IsOk, nat_lt, slice_get, if◌then◌else◌}
 use Rattle.std.specs.List.{flat_map}
-use Rattle.std.specs.declared.vec.Vec.{Vec}
 use Rattle.tca_join.specs.Sets.{in_order}
 use Rattle.tca_report.specs.report.Reports.{PacketReport, report_cmp}
 use Rattle.tca_wire.specs.Faults.{wire_number}
 use Rattle.tca_wire.specs.Results.{◌>>=◌}
 use Rattle.tca_templates.specs.Faults.{decode_number}
 use Rattle.tca_report.specs.export.Spelling.{most_reports}
-use Rattle.tca_report.specs.export.Reading.{reading}
 use Rattle.tca_report.specs.Faults.{export_number}
-use Rattle.tca_report.specs.input.Inputs.{CaptureSoFar, input_of, is_export}
+use Rattle.tca_report.specs.input.Inputs.{CaptureSoFar, InputView, input_view, read_input}
+use Rattle.tca_report.specs.input.Wants.{WantsMemory}
+use Rattle.tca_report.specs.declared.input.Input.{Input}
 use Rattle.tca_report.specs.declared.input.InputFault.{InputFault}
 use Rattle.tca_report.specs.declared.input.InputFault.TheVariants.{Export, Wire, Decode, Memory}
 use Rattle.tcacct.specs.declared.fault.RunFault.{RunFault}
 use Rattle.tcacct.specs.declared.fault.Family.{Family}
 use Rattle.tcacct.specs.declared.fault.Family.TheVariants as family
 
--- the octets of each input
-abbrev pub octets_of : {A : Type 0} → List (Vec ℕ A) → List (List ℕ)
-octets_of = map (λ v. v.items)
+-- the inputs, without where they lie in memory
+abbrev pub views_of : List Input → List InputView
+views_of = map input_view
 
 -- An input, a log export or a capture, holds these reports in its order.
-pub record HoldsReports (input : List ℕ) (rs : List PacketReport) : Type 0 where
+pub record HoldsReports (input : InputView) (rs : List PacketReport) : Type 0 where
   pub so_far : CaptureSoFar
-  pub read : input_of input ≡ Ok so_far
+  pub read : read_input input ≡ Ok so_far
   pub reports : rs ≡ so_far.reports
 
 -- Each input holds the list beside it.
-unfoldable pub HoldReports : List (List ℕ) → List (List PacketReport) → Type 0
+unfoldable pub HoldReports : List InputView → List (List PacketReport) → Type 0
 HoldReports [] [] = Unit {0}
 HoldReports (input ∷ inputs) (rs ∷ lists) = HoldsReports input rs × HoldReports inputs lists
 HoldReports [] (rs ∷ lists) = ⊥
@@ -39,7 +39,7 @@ abbrev pub union_of : List (List PacketReport) → List PacketReport
 union_of lists = in_order report_cmp (flat_map (λ rs. rs) lists)
 
 -- the reports that the inputs hold together, each once and in order
-pub record IsUnion (inputs : List (List ℕ)) (rs : List PacketReport) : Type 0 where
+pub record IsUnion (inputs : List InputView) (rs : List PacketReport) : Type 0 where
   pub lists : List (List PacketReport)
   pub hold : HoldReports inputs lists
   pub whole : rs ≡ union_of lists
@@ -73,12 +73,12 @@ with_input n held (Ok h) = with_reports n held h.reports
 with_input n held (Err fault) = Err (input_refusal n fault)
 
 -- a set with the reports of all inputs, of which the first has number n, or the first refusal of one
-unfoldable pub united_from : ℕ → List PacketReport → List (List ℕ) → Result (List PacketReport) RunFault
+unfoldable pub united_from : ℕ → List PacketReport → List InputView → Result (List PacketReport) RunFault
 united_from n held [] = Ok held
-united_from n held (input ∷ inputs) = with_input n held (input_of input) >>= (λ more. united_from (n + 1) more inputs)
+united_from n held (input ∷ inputs) = with_input n held (read_input input) >>= (λ more. united_from (n + 1) more inputs)
 
 -- the union of all inputs, or the first refusal of one
-abbrev pub united : List (List ℕ) → Result (List PacketReport) RunFault
+abbrev pub united : List InputView → Result (List PacketReport) RunFault
 united inputs = united_from 0 [] inputs
 
 abbrev pub is_family : Family → Family → Bool
@@ -117,29 +117,30 @@ is_memory e = is_family e.family family.Memory
 abbrev pub is_log_memory : RunFault → Bool
 is_log_memory e = is_family e.family family.Log && (e.number == 2)
 
--- nothing is wrong with an input if it is a log export
-abbrev pub IsSoundExport : List ℕ → Type 0
-IsSoundExport input = is_export input ≡ true → IsOk (reading input)
+-- Memory may run out for an input where all before that growth is right: the octets of an export that has a report, or messages that are
+-- read and behind them one that is right up to the growth and with it; or else all of the input is right.
+abbrev pub MayLackMemory : InputView → Type 0
+MayLackMemory input = WantsMemory input ⊎ IsOk (read_input input)
 
 -- A refusal of input n comes where all inputs before it were taken. Where the log had no memory for its reports nothing is wrong
--- with it either, and where memory ran out for the input itself nothing is wrong with it if it is a log export.
-pub record IsInTurnAt (inputs : List (List ℕ)) (n : ℕ) (e : RunFault) : Type 0 where
+-- with it either, and where memory ran out for the input itself all before that growth is right.
+pub record IsInTurnAt (inputs : List InputView) (n : ℕ) (e : RunFault) : Type 0 where
   pub inside : n < length inputs
   pub before : IsOk (united (take n inputs))
   pub log_memory : is_log_memory e ≡ true → IsOk (united (take (n + 1) inputs))
-  pub memory_last : is_memory e ≡ true → IfSome (slice_get inputs n) IsSoundExport
+  pub memory_last : is_memory e ≡ true → IfSome (slice_get inputs n) MayLackMemory
 
 -- a refusal that names no input comes where all of them were taken
-abbrev pub IsInTurnOf : List (List ℕ) → RunFault → Option ℕ → Type 0
+abbrev pub IsInTurnOf : List InputView → RunFault → Option ℕ → Type 0
 IsInTurnOf inputs e None = IsOk (united inputs)
 IsInTurnOf inputs e (Some n) = IsInTurnAt inputs n e
 
 -- a refusal comes in the inputs' order
-abbrev pub IsInTurn : List (List ℕ) → RunFault → Type 0
+abbrev pub IsInTurn : List InputView → RunFault → Type 0
 IsInTurn inputs e = IsInTurnOf inputs e e.input
 
 -- the refusal of inputs that were to be united: the first that is due, in the inputs' order, and no failed write
-pub record IsUnitingRefused (inputs : List (List ℕ)) (e : RunFault) : Type 0 where
+pub record IsUnitingRefused (inputs : List InputView) (e : RunFault) : Type 0 where
   pub due : IsRefusedAs e (united inputs)
   pub turn : IsInTurn inputs e
   pub no_write : is_write e ≡ false

@@ -1,40 +1,44 @@
 //! What the workers of all replicas answered, put back into the order of the inputs.
 ghost use Rattle.std.specs.List.{flat_map};
 ghost use Rattle.std.specs.Prelude.{◌≡◌, ◌≢◌, ℕ, ◌++◌, ◌+◌, ◌*◌, ◌<◌, ◌≤◌, ◌^◌, IfOk, IfErr, OnOk, OnErr, Some, length, map, slice_get, slice_set};
-ghost use Rattle.tca_ingest.specs.Works.{AreSliceResults};
+ghost use Rattle.tca_ingest.specs.Works.{AreLentResults};
+ghost use Rattle.tca_report.specs.input.Inputs.{input_view};
 ghost use Rattle.tcacct.specs.Noted.{IsNoted};
 ghost use Rattle.tcacct.specs.Replicated.{AnswerView, ArePut, AreRead, AreReplicasRefused, IsInputFault, IsReadingRefused, answers_of, refusal_of};
-ghost use Rattle.tcacct.specs.Runs.{HoldsReports, octets_of, union_of};
+ghost use Rattle.tcacct.specs.Runs.{HoldsReports, views_of, union_of};
 
 use crate::fault::RunFault;
 use std::alloc::{AllocError, Global};
 use std::marker::Model;
 use tca_ingest::{Done, Entry, JobFault, Receipt};
-use tca_report::{Notes, Report};
+use tca_report::{Input, Notes, Report};
 
 /// An input, and what came of it.
 #[derive(Drop)]
 pub(crate) struct Answer<'a> {
-    pub(crate) input: &'a [u8],
+    pub(crate) input: &'a Input,
     pub(crate) result: Result<(Notes, Receipt), JobFault>,
 }
 
 impl<'a> Model for Answer<'a> {
+    ghost use Rattle.tca_report.specs.input.Inputs.{input_view};
     ghost use Rattle.tca_ingest.specs.Works.{IsResult};
     ghost use Rattle.tcacct.specs.Replicated.{AnswerView};
 
     ghost Value = { AnswerView };
 
-    ghost view = { λ a. record { input = a.input.now; result = a.result } };
+    ghost view = { λ a. record { input = input_view a.input.now; result = a.result } };
 
-    ghost invariant = { λ a. IsResult a.input.now a.result };
+    ghost invariant = { λ a. IsResult (input_view a.input.now) a.result };
 }
 
 /// A place for the answer of each input.
 pub(crate) fn empty_places<'a>(
     alloc: Global,
-    inputs: &[Vec<u8>],
-) -> Result<Vec<Option<Answer<'a>>>, AllocError> {
+    inputs: &[Input],
+) -> Result<Vec<Option<Answer<'a>>>, AllocError>
+    ensures { IfOk result (λ places. length places.items ≡ length inputs.now) }
+{
     let mut places = Vec::with_capacity(alloc, inputs.len())?;
     for input in inputs {
         let _ = input;
@@ -46,13 +50,13 @@ pub(crate) fn empty_places<'a>(
 /// Puts the results of a replica's inputs where these inputs stand: the first at a place, each other one so many places after the one
 /// before it.
 pub(crate) fn put_answers<'a>(
-    share: &[&'a [u8]],
+    share: &[&'a Input],
     done: Vec<Done>,
     first: usize,
     step: usize,
     places: &mut Vec<Option<Answer<'a>>>,
 ) -> Result<(), RunFault>
-    requires results { AreSliceResults share.now done.items }
+    requires results { AreLentResults share.now done.items }
     requires apart { 1 ≤ step }
     ensures put { OnOk result (ArePut first step (answers_of share.now done.items) places.old.items places.new.items) }
     ensures outside { OnErr result ((k : ℕ) × (k < length share.now) × (length places.old.items ≤ first + k * step)) }
@@ -94,11 +98,11 @@ fn put_answer<'a>(
 fn take_answer<'a>(
     places: &mut Vec<Option<Answer<'a>>>,
     n: usize,
-    input: &[u8],
+    input: &Input,
 ) -> Result<Answer<'a>, RunFault>
     ensures taken { IfOk result (λ a. slice_get places.old.items n ≡ Some (Some a)) }
-    ensures same { IfOk result (λ a. a.input ≡ input.now) }
-    ensures stranger { OnErr result ((a : AnswerView) → slice_get places.old.items n ≡ Some (Some a) → a.input ≢ input.now) }
+    ensures same { IfOk result (λ a. a.input ≡ input_view input.now) }
+    ensures stranger { OnErr result ((a : AnswerView) → slice_get places.old.items n ≡ Some (Some a) → a.input ≢ input_view input.now) }
     ensures refused { IfErr result IsReadingRefused }
 {
     if n >= places.len() {
@@ -107,7 +111,7 @@ fn take_answer<'a>(
     let Some(answer) = std::mem::replace(&mut places[n], None) else {
         return Err(RunFault::stranger());
     };
-    if answer.input != input {
+    if !answer.input.is_same(input) {
         return Err(RunFault::stranger());
     }
     Ok(answer)
@@ -149,12 +153,12 @@ pub(crate) struct Contents {
 /// What all inputs hold, unless one is refused: the first in order that has a fault, or whose reports a replica didn't take.
 pub(crate) fn contents_of<'a>(
     alloc: Global,
-    inputs: &[Vec<u8>],
+    inputs: &[Input],
     places: Vec<Option<Answer<'a>>>,
 ) -> Result<Contents, RunFault>
     requires { length inputs.now < 2 ^ 32 }
-    ensures read { IfOk result (λ x. AreRead (octets_of inputs.now) x.notes.items (map (λ l. l.items) x.lists.items)) }
-    ensures refused { IfErr result (AreReplicasRefused (octets_of inputs.now)) }
+    ensures read { IfOk result (λ x. AreRead (views_of inputs.now) x.notes.items (map (λ l. l.items) x.lists.items)) }
+    ensures refused { IfErr result (AreReplicasRefused (views_of inputs.now)) }
 {
     let mut places = places;
     let mut notes = Vec::with_capacity(alloc, inputs.len())?;

@@ -4,14 +4,14 @@ ghost use Rattle.tca_accounts.specs.Plans.{AccountPlan};
 ghost use Rattle.tcacct.specs.Billed.{IsBillDone, IsBillRefused, IsBillUnmade, IsPlanOf, statement_under};
 ghost use Rattle.tcacct.specs.Devices.{after, before, device};
 ghost use Rattle.tcacct.specs.Noted.{IsUniting};
-ghost use Rattle.tcacct.specs.Runs.{octets_of};
+ghost use Rattle.tcacct.specs.Runs.{views_of};
 
 use crate::fault::RunFault;
 use crate::inputs::unite;
 use std::alloc::{AllocError, Global};
 use tca_accounts::{Plan, bill_all};
 use tca_log::Log;
-use tca_report::{Notes, Write, write_export};
+use tca_report::{Input, Notes, Write, write_export};
 use tca_statements::{Statement, render};
 
 // The statement of a log under a plan.
@@ -26,12 +26,12 @@ fn statement_of(alloc: Global, plan: &Plan, log: &Log) -> Result<Statement, Allo
 fn made(
     alloc: Global,
     plan: &[u8],
-    inputs: &[Vec<u8>],
+    inputs: &[Input],
 ) -> Result<(Statement, Log, Vec<Notes>), RunFault>
     requires { length inputs.now < 2 ^ 32 }
     ensures stated { IfOk result (λ x. (p : AccountPlan) × IsPlanOf plan.now p × (x.0 ≡ statement_under p x.1)) }
-    ensures united { IfOk result (λ x. IsUniting (octets_of inputs.now) x.1 x.2.items) }
-    ensures unmade { IfErr result (IsBillUnmade plan.now (octets_of inputs.now)) }
+    ensures united { IfOk result (λ x. IsUniting (views_of inputs.now) x.1 x.2.items) }
+    ensures unmade { IfErr result (IsBillUnmade plan.now (views_of inputs.now)) }
 {
     let plan = Plan::from_text(alloc, plan)?;
     let (log, notes) = unite(alloc, inputs)?;
@@ -43,15 +43,15 @@ fn made(
 fn run_exported<W: Write, V: Write>(
     alloc: Global,
     plan: &[u8],
-    inputs: &[Vec<u8>],
+    inputs: &[Input],
     export: &mut V,
     out: &mut W,
 ) -> Result<Vec<Notes>, RunFault>
     requires { length inputs.now < 2 ^ 32 }
-    ensures done { IfOk result (λ notes. IsBillDone plan.now (octets_of inputs.now)
+    ensures done { IfOk result (λ notes. IsBillDone plan.now (views_of inputs.now)
         (Some (device V.written V.failures export.old)) (Some (device V.written V.failures export.new))
         (device W.written W.failures out.old) (device W.written W.failures out.new) notes.items) }
-    ensures refused { IfErr result (IsBillRefused plan.now (octets_of inputs.now)
+    ensures refused { IfErr result (IsBillRefused plan.now (views_of inputs.now)
         (Some (device V.written V.failures export.old)) (Some (device V.written V.failures export.new))
         (device W.written W.failures out.old) (device W.written W.failures out.new)) }
 {
@@ -66,13 +66,13 @@ fn run_exported<W: Write, V: Write>(
 fn run_alone<W: Write>(
     alloc: Global,
     plan: &[u8],
-    inputs: &[Vec<u8>],
+    inputs: &[Input],
     out: &mut W,
 ) -> Result<Vec<Notes>, RunFault>
     requires { length inputs.now < 2 ^ 32 }
-    ensures done { IfOk result (λ notes. IsBillDone plan.now (octets_of inputs.now) None None
+    ensures done { IfOk result (λ notes. IsBillDone plan.now (views_of inputs.now) None None
         (device W.written W.failures out.old) (device W.written W.failures out.new) notes.items) }
-    ensures refused { IfErr result (IsBillRefused plan.now (octets_of inputs.now) None None
+    ensures refused { IfErr result (IsBillRefused plan.now (views_of inputs.now) None None
         (device W.written W.failures out.old) (device W.written W.failures out.new)) }
 {
     let (statement, _log, notes) = made(alloc, plan, inputs)?;
@@ -90,15 +90,15 @@ fn run_alone<W: Write>(
 pub fn run_bill_plain<W: Write, V: Write>(
     alloc: Global,
     plan: &[u8],
-    inputs: &[Vec<u8>],
+    inputs: &[Input],
     export: Option<&mut V>,
     out: &mut W,
 ) -> Result<Vec<Notes>, RunFault>
     requires { length inputs.now < 2 ^ 32 }
-    ensures done { IfOk result (λ notes. IsBillDone plan.now (octets_of inputs.now)
+    ensures done { IfOk result (λ notes. IsBillDone plan.now (views_of inputs.now)
         (before (device V.written V.failures) export.entry) (after (device V.written V.failures) export.exit)
         (device W.written W.failures out.old) (device W.written W.failures out.new) notes.items) }
-    ensures refused { IfErr result (IsBillRefused plan.now (octets_of inputs.now)
+    ensures refused { IfErr result (IsBillRefused plan.now (views_of inputs.now)
         (before (device V.written V.failures) export.entry) (after (device V.written V.failures) export.exit)
         (device W.written W.failures out.old) (device W.written W.failures out.new)) }
 {

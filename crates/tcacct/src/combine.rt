@@ -5,24 +5,24 @@ ghost use Rattle.tca_report.specs.report.Reports.{report_cmp};
 ghost use Rattle.tcacct.specs.Combined.{IsCombineDone, IsCombineRefused};
 ghost use Rattle.tcacct.specs.Devices.{device};
 ghost use Rattle.tcacct.specs.Texts.{combine_text};
-ghost use Rattle.tcacct.specs.Runs.{IsUnion, IsUnitingRefused, octets_of, united};
+ghost use Rattle.tcacct.specs.Runs.{IsUnion, IsUnitingRefused, views_of, united};
 ghost use Rattle.tca_report.specs.export.Spelling.{most_reports};
 
 use crate::fault::RunFault;
 use crate::inputs::unite;
 use crate::texts::combine_line;
 use std::alloc::Global;
-use tca_report::{Report, Write, put_all, write_export};
+use tca_report::{Input, Report, Write, put_all, write_export};
 
 // The reports and the line that go out.
-fn made(alloc: Global, inputs: &[Vec<u8>]) -> Result<(Vec<Report>, String), RunFault>
+fn made(alloc: Global, inputs: &[Input]) -> Result<(Vec<Report>, String), RunFault>
     requires { length inputs.now < 2 ^ 32 }
-    ensures union { IfOk result (λ x. IsUnion (octets_of inputs.now) x.0.items) }
-    ensures taken { IfOk result (λ x. united (octets_of inputs.now) ≡ Ok x.0.items) }
+    ensures union { IfOk result (λ x. IsUnion (views_of inputs.now) x.0.items) }
+    ensures taken { IfOk result (λ x. united (views_of inputs.now) ≡ Ok x.0.items) }
     ensures line { IfOk result (λ x. string_bytes x.1 ≡ combine_text (length x.0.items)) }
     ensures rises { IfOk result (λ x. IsStrictlySortedBy report_cmp x.0.items) }
     ensures limit { IfOk result (λ x. length x.0.items ≤ most_reports) }
-    ensures unmade { IfErr result (IsUnitingRefused (octets_of inputs.now)) }
+    ensures unmade { IfErr result (IsUnitingRefused (views_of inputs.now)) }
 {
     let (log, _notes) = unite(alloc, inputs)?;
     let line = combine_line(alloc, log.len())?;
@@ -37,15 +37,15 @@ fn made(alloc: Global, inputs: &[Vec<u8>]) -> Result<(Vec<Report>, String), RunF
 /// nothing of the line, or all of the export and only a part of the line.
 pub fn run_combine<W: Write, V: Write>(
     alloc: Global,
-    inputs: &[Vec<u8>],
+    inputs: &[Input],
     export: &mut V,
     out: &mut W,
 ) -> Result<(), RunFault>
     requires { length inputs.now < 2 ^ 32 }
-    ensures done { OnOk result (IsCombineDone (octets_of inputs.now)
+    ensures done { OnOk result (IsCombineDone (views_of inputs.now)
         (device V.written V.failures export.old) (device V.written V.failures export.new)
         (device W.written W.failures out.old) (device W.written W.failures out.new)) }
-    ensures refused { IfErr result (IsCombineRefused (octets_of inputs.now)
+    ensures refused { IfErr result (IsCombineRefused (views_of inputs.now)
         (device V.written V.failures export.old) (device V.written V.failures export.new)
         (device W.written W.failures out.old) (device W.written W.failures out.new)) }
 {

@@ -30,16 +30,33 @@ where one has to be left. MODE is blind, or aware where the colour that a packet
 point gives it (RFC 2597) counts; a code point without colour is green.
 
 An input is a log export (a file that begins with TCAX), or else a capture of IPFIX
-messages, one after the other. Reports that both inputs hold count once. Three lines are printed: a colour, its octets, its packets.
+messages, one after the other. Reports that both inputs hold count once. Three lines are
+printed: a colour, its octets, its packets.
 
-Example: tcacct meter rfc2698:2000:2000:1000:1000:blind monday.tcax tuesday.tcax";
+INPUT is a path, or N@PATH for the file at PATH as a capture of session N. A session is one
+transport connection of one exporter process; where its sequence numbers start anew, another
+session begins. N is a number from 0 to 4294967295 that you choose: another one for each
+session of an observation domain, and the same one for a session in every command. A path
+alone is of session 0, and so is ./N@PATH, for a file with such a name.
+
+A report is told from others by its domain, session and sequence number. So the records of
+two sessions of one domain under one number fall on the same identities and dispute each
+other, and disputed reports aren't metered. A file with the messages of two sessions has to
+be cut into two inputs. A log export carries the session of each report, so that N makes no
+difference there.
+
+Example: tcacct meter rfc2698:2000:2000:1000:1000:blind 1@north.ipfix 2@south.ipfix";
 
 const COMBINE: &str = "Writes the union of the inputs' reports to OUT as one log export, and prints
 how many reports it holds";
 
 const COMBINE_AFTER: &str =
-    "An input is a log export or a capture, as `tcacct meter --help` says. All inputs are
-read before OUT is made, so OUT may be one of them.
+    "An input is a log export or a capture, and N@PATH one of session N, as `tcacct meter
+--help` says. All inputs are read before OUT is made, so OUT may be one of them.
+
+OUT is an export of version 2, which carries the session of each report. Exports of version
+1 are read too, all their reports as of session 0: `tcacct combine OUT OLD` writes one anew
+in version 2.
 
 Example: tcacct combine week.tcax monday.tcax tuesday.tcax";
 
@@ -48,17 +65,20 @@ const BILL: &str =
 packets of each colour, in all and by period";
 
 const BILL_AFTER: &str =
-    "An input is a log export or a capture, as `tcacct meter --help` says. All files are read
-before OUT is made, so OUT may be one of them. For each capture with records that are no
-reports, messages with a set of an unknown template, or skipped sets, a line on standard
-error says how many of each.
+    "An input is a log export or a capture, and N@PATH one of session N, as `tcacct meter
+--help` says. All files are read before OUT is made, so OUT may be one of them. For each
+capture with records that are no reports, messages with a set of an unknown template, or
+skipped sets, a line on standard error says how many of each.
+
+PLAN may change the meter of an account at stated milliseconds: each [[account.term]] has its
+`from`, and a meter that goes on from there with full buckets.
 
 The inputs are dealt out to so many replicas, each of which reads its own with so many
 workers; then each takes in what the others read, and all are compared. The statement and
 OUT are the same for every number of both. A replica costs memory for all reports, and
 workers let a machine with several processors read several inputs at a time.
 
-Example: tcacct bill --export week.tcax plan.toml monday.tcax tuesday.tcax";
+Example: tcacct bill --export week.tcax plan.toml monday.tcax 1@tuesday.ipfix";
 
 /// The most replicas of a bill, workers of each of them, and inputs.
 pub(crate) const MOST_REPLICAS: u32 = 16;
@@ -68,8 +88,8 @@ pub(crate) const MOST_WORKERS: u32 = 64;
 pub(crate) const MOST_BILLED: usize = 256;
 
 const AUDIT: &str =
-    "Checks whether STATEMENT is, to the octet, the statement of EXPORT's reports under PLAN, by
-letting tokens in one at a time";
+    "Checks whether STATEMENT is, to the octet, the statement of EXPORT's reports under
+PLAN, by letting tokens in one at a time";
 
 const AUDIT_AFTER: &str =
     "EXPORT is a log export, as `tcacct bill --export` writes it. One line is printed: agrees, or
@@ -129,7 +149,12 @@ fn meter<'a>(alloc: Global) -> Result<Command<'a>, AllocError>
 {
     let command = named(alloc, "meter", METER, METER_AFTER);
     let command = command.arg(one_word(alloc, "SPEC", "the meter and its parameters"))?;
-    Ok(command.arg(many_words(alloc, "INPUT", 2, "one or two files of reports"))?)
+    Ok(command.arg(many_words(
+        alloc,
+        "INPUT",
+        2,
+        "one or two files of reports, each PATH or N@PATH",
+    ))?)
 }
 
 fn combine<'a>(alloc: Global) -> Result<Command<'a>, AllocError>
@@ -138,7 +163,12 @@ fn combine<'a>(alloc: Global) -> Result<Command<'a>, AllocError>
 {
     let command = named(alloc, "combine", COMBINE, COMBINE_AFTER);
     let command = command.arg(one_word(alloc, "OUT", "the file to write"))?;
-    Ok(command.arg(many_words(alloc, "INPUT", 4_294_967_295, "files of reports"))?)
+    Ok(command.arg(many_words(
+        alloc,
+        "INPUT",
+        4_294_967_295,
+        "files of reports, each PATH or N@PATH",
+    ))?)
 }
 
 fn bill<'a>(alloc: Global) -> Result<Command<'a>, AllocError>
@@ -165,7 +195,12 @@ fn bill<'a>(alloc: Global) -> Result<Command<'a>, AllocError>
         "a file for the export of the union",
     ))?;
     let command = command.arg(one_word(alloc, "PLAN", "the plan, a TOML file"))?;
-    Ok(command.arg(many_words(alloc, "INPUT", MOST_BILLED, "1 to 256 files of reports"))?)
+    Ok(command.arg(many_words(
+        alloc,
+        "INPUT",
+        MOST_BILLED,
+        "1 to 256 files of reports, each PATH or N@PATH",
+    ))?)
 }
 
 fn audit<'a>(alloc: Global) -> Result<Command<'a>, AllocError>

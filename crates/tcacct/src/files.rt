@@ -1,11 +1,15 @@
 //! The files that a command line names.
-ghost use Rattle.std.specs.Prelude.{◌≡◌, ◌<◌, ◌^◌, IfOk, length};
+ghost use Rattle.std.specs.Prelude.{◌≡◌, ◌<◌, ◌^◌, IfOk, length, map};
+ghost use Rattle.tcacct.specs.Lines.{inputs_of, order_of};
+ghost use Rattle.tcacct.specs.Words.{HaveSessions};
 
 use crate::fault::RunFault;
+use crate::line::Line;
+use crate::word::{Asked, asked_by};
 use std::alloc::AllocError;
 use std::fs;
 use std::rt::Files;
-use tca_report::{Host, ReadFault, read_octets};
+use tca_report::{Host, Input, ReadFault, read_octets};
 
 // A file's octets. One that can't be opened has the fault of one that can't be read.
 fn read_file<R: Files + AllocGlobal>(rt: &R, path: &str) -> Result<Vec<u8>, ReadFault> {
@@ -35,23 +39,21 @@ pub(crate) fn read_numbered<R: Files + AllocGlobal>(
     }
 }
 
-/// The octets of the files, in order; the first one that can't be read refuses all.
-pub(crate) fn read_files<R: Files + AllocGlobal>(
-    rt: &R,
-    paths: &[&str],
-) -> Result<Vec<Vec<u8>>, RunFault>
+// The inputs that are asked for, in order; the first one whose file can't be read refuses all.
+fn read_asked<R: Files + AllocGlobal>(rt: &R, asked: &[Asked<'_>]) -> Result<Vec<Input>, RunFault>
     ensures few { IfOk result (λ inputs. length inputs.items < 2 ^ 32) }
-    ensures each { IfOk result (λ inputs. length inputs.items ≡ length paths.now) }
+    ensures sessions { IfOk result (λ inputs. map (λ input. input.session) inputs.items ≡ map (λ one. one.session) asked.now) }
 {
     // The command line takes no more words than that.
-    if paths.len() > u32::MAX as usize {
+    if asked.len() > u32::MAX as usize {
         return Err(RunFault::from(AllocError));
     }
     let mut inputs = Vec::new(rt.alloc());
-    for (n, path) in paths.iter().enumerate() {
-        match read_file(rt, path) {
+    for (n, one) in asked.iter().enumerate() {
+        let session = one.session;
+        match read_file(rt, one.path) {
             Ok(octets) => {
-                if inputs.push(octets).is_err() {
+                if inputs.push(Input { session, octets }).is_err() {
                     return Err(RunFault::from(AllocError));
                 }
             }
@@ -59,6 +61,19 @@ pub(crate) fn read_files<R: Files + AllocGlobal>(
         }
     }
     Ok(inputs)
+}
+
+/// The inputs of a command, in the order of its words; the first one whose file can't be read refuses all.
+pub(crate) fn read_inputs<R: Files + AllocGlobal>(
+    rt: &R,
+    line: &Line<'_>,
+) -> Result<Vec<Input>, RunFault>
+    ensures few { IfOk result (λ inputs. length inputs.items < 2 ^ 32) }
+    ensures each { IfOk result (λ inputs. length inputs.items ≡ length (inputs_of (order_of line.now))) }
+    ensures sessions { IfOk result (λ inputs. HaveSessions (inputs_of (order_of line.now)) inputs.items) }
+{
+    let asked = asked_by(rt.alloc(), line.inputs())?;
+    read_asked(rt, &asked)
 }
 
 /// A new or emptied file to write to.

@@ -10,7 +10,8 @@ use clap::error::ErrorKind;
 use std::alloc::{AllocError, AllocFailed, Global};
 use thiserror::Error;
 
-/// What the words of a command line ask for. Inputs, OUT, PLAN, EXPORT, STATEMENT and the file of an export are paths.
+/// What the words of a command line ask for. The words of inputs are those of `split_word`; OUT, PLAN, EXPORT, STATEMENT and the file of
+/// an export are paths.
 #[derive(Debug, Drop)]
 pub enum Line<'a> {
     Meter {

@@ -14,15 +14,18 @@ mod ending;
 mod fault;
 mod files;
 mod inputs;
+mod laws;
 mod line;
 mod meter;
 mod notes;
+mod refusals;
 mod replicas;
 mod replicated;
 mod shell;
 #[cfg(test)]
 mod tests;
 mod texts;
+mod word;
 
 use ending::Ending;
 use shell::{end, run_words, words_of};

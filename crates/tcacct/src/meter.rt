@@ -8,7 +8,7 @@ ghost use Rattle.tca_meters.specs.Packets.{colours};
 ghost use Rattle.tca_accounts.specs.Sums.{packet_of, sums_of};
 ghost use Rattle.tcacct.specs.Devices.{device};
 ghost use Rattle.tcacct.specs.Metered.{AreMeterLines, IsMeterDone, IsMeterRefused, IsMeterUnmade, metering};
-ghost use Rattle.tcacct.specs.Runs.{octets_of};
+ghost use Rattle.tcacct.specs.Runs.{views_of};
 ghost use Rattle.tca_report.specs.export.Spelling.{most_reports};
 
 use crate::fault::RunFault;
@@ -18,7 +18,7 @@ use std::alloc::Global;
 use tca_accounts::{Sums, meter_next, no_reports};
 use tca_log::Settled;
 use tca_meters::{AnyMeter, Colour, Meter, meter_spec};
-use tca_report::{Write, put_all};
+use tca_report::{Input, Write, put_all};
 
 // The sums of the reports, metered in their order from time 0 on, each with the precolour of its code
 // point, green where that has none.
@@ -48,11 +48,11 @@ fn metered_by(meter: &AnyMeter, reports: Settled<'_>) -> Sums
 }
 
 // The lines that go out.
-fn made(alloc: Global, spec: &str, inputs: &[Vec<u8>]) -> Result<String, RunFault>
+fn made(alloc: Global, spec: &str, inputs: &[Input]) -> Result<String, RunFault>
     requires { length inputs.now < 2 ^ 32 }
-    ensures made { IfOk result (λ text. AreMeterLines spec.now (octets_of inputs.now) (string_bytes text)) }
-    ensures due { IfOk result (λ text. metering spec.now (octets_of inputs.now) ≡ Ok (string_bytes text)) }
-    ensures unmade { IfErr result (IsMeterUnmade spec.now (octets_of inputs.now)) }
+    ensures made { IfOk result (λ text. AreMeterLines spec.now (views_of inputs.now) (string_bytes text)) }
+    ensures due { IfOk result (λ text. metering spec.now (views_of inputs.now) ≡ Ok (string_bytes text)) }
+    ensures unmade { IfErr result (IsMeterUnmade spec.now (views_of inputs.now)) }
 {
     let meter = meter_spec(spec)?;
     let (log, _notes) = unite(alloc, inputs)?;
@@ -70,13 +70,13 @@ fn made(alloc: Global, spec: &str, inputs: &[Vec<u8>]) -> Result<String, RunFaul
 pub fn run_meter<W: Write>(
     alloc: Global,
     spec: &str,
-    inputs: &[Vec<u8>],
+    inputs: &[Input],
     out: &mut W,
 ) -> Result<(), RunFault>
     requires { length inputs.now < 2 ^ 32 }
-    ensures done { OnOk result (IsMeterDone spec.now (octets_of inputs.now)
+    ensures done { OnOk result (IsMeterDone spec.now (views_of inputs.now)
         (device W.written W.failures out.old) (device W.written W.failures out.new)) }
-    ensures refused { IfErr result (IsMeterRefused spec.now (octets_of inputs.now)
+    ensures refused { IfErr result (IsMeterRefused spec.now (views_of inputs.now)
         (device W.written W.failures out.old) (device W.written W.failures out.new)) }
 {
     let lines = made(alloc, spec, inputs)?;

@@ -6,10 +6,12 @@ ghost use Rattle.tca_ingest.specs.Passes.{AreClosing};
 ghost use Rattle.tca_ingest.specs.Shares.{IsReplayed};
 ghost use Rattle.tcacct.specs.Absorbs.{Absorbs, AreAgreed, AreJoined, HasAbsorbed, HasRightJournal, closed_with, names_of, with_lacking};
 ghost use Rattle.tcacct.specs.Replicated.{AreRead, AreReplicasRefused, IsReadingRefused, IsRunRefused, IsWithinLimits, share_of};
-ghost use Rattle.tcacct.specs.Runs.{octets_of};
+ghost use Rattle.tcacct.specs.Runs.{views_of};
+ghost use Rattle.tca_report.specs.input.Inputs.{input_view};
 
 use crate::answers::{Answer, Contents, contents_of, empty_places, put_answers};
 use crate::fault::RunFault;
+use crate::refusals::{of_absorb, of_close, of_workers};
 use std::alloc::{AllocError, Global};
 use std::marker::Brand;
 use std::sync::Wait;
@@ -18,6 +20,7 @@ use std::thread::Threads;
 use tca_accounts::Plan;
 use tca_gossip::Replica;
 use tca_ingest::{Closed, Entry, Gate, Pass, Shared, Side, close_all, work_on};
+use tca_report::Input;
 
 /// The parts of a replica's ledger: one for each pass, and one that stays.
 pub(crate) const PARTS: u64 = 65_537;
@@ -27,7 +30,7 @@ pub(crate) const PARTS: u64 = 65_537;
 pub(crate) struct Setting<'a, R, G> {
     pub(crate) rt: &'a R,
     pub(crate) alloc: Global,
-    pub(crate) inputs: &'a [Vec<u8>],
+    pub(crate) inputs: &'a [Input],
     pub(crate) replicas: u32,
     pub(crate) workers: u32,
     pub(crate) gate: &'a G,
@@ -36,18 +39,18 @@ pub(crate) struct Setting<'a, R, G> {
 // The inputs of a replica: those whose numbers, counted from 0, leave this remainder.
 fn share_of<'a>(
     alloc: Global,
-    inputs: &'a [Vec<u8>],
+    inputs: &'a [Input],
     remainder: u32,
     divisor: u32,
-) -> Result<Vec<&'a [u8]>, AllocError>
+) -> Result<Vec<&'a Input>, AllocError>
     requires { 1 ≤ divisor }
-    ensures share { IfOk result (λ share. map (λ s. s.now) share.items ≡ share_of remainder divisor (octets_of inputs.now)) }
+    ensures share { IfOk result (λ share. map (λ s. input_view s.now) share.items ≡ share_of remainder divisor (views_of inputs.now)) }
     ensures within { IfOk result (λ share. length share.items ≤ length inputs.now) }
 {
     let mut share = Vec::new(alloc);
     for (n, input) in inputs.iter().enumerate() {
         if n as u64 % divisor as u64 == remainder as u64 {
-            share.push(input.as_slice())?;
+            share.push(input)?;
         }
     }
     Ok(share)
@@ -66,20 +69,16 @@ fn worked<'a, L: Side + Send + Sync, R: Threads + Wait + Sync, G: Gate>(
 {
     let (alloc, step) = (setting.alloc, setting.replicas);
     let share = share_of(alloc, setting.inputs, first, step)?;
-    match work_on(
+    let worked = of_workers(work_on(
         setting.rt,
         alloc,
         shared,
         &share,
         setting.gate,
         setting.workers,
-    ) {
-        Ok(worked) => {
-            put_answers(&share, worked.done, first as usize, step as usize, places)?;
-            Ok(worked.passes)
-        }
-        Err(refused) => Err(RunFault::from(refused.fault)),
-    }
+    ))?;
+    put_answers(&share, worked.done, first as usize, step as usize, places)?;
+    Ok(worked.passes)
 }
 
 // Closes a replica with all its passes.
@@ -88,10 +87,7 @@ fn closed<L: Side>(shared: Shared<L>, passes: Vec<Pass<L>>) -> Result<Closed, Ru
     ensures closing { IfOk result (λ c. AreClosing c.journal passes.items) }
     ensures refused { IfErr result IsReadingRefused }
 {
-    match shared.close(passes) {
-        Ok(closed) => Ok(closed),
-        Err(refused) => Err(RunFault::from(refused.fault)),
-    }
+    of_close(shared.close(passes))
 }
 
 // A replica of this name that read its inputs, closed.
@@ -159,7 +155,7 @@ fn bring<L: Side, R: Wait>(
     let Entry::Absorbed { result, .. } = receipt.entry else {
         unreachable!();
     };
-    result?;
+    of_absorb(result)?;
     Ok(())
 }
 
@@ -192,7 +188,7 @@ fn tell(into: &mut Replica, from: &Replica) -> Result<(), RunFault>
 {
     let summary = into.summary()?;
     let delta = from.delta(&summary)?;
-    into.absorb(&delta)?;
+    of_absorb(into.absorb(&delta))?;
     Ok(())
 }
 
@@ -239,8 +235,8 @@ pub(crate) fn run_replicas<'a, L: Side + Send + Sync, R: Threads + Wait + Sync, 
     requires same { plan.now ≡ mine }
     requires limits { IsWithinLimits setting.now.replicas setting.now.workers (length setting.now.inputs.now) }
     ensures joined { IfOk result (λ x. AreJoined mine setting.now.replicas x.0.items) }
-    ensures read { IfOk result (λ x. AreRead (octets_of setting.now.inputs.now) x.1.notes.items (map (λ l. l.items) x.1.lists.items)) }
-    ensures refused { IfErr result (AreReplicasRefused (octets_of setting.now.inputs.now)) }
+    ensures read { IfOk result (λ x. AreRead (views_of setting.now.inputs.now) x.1.notes.items (map (λ l. l.items) x.1.lists.items)) }
+    ensures refused { IfErr result (AreReplicasRefused (views_of setting.now.inputs.now)) }
 {
     let (rt, alloc, inputs) = (setting.rt, setting.alloc, setting.inputs);
     let mut places = empty_places(alloc, inputs)?;

@@ -8,7 +8,7 @@ ghost use Rattle.tcacct.specs.Billed.{IsBillDone, IsPlanOf, statement_under};
 ghost use Rattle.tcacct.specs.Devices.{after, before, device};
 ghost use Rattle.tcacct.specs.Noted.{AreNotes};
 ghost use Rattle.tcacct.specs.Replicated.{IsReplicatedRefused, IsReplicatedUnmade, IsRunRefused, IsWithinLimits};
-ghost use Rattle.tcacct.specs.Runs.{IsUnion, is_family, octets_of, union_of};
+ghost use Rattle.tcacct.specs.Runs.{IsUnion, memory_refusal, refusal, views_of, union_of};
 ghost use Rattle.tcacct.specs.declared.fault.Family.TheVariants as family;
 
 use crate::answers::union_of;
@@ -23,7 +23,7 @@ use tca_accounts::Plan;
 use tca_gossip::Replica;
 use tca_ingest::Gate;
 use tca_log::Log;
-use tca_report::{Notes, Report, Write, write_export};
+use tca_report::{Input, Notes, Report, Write, write_export};
 use tca_statements::{Statement, render};
 
 /// What is written, and the notes of the inputs.
@@ -32,6 +32,18 @@ struct Prepared {
     statement: Statement,
     reports: Vec<Report>,
     notes: Vec<Notes>,
+}
+
+// Reports that are those of a log, in their order.
+fn held_by(reports: Vec<Report>, log: &Log) -> Result<Vec<Report>, RunFault>
+    ensures held { IfOk result (λ list. (list.items ≡ reports.items) × (list.items ≡ log.now)) }
+    ensures differs { IfErr result (λ e. (e ≡ refusal None family.Close 3) × (reports.items ≢ log.now)) }
+    ensures limit { length log.now ≤ most_reports }
+{
+    if !are_all_of(&reports, log) {
+        return Err(RunFault::differs());
+    }
+    Ok(reports)
 }
 
 // All reports in order, where they are what the replica holds.
@@ -44,14 +56,11 @@ fn compared(
     ensures held { IfOk result (λ list. list.items ≡ replica.now.log) }
     ensures rises { IfOk result (λ list. IsStrictlySortedBy report_cmp list.items) }
     ensures limit { IfOk result (λ list. length list.items ≤ most_reports) }
-    ensures differs { IfErr result (λ e. is_family e.family family.Close ≡ true → union_of (map (λ l. l.items) lists.items) ≢ replica.now.log) }
+    ensures differs { IfErr result (λ e. e ≢ memory_refusal → (e ≡ refusal None family.Close 3) × (union_of (map (λ l. l.items) lists.items) ≢ replica.now.log)) }
     ensures refused { IfErr result IsRunRefused }
 {
     let reports = union_of(alloc, lists)?;
-    if !are_all_of(&reports, replica.log()) {
-        return Err(RunFault::differs());
-    }
-    Ok(reports)
+    held_by(reports, replica.log())
 }
 
 // Whether these are the reports of a log, in their order.
@@ -76,6 +85,7 @@ fn stated(alloc: Global, plan: &Plan, replica: &Replica) -> Result<Statement, Ru
     requires { replica.now.plan ≡ plan.now }
     ensures stated { IfOk result (λ s. s ≡ statement_under plan.now replica.now.log) }
     ensures refused { IfErr result IsRunRefused }
+    ensures memory { IfErr result (λ e. e ≡ memory_refusal) }
 {
     let bill = replica.totals()?;
     Ok(Statement::of(alloc, plan, &bill)?)
@@ -88,11 +98,11 @@ fn made<R: Threads + Wait + Sync, G: Gate>(
 ) -> Result<Prepared, RunFault>
     requires { IsWithinLimits setting.now.replicas setting.now.workers (length setting.now.inputs.now) }
     ensures stated { IfOk result (λ m. (p : AccountPlan) × IsPlanOf plan.now p × (m.statement ≡ statement_under p m.reports.items)) }
-    ensures union { IfOk result (λ m. IsUnion (octets_of setting.now.inputs.now) m.reports.items) }
-    ensures noted { IfOk result (λ m. AreNotes (octets_of setting.now.inputs.now) m.notes.items) }
+    ensures union { IfOk result (λ m. IsUnion (views_of setting.now.inputs.now) m.reports.items) }
+    ensures noted { IfOk result (λ m. AreNotes (views_of setting.now.inputs.now) m.notes.items) }
     ensures rises { IfOk result (λ m. IsStrictlySortedBy report_cmp m.reports.items) }
     ensures limit { IfOk result (λ m. length m.reports.items ≤ most_reports) }
-    ensures unmade { IfErr result (IsReplicatedUnmade plan.now (octets_of setting.now.inputs.now)) }
+    ensures unmade { IfErr result (IsReplicatedUnmade plan.now (views_of setting.now.inputs.now)) }
 {
     let plan = Plan::from_text(setting.alloc, plan)?;
     let mine = plan.copy(setting.alloc)?;
@@ -117,10 +127,10 @@ fn run_exported<R: Threads + Wait + Sync, G: Gate, W: Write, V: Write>(
     out: &mut W,
 ) -> Result<Vec<Notes>, RunFault>
     requires { IsWithinLimits setting.now.replicas setting.now.workers (length setting.now.inputs.now) }
-    ensures done { IfOk result (λ notes. IsBillDone plan.now (octets_of setting.now.inputs.now)
+    ensures done { IfOk result (λ notes. IsBillDone plan.now (views_of setting.now.inputs.now)
         (Some (device V.written V.failures export.old)) (Some (device V.written V.failures export.new))
         (device W.written W.failures out.old) (device W.written W.failures out.new) notes.items) }
-    ensures refused { IfErr result (IsReplicatedRefused plan.now (octets_of setting.now.inputs.now)
+    ensures refused { IfErr result (IsReplicatedRefused plan.now (views_of setting.now.inputs.now)
         (Some (device V.written V.failures export.old)) (Some (device V.written V.failures export.new))
         (device W.written W.failures out.old) (device W.written W.failures out.new)) }
 {
@@ -141,9 +151,9 @@ fn run_alone<R: Threads + Wait + Sync, G: Gate, W: Write>(
     out: &mut W,
 ) -> Result<Vec<Notes>, RunFault>
     requires { IsWithinLimits setting.now.replicas setting.now.workers (length setting.now.inputs.now) }
-    ensures done { IfOk result (λ notes. IsBillDone plan.now (octets_of setting.now.inputs.now) None None
+    ensures done { IfOk result (λ notes. IsBillDone plan.now (views_of setting.now.inputs.now) None None
         (device W.written W.failures out.old) (device W.written W.failures out.new) notes.items) }
-    ensures refused { IfErr result (IsReplicatedRefused plan.now (octets_of setting.now.inputs.now) None None
+    ensures refused { IfErr result (IsReplicatedRefused plan.now (views_of setting.now.inputs.now) None None
         (device W.written W.failures out.old) (device W.written W.failures out.new)) }
 {
     let Prepared {
@@ -172,7 +182,7 @@ pub fn run_bill<R: Threads + Wait + Sync, G: Gate, W: Write, V: Write>(
     rt: &R,
     alloc: Global,
     plan: &[u8],
-    inputs: &[Vec<u8>],
+    inputs: &[Input],
     replicas: u32,
     workers: u32,
     gate: &G,
@@ -180,10 +190,10 @@ pub fn run_bill<R: Threads + Wait + Sync, G: Gate, W: Write, V: Write>(
     out: &mut W,
 ) -> Result<Vec<Notes>, RunFault>
     requires { IsWithinLimits replicas workers (length inputs.now) }
-    ensures done { IfOk result (λ notes. IsBillDone plan.now (octets_of inputs.now)
+    ensures done { IfOk result (λ notes. IsBillDone plan.now (views_of inputs.now)
         (before (device V.written V.failures) export.entry) (after (device V.written V.failures) export.exit)
         (device W.written W.failures out.old) (device W.written W.failures out.new) notes.items) }
-    ensures refused { IfErr result (IsReplicatedRefused plan.now (octets_of inputs.now)
+    ensures refused { IfErr result (IsReplicatedRefused plan.now (views_of inputs.now)
         (before (device V.written V.failures) export.entry) (after (device V.written V.failures) export.exit)
         (device W.written W.failures out.old) (device W.written W.failures out.new)) }
 {

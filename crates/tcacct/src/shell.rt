@@ -10,7 +10,7 @@ use crate::audit::run_audit;
 use crate::combine::run_combine;
 use crate::ending::{Ending, word_of};
 use crate::fault::RunFault;
-use crate::files::{create, read_files, read_numbered, read_plan};
+use crate::files::{create, read_inputs, read_numbered, read_plan};
 use crate::line::{Line, LineFault, read_line};
 use crate::meter::run_meter;
 use crate::notes::NotesLine;
@@ -22,7 +22,7 @@ use std::sync::Wait;
 use std::thread::Threads;
 use std::{env, io};
 use tca_ingest::NoGate;
-use tca_report::{Notes, Write, put_all};
+use tca_report::{Input, Notes, Write, put_all};
 
 const NOT_TEXT: &str = "error: a word of the command line is not UTF-8\n";
 
@@ -145,13 +145,13 @@ fn run_line<R: Files + Threads + Wait + Sync + AllocGlobal, W: Write>(
     requires { IsWithin (order_of line.now) }
 {
     match line {
-        Line::Meter { spec, inputs } => {
-            let inputs = read_files(rt, inputs)?;
+        Line::Meter { spec, .. } => {
+            let inputs = read_inputs(rt, line)?;
             run_meter(rt.alloc(), *spec, &inputs, out)?;
             Ok(Outcome::Done)
         }
-        Line::Combine { out: path, inputs } => {
-            let inputs = read_files(rt, inputs)?;
+        Line::Combine { out: path, .. } => {
+            let inputs = read_inputs(rt, line)?;
             let mut export = create(rt, *path)?;
             run_combine(rt.alloc(), &inputs, &mut export, out)?;
             Ok(Outcome::Done)
@@ -161,10 +161,12 @@ fn run_line<R: Files + Threads + Wait + Sync + AllocGlobal, W: Write>(
             workers,
             export,
             plan,
-            inputs,
+            ..
         } => {
+            let plan = read_plan(rt, *plan)?;
+            let inputs = read_inputs(rt, line)?;
             let numbers = (*replicas, *workers);
-            billed(rt, numbers, *export, *plan, inputs, out)
+            billed(rt, numbers, *export, &plan, &inputs, out)
         }
         Line::Audit {
             plan,
@@ -174,19 +176,17 @@ fn run_line<R: Files + Threads + Wait + Sync + AllocGlobal, W: Write>(
     }
 }
 
-// Reads the files of a bill, and bills them by so many replicas, each of so many workers.
+// Makes the file of the export, where one is asked for, and bills the inputs by so many replicas, each of so many workers.
 fn billed<R: Files + Threads + Wait + Sync + AllocGlobal, W: Write>(
     rt: &R,
     numbers: (u32, u32),
     export: Option<&str>,
-    plan: &str,
-    inputs: &[&str],
+    plan: &[u8],
+    inputs: &[Input],
     out: &mut W,
 ) -> Result<Outcome, RunFault>
     requires { IsWithinLimits numbers.0 numbers.1 (length inputs.now) }
 {
-    let plan = read_plan(rt, plan)?;
-    let inputs = read_files(rt, inputs)?;
     let mut export = match export {
         Some(path) => Some(create(rt, path)?),
         None => None,
@@ -194,7 +194,7 @@ fn billed<R: Files + Threads + Wait + Sync + AllocGlobal, W: Write>(
     let (alloc, export) = (rt.alloc(), export.as_mut());
     let (replicas, workers) = numbers;
     let notes = run_bill(
-        rt, alloc, &plan, &inputs, replicas, workers, &NoGate, export, out,
+        rt, alloc, plan, inputs, replicas, workers, &NoGate, export, out,
     )?;
     Ok(Outcome::Noted(notes))
 }

@@ -4,5 +4,8 @@ mod gates;
 mod lines;
 mod meeting;
 mod replicated;
+mod sessions;
 mod shared;
 mod shell;
+mod terms;
+mod words;

@@ -1,8 +1,9 @@
+use super::samples::{Arrivals, LATE_ARRIVALS, TERM, TERMED};
 use std::alloc::{AllocError, Global};
 use std::fmt::Display;
 use tca_accounts::{Bill, Key, Plan, PlanFault, bill_all};
 use tca_log::Log;
-use tca_meters::{Colour, MeterFault, meter_spec};
+use tca_meters::{Colour, MeterFault, Termed, meter_spec};
 use tca_report::{Content, Identity, Report};
 
 // The time of the first report of the worked rows.
@@ -78,7 +79,7 @@ fn has_each_account(plan: &Plan) -> bool {
 }
 
 fn has_meter(plan: &Plan, account: u32, text: &str) -> bool {
-    account < plan.accounts() && meter_spec(text) == Ok(plan.meter(account))
+    account < plan.accounts() && meter_spec(text) == Ok(plan.meter(account).first())
 }
 
 fn has_each_meter(plan: &Plan) -> bool {
@@ -315,6 +316,295 @@ fn refuses_pairs_and_meters_in_order(rt: HostRuntime) {
     assert!(rt; is_plan(rt.alloc(), &[HOUR, SINGLE, "keys = [[7, 1], [7, 2]]\n"]));
 }
 
+// The head of a term, its start, and the rates and sizes of a meter of RFC 2697.
+const NEXT: &str = "[[account.term]]\n";
+
+const FROM: &str = "from = 1700000000101\n";
+
+const RATE: &str = "meter = \"rfc2697\"\ncir = 1000\ncbs = 1000\nebs = 1000\n";
+
+const NINE: &str = "term = [1, 2, 3, 4, 5, 6, 7, 8, 9]\n";
+
+// Values of `term` that are no terms, and what comes before them and after them.
+const AT_TERMS: &[Refused] = &[
+    (&[PLAN, "term = 3\n"], PlanFault::Wrong { key: Key::Term }),
+    (&[PLAN, "term = {}\n"], PlanFault::Wrong { key: Key::Term }),
+    (&[PLAN, "term = [3]\n"], PlanFault::Wrong { key: Key::Term }),
+    (
+        &[HOUR, SINGLE, "keys = []\nterm = 3\n"],
+        PlanFault::Wrong { key: Key::Keys },
+    ),
+    (
+        &[HOUR, NONE, KEYS, "term = 3\n"],
+        PlanFault::Wrong { key: Key::Term },
+    ),
+    (
+        &[HOUR, NONE, KEYS, "term = [3]\n"],
+        PlanFault::Meter {
+            account: 0,
+            fault: MeterFault::NoBurst,
+        },
+    ),
+    (
+        &[HOUR, NONE, KEYS, NINE],
+        PlanFault::Meter {
+            account: 0,
+            fault: MeterFault::NoBurst,
+        },
+    ),
+    (&[PLAN, NINE], PlanFault::Limits),
+    (
+        &[PLAN, "term = [1, 2, 3, 4, 5, 6, 7, 8]\n"],
+        PlanFault::Wrong { key: Key::Term },
+    ),
+    // A term's fault comes before those of the next account, and of all together.
+    (
+        &[PLAN, "term = [3]\n", NONE, KEYS],
+        PlanFault::Wrong { key: Key::Term },
+    ),
+    (
+        &[PLAN, "term = [3]\n", SINGLE, KEYS],
+        PlanFault::Wrong { key: Key::Term },
+    ),
+    (&[PLAN, NEXT, FROM, RATE, SINGLE, KEYS], PlanFault::KeyTwice),
+];
+
+// What one term has, in the order in which it is judged.
+const IN_A_TERM: &[Refused] = &[
+    (
+        &[PLAN, NEXT, "from = 0\ncolour = 1\n"],
+        PlanFault::Missing { key: Key::Meter },
+    ),
+    (
+        &[PLAN, NEXT, "from = 0\nmeter = \"rfc1\"\ncolour = 1\n"],
+        PlanFault::Wrong { key: Key::Meter },
+    ),
+    (
+        &[PLAN, NEXT, "meter = \"rfc2697\"\ncolour = 1\n"],
+        PlanFault::UnknownKey,
+    ),
+    (
+        &[PLAN, NEXT, FROM, RATE, "name = \"beta\"\n"],
+        PlanFault::UnknownKey,
+    ),
+    (
+        &[PLAN, NEXT, FROM, RATE, "other = \"red\"\n"],
+        PlanFault::UnknownKey,
+    ),
+    (
+        &[PLAN, NEXT, FROM, RATE, "keys = [[7, 2]]\n"],
+        PlanFault::UnknownKey,
+    ),
+    (
+        &[PLAN, NEXT, FROM, RATE, "term = []\n"],
+        PlanFault::UnknownKey,
+    ),
+    (
+        &[PLAN, NEXT, FROM, RATE, "exact_fit = true\n"],
+        PlanFault::UnknownKey,
+    ),
+    (
+        &[PLAN, NEXT, "meter = \"rfc2697\"\ncir = -1\n"],
+        PlanFault::Missing { key: Key::From },
+    ),
+    (
+        &[PLAN, NEXT, "from = 0\naware = 1\n", RATE],
+        PlanFault::Wrong { key: Key::From },
+    ),
+    (
+        &[PLAN, NEXT, "from = \"1\"\n", RATE],
+        PlanFault::Wrong { key: Key::From },
+    ),
+    (
+        &[PLAN, NEXT, "from = 281474976710656\n", RATE],
+        PlanFault::Wrong { key: Key::From },
+    ),
+    (
+        &[PLAN, NEXT, FROM, "aware = 1\nmeter = \"rfc2697\"\n"],
+        PlanFault::Wrong { key: Key::Aware },
+    ),
+    (
+        &[
+            PLAN,
+            NEXT,
+            FROM,
+            "meter = \"rfc2697\"\ncbs = -1\nebs = 1000\n",
+        ],
+        PlanFault::Missing { key: Key::Cir },
+    ),
+    (
+        &[PLAN, NEXT, FROM, "meter = \"rfc2697\"\ncir = 1\ncbs = -1\n"],
+        PlanFault::Wrong { key: Key::Cbs },
+    ),
+    (
+        &[PLAN, NEXT, FROM, "meter = \"rfc4115\"\ncir = -1\n"],
+        PlanFault::Missing { key: Key::ExactFit },
+    ),
+    (
+        &[
+            PLAN,
+            NEXT,
+            FROM,
+            "meter = \"rfc2698\"\npir = 1\npbs = 1\ncir = 1\n",
+        ],
+        PlanFault::Missing { key: Key::Cbs },
+    ),
+];
+
+// Terms of no meter, and one after another.
+const IN_TERMS: &[Refused] = &[
+    (
+        &[
+            PLAN,
+            NEXT,
+            FROM,
+            "meter = \"rfc2697\"\ncir = 1000\ncbs = 0\nebs = 0\n",
+            NEXT,
+        ],
+        PlanFault::Meter {
+            account: 0,
+            fault: MeterFault::NoBurst,
+        },
+    ),
+    (
+        &[
+            PLAN,
+            PEAK,
+            "keys = [[7, 2]]\n",
+            TERM,
+            NEXT,
+            FROM,
+            "meter = \"rfc2698\"\npir = 1\npbs = 1\ncir = 2\ncbs = 1\n",
+        ],
+        PlanFault::Meter {
+            account: 1,
+            fault: MeterFault::PeakBelowCommitted,
+        },
+    ),
+    (&[PLAN, TERM, TERM], PlanFault::Wrong { key: Key::From }),
+    (
+        &[PLAN, NEXT, FROM, RATE, TERM],
+        PlanFault::Wrong { key: Key::From },
+    ),
+    (
+        &[
+            PLAN,
+            TERM,
+            NEXT,
+            "from = 281474976710655\n",
+            RATE,
+            NEXT,
+            FROM,
+            RATE,
+        ],
+        PlanFault::Wrong { key: Key::From },
+    ),
+    (
+        &[PLAN, TERM, NEXT, "from = 1\ncolour = 1\n", RATE],
+        PlanFault::UnknownKey,
+    ),
+];
+
+#[test]
+fn refuses_terms_in_order(rt: HostRuntime) {
+    for rows in [AT_TERMS, IN_A_TERM, IN_TERMS] {
+        for (parts, fault) in rows {
+            assert!(rt; is_refused(rt.alloc(), *parts, *fault), "{parts:?}");
+        }
+    }
+}
+
+// A plan with so many terms.
+fn with_terms(alloc: Global, count: u32) -> Result<String, AllocError> {
+    let mut plan = String::from_str(alloc, PLAN)?;
+    for n in 0..count {
+        let from = n.wrapping_add(1);
+        let start = format!(in alloc; "[[account.term]]\nfrom = {from}\n")?;
+        plan.push_str(&start)?;
+        plan.push_str(RATE)?;
+    }
+    Ok(plan)
+}
+
+// Why there is no plan with so many terms.
+fn refusal_of_terms(alloc: Global, count: u32) -> Result<Option<PlanFault>, AllocError> {
+    let plan = with_terms(alloc, count)?;
+    Ok(Plan::from_text(alloc, plan.as_bytes()).err())
+}
+
+// Whether the term of this number starts then, with the meter of a text.
+fn has_term(meter: &Termed, number: u32, start: u64, text: &str) -> bool {
+    if number >= meter.terms() {
+        return false;
+    }
+    let (from, of_term) = meter.term(number);
+    from == start && meter_spec(text) == Ok(of_term)
+}
+
+// Accounts whose terms have meters of another kind, precolours or fit.
+const TERMS_OF_EACH_KIND: &[&str] = &[
+    HOUR,
+    SINGLE,
+    KEYS,
+    NEXT,
+    "from = 1\nmeter = \"rfc2698\"\naware = true\npir = 4\npbs = 3\ncir = 2\ncbs = 1\n",
+    NEXT,
+    "from = 281474976710655\nmeter = \"rfc4115\"\nexact_fit = false\ncir = 1\ncbs = 2\neir = 3\nebs = 4\n",
+    PEAK,
+    "aware = true\nkeys = [[7, 2]]\n",
+    NEXT,
+    FROM,
+    RATE,
+    EXCESS,
+    "keys = [[7, 3]]\nterm = []\n",
+];
+
+fn has_terms_of_each_kind(plan: &Plan) -> bool {
+    if plan.accounts() != 3 {
+        return false;
+    }
+    let (first, second) = (plan.meter(0), plan.meter(1));
+    (first.terms(), second.terms(), plan.meter(2).terms()) == (2, 1, 0)
+        && has_term(&first, 0, 1, "rfc2698:4:3:2:1:aware")
+        && has_term(
+            &first,
+            1,
+            281_474_976_710_655,
+            "rfc4115:1:2:3:4:below:blind",
+        )
+        && has_term(
+            &second,
+            0,
+            1_700_000_000_101,
+            "rfc2697:1000:1000:1000:blind",
+        )
+        && has_meter(plan, 0, "rfc2697:1000:2000:1000:blind")
+        && has_meter(plan, 1, "rfc2698:2000:2000:1000:1000:aware")
+        && has_meter(plan, 2, "rfc4115:1000:1000:1000:1000:exact:blind")
+}
+
+fn copies_terms(alloc: Global, text: &str) -> bool {
+    let Ok(plan) = Plan::from_text(alloc, text.as_bytes()) else {
+        return false;
+    };
+    let Ok(copy) = plan.copy(alloc) else {
+        return false;
+    };
+    has_terms_of_each_kind(&plan) && has_terms_of_each_kind(&copy)
+}
+
+#[test]
+fn reads_terms(rt: HostRuntime) {
+    let Ok(text) = text(rt.alloc(), TERMS_OF_EACH_KIND) else {
+        panic!(rt; "a text");
+    };
+    assert!(rt; copies_terms(rt.alloc(), text.as_str()));
+    for count in [0, 1, 8] {
+        assert!(rt; refusal_of_terms(rt.alloc(), count) == Ok(None), "{count}");
+    }
+    assert!(rt; refusal_of_terms(rt.alloc(), 9) == Ok(Some(PlanFault::Limits)));
+}
+
 fn push_head(alloc: Global, text: &mut String, n: u32) -> Result<(), AllocError> {
     let head = format!(in alloc;
         "[[account]]\nname = \"a{n}\"\nmeter = \"rfc2697\"\ncir = 1\ncbs = 1\nebs = 1\nkeys = ["
@@ -341,7 +631,11 @@ fn wide(alloc: Global, accounts: u32, pairs: u32) -> Result<String, AllocError> 
 }
 
 fn report(place: u32, time: u64, octets: u32, iface: u32) -> Option<Report> {
-    let identity = Identity { domain: 7, place };
+    let identity = Identity {
+        domain: 7,
+        session: 0,
+        place,
+    };
     let content = Content {
         time,
         octets,
@@ -399,13 +693,17 @@ fn log_of(alloc: Global, rows: &[Seen]) -> Option<Log> {
 }
 
 fn billed(alloc: Global, rows: &[Seen]) -> Option<Bill> {
-    let Ok(plan) = Plan::from_text(alloc, PLAN.as_bytes()) else {
-        return None;
-    };
     let Some(log) = log_of(alloc, rows) else {
         return None;
     };
-    bill_all(alloc, &plan, &log).ok()
+    billed_under(alloc, PLAN, &log)
+}
+
+fn billed_under(alloc: Global, plan: &str, log: &Log) -> Option<Bill> {
+    let Ok(plan) = Plan::from_text(alloc, plan.as_bytes()) else {
+        return None;
+    };
+    bill_all(alloc, &plan, log).ok()
 }
 
 // A period, and the octets and packets of each colour in it.
@@ -491,6 +789,40 @@ fn bills_by_period_and_leaves_out_what_no_account_owns(rt: HostRuntime) {
     assert!(rt; bills(rt.alloc(), &reports, (3, 0, 1), total, &rows));
 }
 
+fn log_of_arrivals(alloc: Global, rows: &[(u32, u32, u32)]) -> Option<Log> {
+    let mut log = Log::new(alloc);
+    for (place, late, octets) in rows {
+        let time = START.wrapping_add(*late as u64);
+        let Some(report) = report(*place, time, *octets, 1) else {
+            return None;
+        };
+        if log.add(report).is_err() {
+            return None;
+        }
+    }
+    Some(log)
+}
+
+// Whether the bill under the plan with a term is as is said.
+fn bills_in_a_term(alloc: Global, (rows, octets, packets): Arrivals) -> bool {
+    let Some(log) = log_of_arrivals(alloc, rows) else {
+        return false;
+    };
+    let Some(bill) = billed_under(alloc, TERMED, &log) else {
+        return false;
+    };
+    let counted = (bill.reports as usize, bill.disputed, bill.unassigned);
+    counted == (rows.len(), 0, 0)
+        && has_one_tally(&bill, octets, packets, &[(472_222, octets, packets)])
+}
+
+#[test]
+fn late_reports_are_metered_in_their_terms(rt: HostRuntime) {
+    for arrivals in LATE_ARRIVALS {
+        assert!(rt; bills_in_a_term(rt.alloc(), arrivals));
+    }
+}
+
 fn says<D: Display + Drop>(alloc: Global, value: D, text: &str) -> bool {
     match format!(in alloc; "{value}") {
         Ok(said) => said.as_str() == text,
@@ -536,7 +868,7 @@ fn faults_have_their_numbers_and_texts(rt: HostRuntime) {
         (
             PlanFault::Limits,
             7,
-            "the number of accounts or of pairs is out of range: expected 1 to 256 accounts with at most 4096 pairs",
+            "the number of accounts, of terms or of pairs is out of range: expected 1 to 256 accounts, each with at most 8 terms, and at most 4096 pairs in all",
         ),
         (PlanFault::Memory, 8, "out of memory"),
     ] {
@@ -562,6 +894,8 @@ fn keys_are_printed_as_a_document_has_them(rt: HostRuntime) {
         (Key::Pbs, "pbs"),
         (Key::Eir, "eir"),
         (Key::Keys, "keys"),
+        (Key::Term, "term"),
+        (Key::From, "from"),
     ] {
         assert!(rt; key.name() == name);
         assert!(rt; says(rt.alloc(), key, name));

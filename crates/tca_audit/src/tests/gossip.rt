@@ -9,6 +9,7 @@ mod outcomes;
 mod plain;
 mod random;
 mod rows;
+mod terms;
 mod world;
 
 use std::alloc::Global;
@@ -36,7 +37,11 @@ const THIRD: Row = (2, 200, 800);
 
 fn report(row: Row) -> Option<Report> {
     let (place, late, octets) = row;
-    let identity = Identity { domain: 7, place };
+    let identity = Identity {
+        domain: 7,
+        session: 0,
+        place,
+    };
     let content = Content {
         time: START + late as u64,
         octets,
@@ -101,7 +106,11 @@ trait Play {
 }
 
 fn replica(alloc: Global, name: u32) -> Option<Replica> {
-    let Ok(plan) = Plan::from_text(alloc, PLAN.as_bytes()) else {
+    replica_under(alloc, PLAN, name)
+}
+
+fn replica_under(alloc: Global, plan: &str, name: u32) -> Option<Replica> {
+    let Ok(plan) = Plan::from_text(alloc, plan.as_bytes()) else {
         return None;
     };
     Replica::new(alloc, name, plan).ok()

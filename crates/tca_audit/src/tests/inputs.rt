@@ -1,5 +1,5 @@
 //! Inputs: log exports, and captures of hand-made messages.
-use super::samples::{fixed, one_report, part, variable};
+use super::samples::{fixed, one_report, one_without_session, part, variable};
 use std::alloc::{AllocError, Global};
 use std::fmt::Display;
 use tca_report::{
@@ -10,8 +10,17 @@ use tca_wire::{WireFault, split_message};
 
 const T: u64 = 1_700_000_000_000;
 
+// A report of session 0.
 fn report(place: u32, time: u64, dscp: u8, iface: u32) -> Option<Report> {
-    let identity = Identity { domain: 7, place };
+    report_in(0, place, time, dscp, iface)
+}
+
+fn report_in(session: u32, place: u32, time: u64, dscp: u8, iface: u32) -> Option<Report> {
+    let identity = Identity {
+        domain: 7,
+        session,
+        place,
+    };
     let content = Content {
         time,
         octets: 1500,
@@ -73,7 +82,7 @@ fn one_record(rt: &HostRuntime, specifiers: &[u8], record: &[u8]) -> Result<Vec<
 
 // What the one record of an input is: its report, or else the reason's number.
 fn found(rt: &HostRuntime, octets: &[u8]) -> Option<Result<Report, usize>> {
-    let Ok(gathered) = gather(rt.alloc(), octets) else {
+    let Ok(gathered) = gather(rt.alloc(), octets, 0) else {
         return None;
     };
     if let Some(report) = gathered.reports.first() {
@@ -104,15 +113,19 @@ fn found_of(
 }
 
 fn is_refused(rt: &HostRuntime, octets: &[u8], fault: InputFault) -> bool {
-    match gather(rt.alloc(), octets) {
+    match gather(rt.alloc(), octets, 0) {
         Ok(_) => false,
         Err(found) => found == fault,
     }
 }
 
-// Whether an input holds these reports and has these notes.
+// Whether an input of session 0 holds these reports and has these notes.
 fn holds(alloc: Global, octets: &[u8], reports: &[Report], notes: Notes) -> bool {
-    let Ok(gathered) = gather(alloc, octets) else {
+    holds_in(alloc, 0, octets, reports, notes)
+}
+
+fn holds_in(alloc: Global, session: u32, octets: &[u8], reports: &[Report], notes: Notes) -> bool {
+    let Ok(gathered) = gather(alloc, octets, session) else {
         return false;
     };
     gathered.reports.as_slice() == reports && gathered.notes == notes
@@ -154,6 +167,38 @@ fn captures_are_read(rt: HostRuntime) {
     assert!(rt; holds_both(&rt));
     assert!(rt; holds(alloc, b"", &[], notes(0)));
     assert!(rt; holds_one(alloc, one_report(), report(5, T, 10, 1), notes(0)));
+    assert!(rt; holds_one(alloc, one_without_session(), report(5, T, 10, 1), notes(0)));
+}
+
+// Whether the reports of both messages, and of the first again, are of the session by which they came.
+fn are_of_session(rt: &HostRuntime, session: u32) -> bool {
+    let first = report_in(session, 5, T, 10, 1);
+    let (Some(first), Some(second)) = (first, report_in(session, 0, T, 46, 0)) else {
+        return false;
+    };
+    let Ok(all) = joined(rt, &[fixed(), variable(), fixed()]) else {
+        return false;
+    };
+    holds_in(rt.alloc(), session, &all, &[first, second, first], notes(3))
+}
+
+// Whether the session has no effect for a log export.
+fn exports_keep_theirs(alloc: Global, session: u32) -> bool {
+    match report(5, T, 10, 1) {
+        Some(report) => {
+            holds_in(alloc, session, one_report(), &[report], notes(0))
+                && holds_in(alloc, session, one_without_session(), &[report], notes(0))
+        }
+        None => false,
+    }
+}
+
+#[test]
+fn captures_are_of_their_session(rt: HostRuntime) {
+    for session in [5, 4_294_967_295] {
+        assert!(rt; are_of_session(&rt, session));
+        assert!(rt; exports_keep_theirs(rt.alloc(), session));
+    }
 }
 
 // The first message 3,000 times.
@@ -166,7 +211,7 @@ fn many_messages(alloc: Global) -> Result<Vec<u8>, AllocError> {
 }
 
 fn holds_many(alloc: Global, octets: &[u8]) -> bool {
-    let Ok(gathered) = gather(alloc, octets) else {
+    let Ok(gathered) = gather(alloc, octets, 0) else {
         return false;
     };
     gathered.reports.len() == 3000 && gathered.notes == notes(3000)
@@ -505,7 +550,7 @@ fn read_message(rt: &HostRuntime, octets: &[u8]) -> Option<Outcome> {
     let Ok(message) = split_message(rt.alloc(), octets) else {
         return None;
     };
-    let mut decoder = Decoder::new(rt.alloc());
+    let mut decoder = Decoder::new(rt.alloc(), 0);
     decoder.read(rt.alloc(), &message).ok()
 }
 

@@ -1,4 +1,5 @@
 //! A log beside a plain list of reports that answers alike, at its limit, and with each growth refused in turn by a small heap.
+use super::Numbers;
 use linked_list_allocator::LocalHeap;
 use std::alloc::{AllocError, Allocator, Global};
 use std::test::Fail;
@@ -22,8 +23,17 @@ const ROWS: [(u32, u32, u32); 6] = [
     (3, 70, 602),
 ];
 
+// A report of session 0.
 fn within_ranges(place: u32, late: u32, octets: u32) -> Option<Report> {
-    let identity = Identity { domain: 7, place };
+    in_session(0, place, late, octets)
+}
+
+fn in_session(session: u32, place: u32, late: u32, octets: u32) -> Option<Report> {
+    let identity = Identity {
+        domain: 7,
+        session,
+        place,
+    };
     let content = Content {
         time: START + late as u64,
         octets,
@@ -61,6 +71,11 @@ fn in_turn(left: &mut Vec<Report>, code: usize, order: &mut Vec<Report>) -> Resu
     Ok(())
 }
 
+// Whether two identities have the same parts.
+fn is_one(one: Identity, other: Identity) -> bool {
+    (one.domain, one.session, one.place) == (other.domain, other.session, other.place)
+}
+
 // What a plain list of reports answers to one more, which it then has.
 fn added_to(list: &mut Vec<Report>, report: Report) -> Result<Added, AllocError> {
     if list.contains(&report) {
@@ -68,7 +83,7 @@ fn added_to(list: &mut Vec<Report>, report: Report) -> Result<Added, AllocError>
     }
     let mut answer = Added::Fresh;
     for other in list.iter() {
-        if other.identity() == report.identity() {
+        if is_one(other.identity(), report.identity()) {
             answer = match answer {
                 Added::Fresh => Added::NewDispute { withdrawn: *other },
                 _ => Added::MoreDispute,
@@ -80,7 +95,9 @@ fn added_to(list: &mut Vec<Report>, report: Report) -> Result<Added, AllocError>
 }
 
 fn contents_in(list: &[Report], identity: Identity) -> usize {
-    list.iter().filter(|r| r.identity() == identity).count()
+    list.iter()
+        .filter(|r| is_one(r.identity(), identity))
+        .count()
 }
 
 fn has_reports<A: Allocator + Copy>(log: &Log<A>, list: &[Report]) -> bool {
@@ -117,6 +134,17 @@ fn has_settled<A: Allocator + Copy>(log: &Log<A>, list: &[Report]) -> bool {
 
 fn has_all<A: Allocator + Copy>(log: &Log<A>, list: &[Report]) -> bool {
     has_reports(log, list) && has_settled(log, list)
+}
+
+// Whether just these are settled, in this order.
+fn settles<A: Allocator + Copy>(log: &Log<A>, list: &[Report]) -> bool {
+    let mut left = log.settled();
+    for report in list {
+        if left.next() != Some(report) {
+            return false;
+        }
+    }
+    left.next().is_none()
 }
 
 // Adds each report to both, and compares the answers.
@@ -316,11 +344,166 @@ fn late_contents_dispute(rt: HostRuntime) {
     assert!(rt; copies(rt.alloc()));
 }
 
-// 513 reports, of which 213 identities have two contents.
+// Session, place, milliseconds after the first, octets: one place in two sessions, and two more contents of it in the second one.
+const SESSIONS: [(u32, u32, u32, u32); 4] = [
+    (1, 3, 50, 600),
+    (2, 3, 60, 601),
+    (2, 3, 70, 602),
+    (2, 3, 80, 603),
+];
+
+fn of_sessions(alloc: Global) -> Option<Vec<Report>> {
+    let mut list = Vec::new(alloc);
+    for (session, place, late, octets) in SESSIONS {
+        let Some(report) = in_session(session, place, late, octets) else {
+            return None;
+        };
+        if list.push(report).is_err() {
+            return None;
+        }
+    }
+    Some(list)
+}
+
+// Whether that place is two identities, of which the second alone comes to be disputed.
+fn answers_apart(log: &mut Log, list: &[Report]) -> bool {
+    let [one, other, second, third] = list else {
+        return false;
+    };
+    answers(log, *one, Added::Fresh)
+        && answers(log, *other, Added::Fresh)
+        && (log.len(), log.disputed()) == (2, 0)
+        && settles(log, part(list, 0, 2))
+        && answers(log, *second, Added::NewDispute { withdrawn: *other })
+        && answers(log, *third, Added::MoreDispute)
+        && (log.len(), log.disputed()) == (4, 1)
+        && settles(log, part(list, 0, 1))
+}
+
+// The same where logs with some of the reports are united with it.
+fn unites_apart(alloc: Global, log: &mut Log, list: &[Report]) -> bool {
+    let Some(other) = log_of(alloc, part(list, 1, 2), 1) else {
+        return false;
+    };
+    let Some(second) = log_of(alloc, part(list, 1, 3), 2) else {
+        return false;
+    };
+    log.union(&other) == Ok(1)
+        && log.disputed() == 0
+        && settles(log, part(list, 0, 2))
+        && log.union(&second) == Ok(1)
+        && (log.len(), log.disputed()) == (3, 1)
+        && settles(log, part(list, 0, 1))
+}
+
+fn adds_apart(alloc: Global, list: &[Report]) -> bool {
+    let mut log = Log::new(alloc);
+    answers_apart(&mut log, list)
+}
+
+fn joins_apart(alloc: Global, list: &[Report]) -> bool {
+    let Some(mut log) = log_of(alloc, part(list, 0, 1), 1) else {
+        return false;
+    };
+    unites_apart(alloc, &mut log, list)
+}
+
+fn sessions_are_apart(alloc: Global) -> bool {
+    let Some(list) = of_sessions(alloc) else {
+        return false;
+    };
+    adds_apart(alloc, &list) && joins_apart(alloc, &list)
+}
+
+#[test]
+fn one_place_in_two_sessions_is_two_identities(rt: HostRuntime) {
+    assert!(rt; sessions_are_apart(rt.alloc()));
+}
+
+// One of 96 reports of two sessions of each of two domains: eight places, each with three contents.
+fn some_report(numbers: &mut Numbers) -> Option<Report> {
+    let content = numbers.below(3);
+    let identity = Identity {
+        domain: numbers.below(2),
+        session: numbers.below(2),
+        place: numbers.below(8),
+    };
+    let content = Content {
+        time: START + content as u64 * 50 + numbers.below(2) as u64,
+        octets: content.wrapping_add(600),
+        dscp: 0,
+        iface: 1,
+    };
+    Report::new(identity, content)
+}
+
+fn some_reports(alloc: Global, numbers: &mut Numbers) -> Option<Vec<Report>> {
+    let mut list = Vec::new(alloc);
+    for _ in 0..numbers.below(40) {
+        let Some(report) = some_report(numbers) else {
+            return None;
+        };
+        if list.push(report).is_err() {
+            return None;
+        }
+    }
+    Some(list)
+}
+
+// The reports of a list without repeats.
+fn distinct(alloc: Global, list: &[Report]) -> Result<Vec<Report>, AllocError> {
+    let mut distinct = Vec::new(alloc);
+    for report in list {
+        if !distinct.contains(report) {
+            distinct.push(*report)?;
+        }
+    }
+    Ok(distinct)
+}
+
+// How many identities have several contents: those of the reports that are the first of their identity, and not the last.
+fn disputed_in(list: &[Report]) -> u32 {
+    let mut disputed: u32 = 0;
+    for (i, report) in list.iter().enumerate() {
+        let before = part(list, 0, i);
+        let first = contents_in(before, report.identity()) == 0;
+        if first && contents_in(list, report.identity()) > 1 {
+            disputed = disputed.saturating_add(1);
+        }
+    }
+    disputed
+}
+
+// Whether a log that gets a list one by one, and one that gets it at once, are as a plain list has it.
+fn agrees_by_plain(alloc: Global, order: &[Report]) -> bool {
+    let Ok(mut plain) = distinct(alloc, order) else {
+        return false;
+    };
+    plain.sort_unstable();
+    let new = u32::try_from(plain.len()).unwrap_or(0);
+    agrees(alloc, order, disputed_in(&plain)) && adds_all(alloc, order, &plain, new)
+}
+
+fn agrees_at_random(alloc: Global, numbers: &mut Numbers) -> bool {
+    let Some(order) = some_reports(alloc, numbers) else {
+        return false;
+    };
+    agrees_by_plain(alloc, &order)
+}
+
+#[test]
+fn any_list_of_two_sessions_gives_the_log_of_a_plain_list(rt: HostRuntime) {
+    let mut numbers = Numbers { state: 5 };
+    for list in 0..2_000 {
+        assert!(rt; agrees_at_random(rt.alloc(), &mut numbers), "list {list}");
+    }
+}
+
+// 513 reports of two sessions with the same 150 places each. 213 identities have two contents.
 fn many(alloc: Global) -> Option<Vec<Report>> {
     let mut list = Vec::new(alloc);
     for i in 0..513 {
-        let Some(report) = within_ranges(i % 300, i, 40 + i) else {
+        let Some(report) = in_session(i % 2, i % 300 / 2, i, 40 + i) else {
             return None;
         };
         if list.push(report).is_err() {

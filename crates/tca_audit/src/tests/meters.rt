@@ -1,6 +1,7 @@
 //! Meters on packets whose colours are known.
-mod slow;
+pub(super) mod slow;
 mod specs;
+mod terms;
 
 use slow::{Kind, Slow};
 use std::alloc::Global;
@@ -297,6 +298,8 @@ fn ticks_are_counted_tokens(rt: HostRuntime) {
             for more in 0..20u64 {
                 let want = slow::count(rate, from, from + more, 120);
                 assert!(rt; ticks(rate, from, from + more) == want);
+                let by_then = slow::come(rate, from + more);
+                assert!(rt; by_then.wrapping_sub(slow::come(rate, from)) as u128 == want);
             }
         }
     }
@@ -378,16 +381,7 @@ fn compare(rt: &impl Abort, slow: Slow, first_seed: u64) {
 /// Compares the meter of these parameters, blind and aware.
 fn compare_modes(rt: &impl Abort, kind: Kind, (cir, cbs): (u64, u64), (rate, size): (u64, u64)) {
     for aware in [false, true] {
-        let slow = Slow {
-            kind,
-            cir,
-            cbs,
-            second_rate: rate,
-            second_size: size,
-            aware,
-            committed: cbs,
-            second: size,
-        };
+        let slow = Slow::full(kind, (cir, cbs), (rate, size), aware);
         compare(rt, slow, cir);
         compare(rt, slow, cbs);
     }

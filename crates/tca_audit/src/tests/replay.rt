@@ -18,7 +18,11 @@ const HOUR: u64 = 3_600_000;
 
 fn report(place: u32, late: u32, octets: u32, dscp: u8) -> Option<Report> {
     Report::new(
-        Identity { domain: 7, place },
+        Identity {
+            domain: 7,
+            session: 0,
+            place,
+        },
         Content {
             time: START + late as u64,
             octets,

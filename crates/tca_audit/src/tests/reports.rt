@@ -1,5 +1,7 @@
 //! Reports, exports and devices.
-use super::samples::{one_report, part};
+use super::samples::{
+    one_report, one_without_session, part, three_reports, three_without_sessions,
+};
 use std::alloc::{AllocError, Global};
 use std::fmt::Display;
 use std::path::Path;
@@ -12,20 +14,11 @@ use tca_report::{
 
 const T: u64 = 1_700_000_000_000;
 
-// Three reports: 1500, 1000 and 800 octets at T, T + 100 and T + 200.
-fn three_reports() -> &'static [u8] {
-    b"TCAX\x00\x01\x00\x00\x00\x03\
-\x00\x00\x01\x8b\xcf\xe5\x68\x00\x00\x00\x00\x07\x00\x00\x00\x00\x00\x00\x05\xdc\x00\x00\x00\x00\x01\
-\x00\x00\x01\x8b\xcf\xe5\x68\x64\x00\x00\x00\x07\x00\x00\x00\x01\x00\x00\x03\xe8\x00\x00\x00\x00\x01\
-\x00\x00\x01\x8b\xcf\xe5\x68\xc8\x00\x00\x00\x07\x00\x00\x00\x02\x00\x00\x03\x20\x00\x00\x00\x00\x01"
-}
-
 fn no_report() -> &'static [u8] {
-    b"TCAX\x00\x01\x00\x00\x00\x00"
+    b"TCAX\x00\x02\x00\x00\x00\x00"
 }
 
-fn report(place: u32, time: u64, octets: u32, dscp: u8) -> Option<Report> {
-    let identity = Identity { domain: 7, place };
+fn report_of(identity: Identity, time: u64, octets: u32, dscp: u8) -> Option<Report> {
     let content = Content {
         time,
         octets,
@@ -35,20 +28,33 @@ fn report(place: u32, time: u64, octets: u32, dscp: u8) -> Option<Report> {
     Report::new(identity, content)
 }
 
+// A report of domain 7 and session 0.
+fn report(place: u32, time: u64, octets: u32, dscp: u8) -> Option<Report> {
+    report_of(identity((7, 0, place)), time, octets, dscp)
+}
+
+fn identity((domain, session, place): (u32, u32, u32)) -> Identity {
+    Identity {
+        domain,
+        session,
+        place,
+    }
+}
+
 fn has_parts(report: Report, identity: Identity, content: Content) -> bool {
     report.identity() == identity && report.content() == content
 }
 
-// Place, time, octets and DSCP.
-type Parts = (u32, u64, u32, u8);
+// Domain, session and place; time, octets and DSCP.
+type Parts = ((u32, u32, u32), u64, u32, u8);
 
 fn is_below(lower: Parts, upper: Parts) -> bool {
-    let (place, time, octets, dscp) = lower;
-    let Some(lower) = report(place, time, octets, dscp) else {
+    let (whose, time, octets, dscp) = lower;
+    let Some(lower) = report_of(identity(whose), time, octets, dscp) else {
         return false;
     };
-    let (place, time, octets, dscp) = upper;
-    let Some(upper) = report(place, time, octets, dscp) else {
+    let (whose, time, octets, dscp) = upper;
+    let Some(upper) = report_of(identity(whose), time, octets, dscp) else {
         return false;
     };
     lower < upper
@@ -56,10 +62,7 @@ fn is_below(lower: Parts, upper: Parts) -> bool {
 
 // Whether the report of the greatest time, size and code point has these.
 fn has_the_greatest_parts() -> bool {
-    let identity = Identity {
-        domain: 7,
-        place: 9,
-    };
+    let identity = identity((7, 0, 9));
     let content = Content {
         time: 281_474_976_710_655,
         octets: 65_575,
@@ -83,23 +86,32 @@ fn reports_keep_their_ranges(rt: HostRuntime) {
     assert!(rt; has_the_greatest_parts());
     order_is_total();
     for (lower, upper) in [
-        ((9, T, 1, 0), (0, T + 1, 1, 0)),
-        ((0, T, 9, 9), (1, T, 1, 0)),
-        ((0, T, 1, 9), (0, T, 2, 0)),
+        (((7, 9, 9), T, 1, 0), ((7, 0, 0), T + 1, 1, 0)),
+        (((7, 9, 9), T, 9, 9), ((8, 0, 0), T, 1, 0)),
+        (((7, 0, 9), T, 9, 9), ((7, 1, 0), T, 1, 0)),
+        (((7, 0, 0), T, 9, 9), ((7, 0, 1), T, 1, 0)),
+        (((7, 0, 0), T, 1, 9), ((7, 0, 0), T, 2, 0)),
     ] {
         assert!(rt; is_below(lower, upper));
     }
+    for (lower, upper) in [
+        ((7, 9, 9), (8, 0, 0)),
+        ((7, 0, 9), (7, 1, 0)),
+        ((7, 1, 0), (7, 1, 1)),
+    ] {
+        assert!(rt; identity(lower) < identity(upper));
+    }
 }
 
-// Whether an export is read as these reports, which are written as its octets again.
-fn is_export_of(alloc: Global, octets: &[u8], wanted: &[Report]) -> bool {
+// Whether an export is read as these reports, and they are written as an export.
+fn is_export_of(alloc: Global, octets: &[u8], wanted: &[Report], again: &[u8]) -> bool {
     let Ok(reports) = read_export(alloc, octets) else {
         return false;
     };
     let mut out = Host::new(Vec::new(alloc));
     let done = write_export(reports.as_slice(), &mut out).is_ok();
     let written = out.into_inner();
-    done && reports.as_slice() == wanted && written.as_slice() == octets
+    done && reports.as_slice() == wanted && written.as_slice() == again
 }
 
 // The reports of the export of three.
@@ -111,26 +123,66 @@ fn wanted_of_three() -> Option<[Report; 3]> {
     ])
 }
 
+// Whether both versions are read as the three reports, which are written as version 2.
 fn three_go_both_ways(alloc: Global) -> bool {
     match wanted_of_three() {
-        Some(wanted) => is_export_of(alloc, three_reports(), &wanted),
+        Some(wanted) => {
+            is_export_of(alloc, three_reports(), &wanted, three_reports())
+                && is_export_of(alloc, three_without_sessions(), &wanted, three_reports())
+        }
         None => false,
     }
 }
 
 fn one_goes_both_ways(alloc: Global) -> bool {
     match report(5, T, 1500, 10) {
-        Some(wanted) => is_export_of(alloc, one_report(), &[wanted]),
+        Some(wanted) => {
+            is_export_of(alloc, one_report(), &[wanted], one_report())
+                && is_export_of(alloc, one_without_session(), &[wanted], one_report())
+        }
         None => false,
     }
 }
 
 #[test]
 fn exports_both_ways(rt: HostRuntime) {
+    let lengths = (three_reports().len(), three_without_sessions().len());
+    assert!(rt; lengths == (97, 85));
+    assert!(rt; (one_report().len(), one_without_session().len()) == (39, 35));
     assert!(rt; three_go_both_ways(rt.alloc()));
     assert!(rt; one_goes_both_ways(rt.alloc()));
-    assert!(rt; is_export_of(rt.alloc(), no_report(), &[]));
+    assert!(rt; is_export_of(rt.alloc(), no_report(), &[], no_report()));
+    let older = b"TCAX\x00\x01\x00\x00\x00\x00";
+    assert!(rt; is_export_of(rt.alloc(), older, &[], no_report()));
     spelling_is_unique();
+}
+
+// Place 9 in session 1, place 9 in the next session, and place 0 in the last one, all of one time.
+fn three_sessions() -> &'static [u8] {
+    b"TCAX\x00\x02\x00\x00\x00\x03\
+\x00\x00\x01\x8b\xcf\xe5\x68\x00\x00\x00\x00\x07\x00\x00\x00\x01\x00\x00\x00\x09\x00\x00\x05\xdc\x00\x00\x00\x00\x01\
+\x00\x00\x01\x8b\xcf\xe5\x68\x00\x00\x00\x00\x07\x00\x00\x00\x02\x00\x00\x00\x09\x00\x00\x03\xe8\x00\x00\x00\x00\x01\
+\x00\x00\x01\x8b\xcf\xe5\x68\x00\x00\x00\x00\x07\xff\xff\xff\xff\x00\x00\x00\x00\x00\x00\x03\x20\x00\x00\x00\x00\x01"
+}
+
+fn wanted_of_three_sessions() -> Option<[Report; 3]> {
+    Some([
+        report_of(identity((7, 1, 9)), T, 1500, 0)?,
+        report_of(identity((7, 2, 9)), T, 1000, 0)?,
+        report_of(identity((7, 4_294_967_295, 0)), T, 800, 0)?,
+    ])
+}
+
+fn keeps_sessions(alloc: Global) -> bool {
+    match wanted_of_three_sessions() {
+        Some(wanted) => is_export_of(alloc, three_sessions(), &wanted, three_sessions()),
+        None => false,
+    }
+}
+
+#[test]
+fn exports_keep_sessions(rt: HostRuntime) {
+    assert!(rt; keeps_sessions(rt.alloc()));
 }
 
 fn is_refused(alloc: Global, octets: &[u8], fault: ExportFault) -> bool {
@@ -147,8 +199,22 @@ fn headers_are_refused(rt: HostRuntime) {
         (b"TCAY".as_slice(), ExportFault::Magic),
         (b"TCAX\x00\x01\x00\x00\x00".as_slice(), ExportFault::Cut),
         (
-            b"TCAX\x00\x02\x00\x00\x00\x00".as_slice(),
-            ExportFault::Version(2),
+            b"TCAX\x00\x00\x00\x00\x00\x00".as_slice(),
+            ExportFault::Version(0),
+        ),
+        (
+            b"TCAX\x00\x03\x00\x00\x00\x00".as_slice(),
+            ExportFault::Version(3),
+        ),
+        (
+            b"TCAX\x01\x02\x00\x00\x00\x00".as_slice(),
+            ExportFault::Version(258),
+        ),
+        (b"TCAX\x00\x02\x00\x00\x00".as_slice(), ExportFault::Cut),
+        (b"TCAX\x00\x02\x00\x40\x00\x00".as_slice(), ExportFault::Cut),
+        (
+            b"TCAX\x00\x02\x00\x40\x00\x01".as_slice(),
+            ExportFault::Count,
         ),
         (b"TCAX\x00\x01\x00\x40\x00\x00".as_slice(), ExportFault::Cut),
         (
@@ -160,9 +226,15 @@ fn headers_are_refused(rt: HostRuntime) {
     }
 }
 
-// An export of two records.
-fn pair_of(alloc: Global, first: &[u8], second: &[u8]) -> Result<Vec<u8>, AllocError> {
-    let mut octets = Vec::from_slice(alloc, b"TCAX\x00\x01\x00\x00\x00\x02")?;
+// An export of two records, of the version of another one.
+fn pair_of(
+    alloc: Global,
+    other: &[u8],
+    first: &[u8],
+    second: &[u8],
+) -> Result<Vec<u8>, AllocError> {
+    let mut octets = Vec::from_slice(alloc, part(other, 0, 6))?;
+    octets.extend_from_slice(b"\x00\x00\x00\x02")?;
     octets.extend_from_slice(first)?;
     octets.extend_from_slice(second)?;
     Ok(octets)
@@ -185,39 +257,66 @@ fn keeps_its_length(alloc: Global, octets: &[u8], cut: usize) -> bool {
 
 #[test]
 fn lengths_are_refused(rt: HostRuntime) {
-    assert!(rt; keeps_its_length(rt.alloc(), three_reports(), 84));
-    assert!(rt; keeps_its_length(rt.alloc(), one_report(), 34));
+    assert!(rt; keeps_its_length(rt.alloc(), three_without_sessions(), 84));
+    assert!(rt; keeps_its_length(rt.alloc(), one_without_session(), 34));
+    assert!(rt; keeps_its_length(rt.alloc(), three_reports(), 96));
+    assert!(rt; keeps_its_length(rt.alloc(), three_reports(), 85));
+    assert!(rt; keeps_its_length(rt.alloc(), one_report(), 38));
+    assert!(rt; keeps_its_length(rt.alloc(), one_report(), 35));
 }
 
-fn pair_is_refused(alloc: Global, first: &[u8], second: &[u8], fault: ExportFault) -> bool {
-    let Ok(octets) = pair_of(alloc, first, second) else {
+fn pair_is_refused(
+    alloc: Global,
+    other: &[u8],
+    first: &[u8],
+    second: &[u8],
+    fault: ExportFault,
+) -> bool {
+    let Ok(octets) = pair_of(alloc, other, first, second) else {
         return false;
     };
     is_refused(alloc, octets.as_slice(), fault)
 }
 
+// A record of an export whose records have this many octets.
+fn record(octets: &[u8], size: usize, number: usize) -> &[u8] {
+    let start = size.saturating_mul(number).saturating_add(10);
+    part(octets, start, start.saturating_add(size))
+}
+
+// The octets without the last five, which are the DSCP and the interface, and a DSCP out of range in their place.
+fn with_a_high_code_point(alloc: Global, octets: &[u8]) -> Result<Vec<u8>, AllocError> {
+    let end = octets.len().saturating_sub(5);
+    with_end(alloc, part(octets, 0, end), b"\x40\x00\x00\x00\x01")
+}
+
 // Whether reports are refused whose DSCP is out of range, also one that is below the report before it.
-fn refuses_a_code_point(alloc: Global) -> bool {
-    let three = three_reports();
-    let Ok(third) = with_end(alloc, part(three, 0, 80), b"\x40\x00\x00\x00\x01") else {
+fn refuses_a_code_point(alloc: Global, three: &[u8], size: usize) -> bool {
+    let Ok(third) = with_a_high_code_point(alloc, three) else {
         return false;
     };
-    let Ok(lower) = with_end(alloc, part(three, 10, 30), b"\x40\x00\x00\x00\x01") else {
+    let Ok(lower) = with_a_high_code_point(alloc, record(three, size, 0)) else {
         return false;
     };
     let range = ExportFault::Range { n: 1 };
-    let both = pair_is_refused(alloc, part(three, 35, 60), lower.as_slice(), range);
+    let both = pair_is_refused(alloc, three, record(three, size, 1), &lower, range);
     both && is_refused(alloc, third.as_slice(), ExportFault::Range { n: 2 })
 }
 
 #[test]
 fn reports_are_refused(rt: HostRuntime) {
-    let (one, three) = (part(one_report(), 10, 35), three_reports());
-    let (first, second) = (part(three, 10, 35), part(three, 35, 60));
     let order = ExportFault::Order { n: 1 };
-    assert!(rt; pair_is_refused(rt.alloc(), one, one, order));
-    assert!(rt; pair_is_refused(rt.alloc(), second, first, order));
-    assert!(rt; refuses_a_code_point(rt.alloc()));
+    for (three, size) in [(three_without_sessions(), 25), (three_reports(), 29)] {
+        let (first, second) = (record(three, size, 0), record(three, size, 1));
+        assert!(rt; pair_is_refused(rt.alloc(), three, first, first, order));
+        assert!(rt; pair_is_refused(rt.alloc(), three, second, first, order));
+        assert!(rt; refuses_a_code_point(rt.alloc(), three, size));
+    }
+    let three = three_sessions();
+    for (first, second) in [(1, 0), (2, 1), (2, 0)] {
+        let (first, second) = (record(three, 29, first), record(three, 29, second));
+        assert!(rt; pair_is_refused(rt.alloc(), three, first, second, order));
+    }
 }
 
 // Takes and gives a few octets at a time. As a writer it takes none once it has taken `room`, and
@@ -313,12 +412,12 @@ fn an_export_fails_in_mid_stream(rt: HostRuntime) {
 // An export of so many reports that one buffer doesn't hold them.
 fn long_export(alloc: Global, count: u32) -> Result<Vec<u8>, AllocError> {
     let three = three_reports();
-    let mut octets = Vec::from_slice(alloc, b"TCAX\x00\x01")?;
+    let mut octets = Vec::from_slice(alloc, b"TCAX\x00\x02")?;
     octets.extend_from_slice(&count.to_be_bytes())?;
     for n in 0..count {
-        octets.extend_from_slice(part(three, 10, 22))?;
+        octets.extend_from_slice(part(three, 10, 26))?;
         octets.extend_from_slice(&n.to_be_bytes())?;
-        octets.extend_from_slice(part(three, 26, 35))?;
+        octets.extend_from_slice(part(three, 30, 39))?;
     }
     Ok(octets)
 }
@@ -456,9 +555,9 @@ const READ_FAULTS: [(ReadFault, u8, &'static str); 3] = [
 const EXPORT_FAULTS: [(ExportFault, u8, &'static str); 7] = [
     (ExportFault::Magic, 1, "the export does not begin with TCAX"),
     (
-        ExportFault::Version(2),
+        ExportFault::Version(3),
         2,
-        "the export has version 2, not 1",
+        "the export has version 3, neither 1 nor 2",
     ),
     (
         ExportFault::Count,

@@ -39,6 +39,7 @@ const LATE: [Row; 4] = [
 fn report((place, late, octets, iface): &Row) -> Option<Report> {
     let identity = Identity {
         domain: 7,
+        session: 0,
         place: *place,
     };
     let content = Content {

@@ -8,6 +8,9 @@ use tca_templates::{
 };
 use tca_wire::{Message, split_message};
 
+// The transport session of each decoder.
+const SESSION: u32 = 5;
+
 // The template set and the data set of the first message.
 fn template_set() -> &'static [u8] {
     part(fixed(), 16, 40)
@@ -72,12 +75,15 @@ fn read(
     answer(alloc, decoder, &octets).unwrap_or(Err(DecodeFault::Memory))
 }
 
+// Whether the records have these places in domain and session, and are of options or not.
 fn has_places(outcome: &Outcome, places: &[(u32, bool)]) -> bool {
     let mut left = outcome.fields.iter();
     for (place, options) in places {
         match left.next() {
             Some(record) => {
-                if record.domain != 7 || record.place != *place || record.options != *options {
+                if (record.domain, record.session) != (7, SESSION)
+                    || (record.place, record.options) != (*place, *options)
+                {
                     return false;
                 }
             }
@@ -182,17 +188,18 @@ fn reads_the_fixed_record(alloc: Global, decoder: &mut Decoder) -> bool {
 
 #[test]
 fn reads_a_record(rt: HostRuntime) {
-    let mut decoder = Decoder::new(rt.alloc());
+    let mut decoder = Decoder::new(rt.alloc(), SESSION);
     assert!(rt; lists(&decoder, &[]));
     assert!(rt; reads_the_fixed_record(rt.alloc(), &mut decoder));
     assert!(rt; lists(&decoder, &[(7, 256, false)]));
 }
 
-// How many records were handed on, and whether the last of them is the one of `fixed`.
+// How many records were handed on, whether the last of them is the one of `fixed`, and of which session it is.
 #[derive(Clone, Copy)]
 struct Told {
     records: u32,
     is_fixed: bool,
+    session: u32,
 }
 
 // Whether this element with these octets was found.
@@ -217,6 +224,7 @@ impl TakesRecords for Told {
     fn take(&mut self, next: &Record<'_>) -> Result<(), AllocError> {
         self.records = self.records.wrapping_add(1);
         self.is_fixed = is_fixed_record(next);
+        self.session = next.session();
         Ok(())
     }
 }
@@ -226,8 +234,9 @@ fn hand(alloc: Global, decoder: &mut Decoder, message: &Message<'_>) -> Result<T
     let mut told = Told {
         records: 0,
         is_fixed: false,
+        session: 0,
     };
-    let before = mem::replace(decoder, Decoder::new(alloc));
+    let before = mem::replace(decoder, Decoder::new(alloc, 0));
     let handed = before.hand_records(alloc, message, &mut told)?;
     *decoder = handed.decoder;
     Ok(told)
@@ -241,17 +250,17 @@ fn handed(alloc: Global, decoder: &mut Decoder, octets: &[u8]) -> Result<Told, D
     }
 }
 
-// Whether one record is handed on, and whether it is that of `fixed` as is said.
+// Whether one record of the session is handed on, and whether it is that of `fixed` as is said.
 fn hands_on_one(alloc: Global, decoder: &mut Decoder, octets: &[u8], is_fixed: bool) -> bool {
     match handed(alloc, decoder, octets) {
-        Ok(told) => told.records == 1 && told.is_fixed == is_fixed,
+        Ok(told) => (told.records, told.is_fixed, told.session) == (1, is_fixed, SESSION),
         Err(_) => false,
     }
 }
 
 #[test]
 fn hands_on_records(rt: HostRuntime) {
-    let mut decoder = Decoder::new(rt.alloc());
+    let mut decoder = Decoder::new(rt.alloc(), SESSION);
     assert!(rt; hands_on_one(rt.alloc(), &mut decoder, fixed(), true));
     assert!(rt; hands_on_one(rt.alloc(), &mut decoder, variable(), false));
     assert!(rt; lists(&decoder, &[(7, 256, false)]));
@@ -259,7 +268,7 @@ fn hands_on_records(rt: HostRuntime) {
 
 #[test]
 fn places_go_on_past_the_last(rt: HostRuntime) {
-    let mut decoder = Decoder::new(rt.alloc());
+    let mut decoder = Decoder::new(rt.alloc(), SESSION);
     let record = part(data_set(), 4, 25);
     let sets: &[&[u8]] = &[template_set(), b"\x01\x00\x00\x2e", record, record];
     let places = &[(4_294_967_295, false), (0, false)];
@@ -278,7 +287,7 @@ fn places_go_on_past_the_last(rt: HostRuntime) {
 
 #[test]
 fn unknown_templates_end_the_records(rt: HostRuntime) {
-    let mut decoder = Decoder::new(rt.alloc());
+    let mut decoder = Decoder::new(rt.alloc(), SESSION);
     let defined: &[&[u8]] = &[template_set()];
     assert!(rt; reads(rt.alloc(), &mut decoder, 0, defined, &[], None, 0));
     let unknown: &[u8] = b"\x01\x2c\x00\x05\x09";
@@ -323,7 +332,7 @@ fn changed(alloc: Global, octets: &[u8], at: usize, new: &[u8]) -> Result<Vec<u8
 
 // Whether a fresh decoder refuses to hand on the records of this message for this fault.
 fn refuses_to_hand(alloc: Global, message: &Message<'_>, fault: DecodeFault) -> bool {
-    let mut decoder = Decoder::new(alloc);
+    let mut decoder = Decoder::new(alloc, SESSION);
     match hand(alloc, &mut decoder, message) {
         Ok(_) => false,
         Err(found) => found == fault,
@@ -332,7 +341,7 @@ fn refuses_to_hand(alloc: Global, message: &Message<'_>, fault: DecodeFault) -> 
 
 // Whether a fresh decoder refuses to read this message for this fault, and has no template then.
 fn refuses_to_read(alloc: Global, message: &Message<'_>, fault: DecodeFault) -> bool {
-    let mut decoder = Decoder::new(alloc);
+    let mut decoder = Decoder::new(alloc, SESSION);
     match decoder.read(alloc, message) {
         Ok(_) => false,
         Err(found) => found == fault && lists(&decoder, &[]),
@@ -410,7 +419,7 @@ fn reads_the_short_form(alloc: Global, decoder: &mut Decoder) -> bool {
 
 #[test]
 fn reads_lengths_in_both_forms(rt: HostRuntime) {
-    let mut decoder = Decoder::new(rt.alloc());
+    let mut decoder = Decoder::new(rt.alloc(), SESSION);
     assert!(rt; reads_the_long_form(rt.alloc(), &mut decoder));
     assert!(rt; reads_the_short_form(rt.alloc(), &mut decoder));
 }
@@ -450,7 +459,7 @@ fn reads_the_options_record(alloc: Global, decoder: &mut Decoder) -> bool {
 
 #[test]
 fn options_records_have_places(rt: HostRuntime) {
-    let mut decoder = Decoder::new(rt.alloc());
+    let mut decoder = Decoder::new(rt.alloc(), SESSION);
     assert!(rt; reads_the_options_record(rt.alloc(), &mut decoder));
     assert!(rt; lists(&decoder, &[(7, 256, false), (7, 257, true)]));
 }
@@ -463,7 +472,7 @@ fn withdrawal(set: u8, id: u16) -> [u8; 8] {
 
 // Whether templates 256 and 257 (of options) without what this withdraws are these.
 fn withdraws(alloc: Global, set: u8, id: u16, templates: &[(u32, u16, bool)]) -> bool {
-    let mut decoder = Decoder::new(alloc);
+    let mut decoder = Decoder::new(alloc, SESSION);
     let withdrawn = withdrawal(set, id);
     let sets: &[&[u8]] = &[template_set(), options_set(), &withdrawn];
     leaves(alloc, &mut decoder, sets, templates)
@@ -491,7 +500,7 @@ fn answers_in_another_domain(alloc: Global, decoder: &mut Decoder) -> bool {
 
 #[test]
 fn templates_keep_their_places(rt: HostRuntime) {
-    let mut decoder = Decoder::new(rt.alloc());
+    let mut decoder = Decoder::new(rt.alloc(), SESSION);
     let (plain, options) = ((7, 256, false), (7, 257, true));
     let sets: &[&[u8]] = &[template_set(), options_set(), template_set()];
     assert!(rt; leaves(rt.alloc(), &mut decoder, sets, &[plain, options]));
@@ -560,7 +569,7 @@ fn put_last(ids: &mut [u16], id: u16) {
 
 #[test]
 fn withdrawn_templates_go_last(rt: HostRuntime) {
-    let mut decoder = Decoder::new(rt.alloc());
+    let mut decoder = Decoder::new(rt.alloc(), SESSION);
     assert!(rt; hands_on_200(rt.alloc(), &mut decoder));
     let mut ids = ids_of_200();
     for i in 0..1_000 {
@@ -616,7 +625,7 @@ const REFUSED: [(&'static [u8], DecodeFault); 9] = [
 
 #[test]
 fn refused_templates_change_nothing(rt: HostRuntime) {
-    let mut decoder = Decoder::new(rt.alloc());
+    let mut decoder = Decoder::new(rt.alloc(), SESSION);
     let known: &[&[u8]] = &[template_set()];
     assert!(rt; reads(rt.alloc(), &mut decoder, 0, known, &[], None, 0));
     let new: &[u8] = b"\x00\x02\x00\x0c\x01\x2c\x00\x01\x00\x05\x00\x01";
@@ -706,7 +715,7 @@ fn keeps_the_last(alloc: Global, decoder: &mut Decoder) -> bool {
 
 #[test]
 fn refusals_put_all_back(rt: HostRuntime) {
-    let mut decoder = Decoder::new(rt.alloc());
+    let mut decoder = Decoder::new(rt.alloc(), SESSION);
     assert!(rt; reads_100_templates(rt.alloc(), &mut decoder));
     assert!(rt; puts_100_back(rt.alloc(), &mut decoder));
     assert!(rt; keeps_the_last(rt.alloc(), &mut decoder));
@@ -737,7 +746,7 @@ fn one_template(id: u16) -> [u8; 12] {
 }
 
 fn refuses_4097_templates(alloc: Global) -> bool {
-    let mut decoder = Decoder::new(alloc);
+    let mut decoder = Decoder::new(alloc, SESSION);
     let Ok(most) = many_templates(alloc, 256, 4_097) else {
         return false;
     };
@@ -777,7 +786,7 @@ fn has_4096_templates(decoder: &Decoder) -> bool {
 }
 
 fn keeps_to_4096_templates(alloc: Global) -> bool {
-    let mut decoder = Decoder::new(alloc);
+    let mut decoder = Decoder::new(alloc, SESSION);
     reads_4096_templates(alloc, &mut decoder)
         && takes_one_for_another(alloc, &mut decoder)
         && has_4096_templates(&decoder)
@@ -822,7 +831,7 @@ fn reads_512_fields(alloc: Global, decoder: &mut Decoder) -> bool {
 
 #[test]
 fn fields_are_at_most_512(rt: HostRuntime) {
-    let mut decoder = Decoder::new(rt.alloc());
+    let mut decoder = Decoder::new(rt.alloc(), SESSION);
     assert!(rt; refuses_513_fields(rt.alloc(), &mut decoder));
     assert!(rt; reads_512_fields(rt.alloc(), &mut decoder));
     assert!(rt; lists(&decoder, &[(7, 256, false)]));
@@ -830,7 +839,7 @@ fn fields_are_at_most_512(rt: HostRuntime) {
 
 #[test]
 fn skips_sets_and_padding(rt: HostRuntime) {
-    let mut decoder = Decoder::new(rt.alloc());
+    let mut decoder = Decoder::new(rt.alloc(), SESSION);
     // Three octets of padding behind the template, and twenty behind the record of 21.
     let sets: &[&[u8]] = &[
         b"\x00\x00\x00\x04",
@@ -892,7 +901,7 @@ fn learn_both(alloc: Global, decoder: &mut Decoder) -> Result<(), DecodeFault> {
 
 // A session that knows these templates.
 fn session(alloc: Global, known: &[(u32, u16, bool)]) -> Result<Decoder, DecodeFault> {
-    let mut decoder = Decoder::new(alloc);
+    let mut decoder = Decoder::new(alloc, SESSION);
     if !known.is_empty() {
         learn_both(alloc, &mut decoder)?;
     }

@@ -17,7 +17,8 @@ noted r = record { messages = r.messages; not_reports = r.taken.not_reports; unp
 
 -- The reader holds what has come of the capture so far. Nothing was noted more often than there are octets.
 pub record Agrees (r : CaptureReader) (so_far : CaptureSoFar) : Type 0 where
-  pub templates : r.decoder ≡ so_far.templates
+  pub session : r.decoder.number ≡ so_far.session
+  pub templates : r.decoder.templates ≡ so_far.templates
   pub reports : r.taken.reports.items ≡ so_far.reports
   pub notes : noted r ≡ notes_of so_far
   pub messages : so_far.messages ≤ r.at
@@ -31,31 +32,31 @@ ReaderGives (Ok r) given = (so_far : CaptureSoFar) × (given ≡ Ok so_far) × A
 ReaderGives (Err fault) given = fault ≢ Memory → given ≡ Err fault
 
 -- The octets so far are messages, which were read, and less than one more, which the framer has.
-pub record HasRead (octets : List ℕ) (framer : Framing) (r : CaptureReader) : Type 0 where
+pub record HasRead (session : ℕ) (octets : List ℕ) (framer : Framing) (r : CaptureReader) : Type 0 where
   pub messages : List (List ℕ)
   pub held : List ℕ
   pub so_far : CaptureSoFar
   pub stream : IsStream octets messages (Holds held)
   pub holds : framer ≡ Holds held
-  pub read : capture_after 0 nothing messages ≡ Ok so_far
+  pub read : capture_after 0 (nothing session) messages ≡ Ok so_far
   pub agrees : Agrees r so_far
   pub at : r.at ≡ length (concat messages)
 
 -- A piece behind the octets so far brings these messages and the fault behind them, and the framer is then as after.
-pub record Brings (octets piece : List ℕ) (r : CaptureReader) (lent : Lent) (after : Framing) : Type 0 where
+pub record Brings (session : ℕ) (octets piece : List ℕ) (r : CaptureReader) (lent : Lent) (after : Framing) : Type 0 where
   pub framer : Framing
-  pub read : HasRead octets framer r
+  pub read : HasRead session octets framer r
   pub feeds : Feeds framer piece (frames_of_both lent.begun.items lent.whole.now) after
   pub fault : lent.fault ≡ fault_of after
 
 -- The octets are messages, which were read, and a rest, at which the reader stands.
-pub record StandsIn (octets : List ℕ) (r : CaptureReader) : Type 0 where
+pub record StandsIn (session : ℕ) (octets : List ℕ) (r : CaptureReader) : Type 0 where
   pub messages : List (List ℕ)
   pub rest : List ℕ
   pub so_far : CaptureSoFar
   pub whole : octets ≡ concat messages ++ rest
   pub each : AllByRecursion IsFrame messages
-  pub read : capture_after 0 nothing messages ≡ Ok so_far
+  pub read : capture_after 0 (nothing session) messages ≡ Ok so_far
   pub agrees : Agrees r so_far
   pub at : r.at ≡ length (concat messages)
 

@@ -3,9 +3,10 @@ use Rattle.std.specs.Prelude.{ℕ, ◌+◌, ◌-◌, ◌*◌, ◌/◌, ◌%◌, 
 use Rattle.std.specs.Option.{option_or}
 use Rattle.tca_wire.specs.Results.{◌>>=◌}
 use Rattle.byteorder.specs.Endian.{big_number}
-use Rattle.tca_report.specs.report.Reports.{PacketReport, time_end, most_octets, most_dscp}
+use Rattle.tca_report.specs.report.Reports.{PacketReport, reported, time_end, most_octets, most_dscp}
 use Rattle.tca_templates.specs.Records.{FieldView, PlacedView}
 use Rattle.tca_templates.specs.Chosen.{octet_delta_count, ip_class_of_service, ingress_interface, total_length_ipv4, ip_diff_serv_code_point, ip_total_length, ip_header_packet_section, observation_time_seconds, observation_time_milliseconds, observation_time_microseconds, observation_time_nanoseconds, first}
+use Rattle.tca_report.specs.declared.report.Identity.{Identity}
 use Rattle.tca_report.specs.declared.input.extraction.NotReport.{NotReport}
 use Rattle.tca_report.specs.declared.input.extraction.NotReport.TheVariants.{Options, NoTime, NoSize, BadTime, BadSize, BadDscp, FieldLength}
 
@@ -129,9 +130,9 @@ unfoldable pub interface_in : List FieldView → Result ℕ NotReport
 interface_in fs = unwrap_or (chosen interfaces fs) (Ok 0)
 
 -- the tests of what was taken, in their order: first the lengths of all of it, then what it says
-abbrev pub judged : Result (Option ℕ) NotReport → Result ℕ NotReport → Result ℕ NotReport → Result ℕ NotReport → ℕ → ℕ
+abbrev pub judged : Result (Option ℕ) NotReport → Result ℕ NotReport → Result ℕ NotReport → Result ℕ NotReport → Identity
     → Result PacketReport NotReport
-judged time octets point interface domain place = do
+judged time octets point interface identity = do
   moment ← time
   size ← octets
   dscp ← point
@@ -140,7 +141,11 @@ judged time octets point interface domain place = do
   early ← only_if (nat_lt milliseconds time_end) BadTime
   sized ← only_if (nat_le 1 size && nat_le size most_octets) BadSize
   short ← only_if (nat_le dscp most_dscp) BadDscp
-  Ok (record { time = milliseconds; domain = domain; place = place; octets = size; dscp = dscp; iface = iface })
+  Ok (reported identity (record { time = milliseconds; octets = size; dscp = dscp; iface = iface }))
+
+-- which record it is
+abbrev pub identity_in : PlacedView → Identity
+identity_in r = record { domain = r.domain; session = r.session; place = r.place }
 
 -- the report that a data record makes, or the first reason why it makes none
 unfoldable pub extract_of : PlacedView → Result PacketReport NotReport
@@ -148,4 +153,4 @@ extract_of r = do
   plain ← only_if (not r.options) Options
   time ← ok_or (time_in r.fields) NoTime
   octets ← ok_or (octets_in r.fields (section_in r.fields)) NoSize
-  judged time octets (code_point_in r.fields (section_in r.fields)) (interface_in r.fields) r.domain r.place
+  judged time octets (code_point_in r.fields (section_in r.fields)) (interface_in r.fields) (identity_in r)

@@ -10,7 +10,7 @@ use Rattle.tca_wire.specs.declared.message.SetSpan.{SetSpan}
 use Rattle.tca_wire.specs.declared.fault.WireFault.{WireFault}
 use Rattle.tca_wire.specs.declared.fault.WireFault.TheVariants.{Short}
 use Rattle.tca_templates.specs.Templates.{Templates}
-use Rattle.tca_templates.specs.Records.{PlacedView}
+use Rattle.tca_templates.specs.Records.{PlacedView, source_of}
 use Rattle.tca_templates.specs.Reading.{ReadMessage, read_of}
 use Rattle.tca_templates.specs.declared.fault.DecodeFault.{DecodeFault}
 use Rattle.tca_report.specs.report.Reports.{PacketReport}
@@ -19,6 +19,7 @@ use Rattle.tca_report.specs.input.Extract.{extract_of}
 use Rattle.tca_report.specs.Faults.{reason_number}
 use Rattle.tca_report.specs.declared.export.ExportFault.{ExportFault}
 use Rattle.tca_report.specs.declared.input.extraction.NotReport.{NotReport}
+use Rattle.tca_report.specs.declared.input.Input.{Input}
 use Rattle.tca_report.specs.declared.input.InputFault.{InputFault}
 use Rattle.tca_report.specs.declared.input.InputFault.TheVariants.{Export, Wire, Decode}
 
@@ -49,9 +50,18 @@ count_of_reason n (r ∷ rs) = (if reason_number r == n then 1 else 0) + count_o
 abbrev pub counts_of : List NotReport → List ℕ
 counts_of reasons = map (λ n. count_of_reason n reasons) (1 ∷ (2 ∷ (3 ∷ (4 ∷ (5 ∷ (6 ∷ (7 ∷ [])))))))
 
--- What has come of a capture so far: the templates that are known, the reports, why other records make none, and how many
+-- An input as it is given: its octets, and the number of the transport session that its messages are of where it is a capture.
+pub record InputView : Type 0 where
+  pub session : ℕ
+  pub octets : List ℕ
+
+abbrev pub input_view : Input → InputView
+input_view i = record { session = i.session; octets = i.octets.items }
+
+-- What has come of a capture so far: the number of its session, the templates that are known, the reports, why other records make none, and how many
 -- messages there were, how many with a data set of an unknown template, and how many skipped sets.
 pub record CaptureSoFar : Type 0 where
+  pub session : ℕ
   pub templates : Templates
   pub reports : List PacketReport
   pub reasons : List NotReport
@@ -59,8 +69,8 @@ pub record CaptureSoFar : Type 0 where
   pub unplaced_messages : ℕ
   pub skipped : ℕ
 
-abbrev pub nothing : CaptureSoFar
-nothing = record { templates = []; reports = []; reasons = []; messages = 0; unplaced_messages = 0; skipped = 0 }
+abbrev pub nothing : ℕ → CaptureSoFar
+nothing session = record { session = session; templates = []; reports = []; reasons = []; messages = 0; unplaced_messages = 0; skipped = 0 }
 
 abbrev pub one_if : Option ℕ → ℕ
 one_if None = 0
@@ -69,6 +79,7 @@ one_if (Some id) = 1
 -- with one message more
 abbrev pub with_message : CaptureSoFar → ReadMessage → CaptureSoFar
 with_message so_far given = record {
+  session = so_far.session;
   templates = given.templates;
   reports = so_far.reports ++ reports_of given.records;
   reasons = so_far.reasons ++ reasons_of given.records;
@@ -82,7 +93,7 @@ with_reading at so_far (Ok given) = Ok (with_message so_far given)
 with_reading at so_far (Err fault) = Err (Decode at fault)
 
 abbrev pub with_split : ℕ → CaptureSoFar → List ℕ → Result (Header × List SetSpan) WireFault → Result CaptureSoFar InputFault
-with_split at so_far octets (Ok x) = with_reading at so_far (read_of so_far.templates x.0 (take x.0.length octets) x.1)
+with_split at so_far octets (Ok x) = with_reading at so_far (read_of so_far.templates (source_of so_far.session x.0) (take x.0.length octets) x.1)
 with_split at so_far octets (Err fault) = Err (Wire at fault)
 
 -- the message that these octets are, at this offset of the capture
@@ -100,19 +111,19 @@ ended at (Holds []) so_far = Ok so_far
 ended at (Holds (b ∷ bs)) so_far = Err (Wire at Short)
 ended at (Failed fault) so_far = Err (Wire at fault)
 
--- A capture: all its messages with one map of templates, empty at first, or the first fault from the left.
-abbrev pub capture_of : List ℕ → Result CaptureSoFar InputFault
-capture_of octets = capture_after 0 nothing (frames_of octets).0 >>= ended (length (concat (frames_of octets).0)) (frames_of octets).1
+-- A capture: all its messages in the session of this number, with one map of templates, empty at first, or the first fault from the left.
+abbrev pub capture_of : ℕ → List ℕ → Result CaptureSoFar InputFault
+capture_of session octets = capture_after 0 (nothing session) (frames_of octets).0 >>= ended (length (concat (frames_of octets).0)) (frames_of octets).1
 
 -- whether there are four octets or more, the first four of which are TCAX
 abbrev pub is_export : List ℕ → Bool
 is_export octets = nat_le 4 (length octets) && has_magic octets
 
--- the reports of a log export, which has no notes
-abbrev pub exported : Result (List PacketReport) ExportFault → Result CaptureSoFar InputFault
-exported (Ok rs) = Ok (record nothing { reports = rs })
-exported (Err fault) = Err (Export fault)
+-- the reports of a log export, which has no notes; the session says nothing of it
+abbrev pub exported : ℕ → Result (List PacketReport) ExportFault → Result CaptureSoFar InputFault
+exported session (Ok rs) = Ok (record (nothing session) { reports = rs })
+exported session (Err fault) = Err (Export fault)
 
 -- An input is a log export where its first four octets are TCAX, else a capture.
-abbrev pub input_of : List ℕ → Result CaptureSoFar InputFault
-input_of octets = if is_export octets then exported (reading octets) else capture_of octets
+abbrev pub read_input : InputView → Result CaptureSoFar InputFault
+read_input input = if is_export input.octets then exported input.session (reading input.octets) else capture_of input.session input.octets

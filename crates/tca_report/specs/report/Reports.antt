@@ -9,6 +9,7 @@ use Rattle.tca_report.specs.declared.report.Content.{Content}
 pub record PacketReport : Type 0 where
   pub time : ℕ
   pub domain : ℕ
+  pub session : ℕ
   pub place : ℕ
   pub octets : ℕ
   pub dscp : ℕ
@@ -33,26 +34,28 @@ pub record InRange (r : PacketReport) : Type 0 where
   pub octets : r.octets ≤ most_octets
   pub dscp : r.dscp ≤ most_dscp
   pub domain : r.domain < 2 ^ 32
+  pub session : r.session < 2 ^ 32
   pub place : r.place < 2 ^ 32
   pub iface : r.iface < 2 ^ 32
 
--- the same range as a test, of numbers that have their types: domain, place and interface have 32 bits
+-- the same range as a test, of numbers that have their types: domain, session, place and interface have 32 bits
 abbrev pub in_range : PacketReport → Bool
 in_range r = nat_lt r.time time_end && (nat_le 1 r.octets && (nat_le r.octets most_octets && nat_le r.dscp most_dscp))
 
 -- the report of this identity with this content
 abbrev pub reported : Identity → Content → PacketReport
-reported i c = record { time = c.time; domain = i.domain; place = i.place; octets = c.octets; dscp = c.dscp; iface = c.iface }
+reported i c = record { time = c.time; domain = i.domain; session = i.session; place = i.place; octets = c.octets; dscp = c.dscp; iface = c.iface }
 
 -- a report where it is in range, else none
 abbrev pub ranged : PacketReport → Option PacketReport
 ranged r = if in_range r then Some r else None
 
--- by time, domain, place, octets, code point and interface, each ascending
+-- by time, domain, session, place, octets, code point and interface, each ascending
 abbrev pub report_cmp : PacketReport → PacketReport → Ordering
 report_cmp a b =
     ordering_then (nat_cmp a.time b.time)
     (ordering_then (nat_cmp a.domain b.domain)
+    (ordering_then (nat_cmp a.session b.session)
     (ordering_then (nat_cmp a.place b.place)
     (ordering_then (nat_cmp a.octets b.octets)
-    (ordering_then (nat_cmp a.dscp b.dscp) (nat_cmp a.iface b.iface)))))
+    (ordering_then (nat_cmp a.dscp b.dscp) (nat_cmp a.iface b.iface))))))

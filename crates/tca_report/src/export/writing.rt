@@ -6,22 +6,23 @@ ghost use Rattle.arrayvec.specs.ArrayVec.{array_vec_len};
 ghost use Rattle.tca_report.specs.device.Devices.{CountsFailure};
 ghost use Rattle.tca_report.specs.export.Spelling.{export, header_octets, most_reports, record_octets};
 ghost use Rattle.tca_report.specs.report.Reports.{report_cmp};
+ghost use Rattle.tca_report.specs.declared.export.Format.TheVariants.{Version2};
 
 use crate::device::{Write, WriteFault, put_all};
 use crate::report::Report;
 use arrayvec::ArrayVec;
 
-// Octets that wait on the stack until they go out: those of 1,310 reports.
-const BUFFER: usize = 32_750;
+// Octets that wait on the stack until they go out: those of 1,129 reports.
+const BUFFER: usize = 32_741;
 
 // Octets of one report.
-const RECORD_SIZE: usize = 25;
+const RECORD_SIZE: usize = 29;
 
 type Buffer = ArrayVec<u8, BUFFER>;
 
 // Appends to a buffer with room.
 fn append(octets: &[u8], buffer: &mut Buffer)
-    requires { array_vec_len buffer.old + length octets.now ≤ 32750 }
+    requires { array_vec_len buffer.old + length octets.now ≤ 32741 }
     ensures { buffer.new.items ≡ buffer.old.items ++ octets.now }
 {
     buffer.try_extend_from_slice(octets).unwrap();
@@ -29,23 +30,24 @@ fn append(octets: &[u8], buffer: &mut Buffer)
 
 // A buffer with the header of an export of so many reports.
 fn with_header(count: u32) -> Buffer
-    ensures { result.items ≡ header_octets count }
+    ensures { result.items ≡ header_octets Version2 count }
 {
     let [a, b, c, d] = count.to_be_bytes();
     let mut buffer = Buffer::new();
-    append(&[b'T', b'C', b'A', b'X', 0, 1, a, b, c, d], &mut buffer);
+    append(&[b'T', b'C', b'A', b'X', 0, 2, a, b, c, d], &mut buffer);
     buffer
 }
 
-// Appends the 25 octets of a report.
+// Appends the 29 octets of a report.
 fn append_record(report: &Report, buffer: &mut Buffer)
-    requires { array_vec_len buffer.old + 25 ≤ 32750 }
-    ensures { buffer.new.items ≡ buffer.old.items ++ record_octets report.now }
+    requires { array_vec_len buffer.old + 29 ≤ 32741 }
+    ensures { buffer.new.items ≡ buffer.old.items ++ record_octets Version2 report.now }
 {
     let identity = report.identity();
     let content = report.content();
     append(&content.time.to_be_bytes(), buffer);
     append(&identity.domain.to_be_bytes(), buffer);
+    append(&identity.session.to_be_bytes(), buffer);
     append(&identity.place.to_be_bytes(), buffer);
     append(&content.octets.to_be_bytes(), buffer);
     append(&[content.dscp], buffer);
@@ -74,7 +76,7 @@ fn put_after<W: Write>(written: u64, octets: &[u8], out: &mut W) -> Result<u64, 
 // Where the buffer has no room for one more record, writes what it has and empties it.
 fn make_room<W: Write>(written: u64, buffer: &mut Buffer, out: &mut W) -> Result<u64, WriteFault>
     requires { written + array_vec_len buffer.old < 2 ^ 64 }
-    ensures room { OnOk result (array_vec_len buffer.new + 25 ≤ 32750) }
+    ensures room { OnOk result (array_vec_len buffer.new + 29 ≤ 32741) }
     ensures more { IfOk result (λ n. written ≤ n) }
     ensures total { IfOk result (λ n. n ≤ written + length buffer.old.items) }
     ensures sent { IfOk result (λ n. Appends (W.written out.old) (W.written out.new)
@@ -94,7 +96,7 @@ fn make_room<W: Write>(written: u64, buffer: &mut Buffer, out: &mut W) -> Result
     Ok(total)
 }
 
-/// Writes the log export, version 1, of the reports, in few and large writes. It takes no memory.
+/// Writes the log export, version 2, of the reports, in few and large writes. It takes no memory.
 /// On an `Err` exactly the first `written` octets of the export went out.
 pub fn write_export<W: Write>(reports: &[Report], out: &mut W) -> Result<(), WriteFault>
     requires rises { IsStrictlySortedBy report_cmp reports.now }

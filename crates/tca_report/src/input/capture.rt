@@ -91,11 +91,11 @@ impl TakesRecords for Extracted {
 
 impl CaptureReader {
     // Nothing yet.
-    fn new(alloc: Global) -> CaptureReader
-        ensures { HasRead [] (Holds []) result }
+    fn new(alloc: Global, session: u32) -> CaptureReader
+        ensures { HasRead session [] (Holds []) result }
     {
         CaptureReader {
-            decoder: Decoder::new(alloc),
+            decoder: Decoder::new(alloc, session),
             taken: Extracted {
                 reports: Vec::new(alloc),
                 not_reports: [0; 7],
@@ -157,12 +157,12 @@ impl CaptureReader {
 
     // Takes the messages that a piece of the capture brought.
     fn take_lent(self, alloc: Global, lent: &Lent<'_>) -> Result<CaptureReader, InputFault>
-        requires within { (octets : List ℕ) × (piece : List ℕ) × (after : Framing) × Brings octets piece self lent.now after × (length octets + length piece < 2 ^ 64) }
-        ensures ok { (octets piece : List ℕ) (after : Framing) → Brings octets piece self lent.now after → IfOk result (λ r. HasRead (octets ++ piece) after r) }
-        ensures err { (octets piece behind : List ℕ) (after : Framing) → Brings octets piece self lent.now after
-            → IfErr result (λ e. e ≢ InputFault.Memory → capture_of ((octets ++ piece) ++ behind) ≡ Err e) }
-        ensures wanted { (octets piece behind : List ℕ) (after : Framing) → Brings octets piece self lent.now after
-            → result ≡ Err InputFault.Memory → IsWantedInCapture ((octets ++ piece) ++ behind) }
+        requires within { (session : ℕ) × (octets : List ℕ) × (piece : List ℕ) × (after : Framing) × Brings session octets piece self lent.now after × (length octets + length piece < 2 ^ 64) }
+        ensures ok { (session : ℕ) (octets piece : List ℕ) (after : Framing) → Brings session octets piece self lent.now after → IfOk result (λ r. HasRead session (octets ++ piece) after r) }
+        ensures err { (session : ℕ) (octets piece behind : List ℕ) (after : Framing) → Brings session octets piece self lent.now after
+            → IfErr result (λ e. e ≢ InputFault.Memory → capture_of session ((octets ++ piece) ++ behind) ≡ Err e) }
+        ensures wanted { (session : ℕ) (octets piece behind : List ℕ) (after : Framing) → Brings session octets piece self lent.now after
+            → result ≡ Err InputFault.Memory → IsWantedInCapture session ((octets ++ piece) ++ behind) }
     {
         let reader = self.take_messages(alloc, lent.messages())?;
         match lent.fault {
@@ -173,9 +173,9 @@ impl CaptureReader {
 
     // Reads the rest of the capture where it lies: no message is copied.
     fn read_in_place(self, alloc: Global, octets: &[u8]) -> Result<Gathered, InputFault>
-        requires { StandsIn octets.now self }
-        ensures exact { Gives InputFault.Memory gathered_view result (gathered_of (capture_of octets.now)) }
-        ensures wanted { result ≡ Err InputFault.Memory → IsWantedInCapture octets.now }
+        requires { (session : ℕ) × StandsIn session octets.now self }
+        ensures exact { (session : ℕ) → StandsIn session octets.now self → Gives InputFault.Memory gathered_view result (gathered_of (capture_of session octets.now)) }
+        ensures wanted { (session : ℕ) → StandsIn session octets.now self → result ≡ Err InputFault.Memory → IsWantedInCapture session octets.now }
     {
         let mut reader = self;
         while reader.at < octets.len() as u64 {
@@ -204,12 +204,16 @@ impl CaptureReader {
 }
 
 // Reads a capture piece by piece, and where a piece's messages can't be copied, the rest where it lies.
-pub(crate) fn read_capture(alloc: Global, octets: &[u8]) -> Result<Gathered, InputFault>
-    ensures exact { Gives InputFault.Memory gathered_view result (gathered_of (capture_of octets.now)) }
+pub(crate) fn read_capture(
+    alloc: Global,
+    octets: &[u8],
+    session: u32,
+) -> Result<Gathered, InputFault>
+    ensures exact { Gives InputFault.Memory gathered_view result (gathered_of (capture_of session octets.now)) }
     ensures memory { IsErrOf result InputFault.Memory → 0 < length octets.now }
-    ensures wanted { result ≡ Err InputFault.Memory → IsWantedInCapture octets.now }
+    ensures wanted { result ≡ Err InputFault.Memory → IsWantedInCapture session octets.now }
 {
-    let mut reader = CaptureReader::new(alloc);
+    let mut reader = CaptureReader::new(alloc, session);
     let mut framer = Framer::new(alloc);
     let mut rest = octets;
     while !rest.is_empty() {

@@ -256,7 +256,7 @@ fn judge(
     identity: Identity,
 ) -> Result<Report, NotReport>
     requires { IfOk interface (λ n. n < 2 ^ 32) }
-    ensures { result ≡ judged time octets point interface identity.domain identity.place }
+    ensures { result ≡ judged time octets point interface identity }
 {
     let time = time?;
     let octets = octets?;

@@ -3,6 +3,7 @@ ghost use Rattle.std.specs.Prelude.{◌≡◌, ◌==◌, ◌&&◌, map};
 ghost use Rattle.std.specs.Option.{option_map, is_none};
 ghost use Rattle.tca_templates.specs.Outcomes.{value_view, placed_view};
 ghost use Rattle.tca_templates.specs.Records.{PlacedView};
+ghost use Rattle.tca_report.specs.input.Extract.{identity_in};
 ghost use Rattle.tca_templates.specs.Chosen.{times, sizes, code_points, interfaces, sections, first, choice};
 
 use crate::report::Identity;
@@ -61,9 +62,9 @@ pub(crate) trait DataRecord {
     // The record without where it lies in memory.
     ghost plain: { Self → PlacedView };
 
-    // Its observation domain and place.
+    // Which record it is.
     fn identity(&self) -> Identity
-        ensures { result ≡ record { domain = (plain self.now).domain; place = (plain self.now).place } };
+        ensures { result ≡ identity_in (plain self.now) };
 
     // Whether it is a record of an options template.
     fn is_options(&self) -> bool
@@ -96,6 +97,7 @@ impl<'r> DataRecord for Record<'r> {
     fn identity(&self) -> Identity {
         Identity {
             domain: self.domain(),
+            session: self.session(),
             place: self.place(),
         }
     }
@@ -131,6 +133,7 @@ impl DataRecord for PlacedFields {
     fn identity(&self) -> Identity {
         Identity {
             domain: self.domain,
+            session: self.session,
             place: self.place,
         }
     }

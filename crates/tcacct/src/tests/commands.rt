@@ -5,7 +5,7 @@ use crate::meter::run_meter;
 use std::alloc::{AllocError, Global};
 use std::io;
 use std::test::*;
-use tca_report::{Host, Notes};
+use tca_report::{Host, Input, Notes};
 
 const START: u64 = 1_700_000_000_000;
 
@@ -22,14 +22,20 @@ pub(super) const SECOND: Row = (100, 1, 1000);
 
 pub(super) const THIRD: Row = (200, 2, 800);
 
-// An export of these rows, all of domain 7 and interface 1, with a code point for each, spelled here
-// by hand.
-fn export_with(alloc: Global, rows: &[Row], code_points: &[u8]) -> Result<Vec<u8>, AllocError> {
+// The time of a row, and domain 7.
+fn time_and_domain(alloc: Global, time: u64) -> Result<Vec<u8>, AllocError> {
+    let mut octets = Vec::from_slice(alloc, &START.wrapping_add(time).to_be_bytes())?;
+    octets.extend_from_slice(&7u32.to_be_bytes())?;
+    Ok(octets)
+}
+
+// An export in version 1, which has no sessions, of these rows, all of domain 7 and interface 1, with a code point for each. It is
+// spelled here by hand.
+fn old_export_with(alloc: Global, rows: &[Row], code_points: &[u8]) -> Result<Vec<u8>, AllocError> {
     let mut octets = Vec::from_slice(alloc, b"TCAX\x00\x01\x00\x00\x00")?;
     octets.push(u8::try_from(rows.len()).unwrap_or(0))?;
     for (n, (time, place, size)) in rows.iter().enumerate() {
-        octets.extend_from_slice(&START.wrapping_add(*time).to_be_bytes())?;
-        octets.extend_from_slice(&7u32.to_be_bytes())?;
+        octets.extend_from_slice(&time_and_domain(alloc, *time)?)?;
         octets.extend_from_slice(&place.to_be_bytes())?;
         octets.extend_from_slice(&size.to_be_bytes())?;
         octets.push(code_points.get(n).copied().unwrap_or(0))?;
@@ -38,19 +44,43 @@ fn export_with(alloc: Global, rows: &[Row], code_points: &[u8]) -> Result<Vec<u8
     Ok(octets)
 }
 
-pub(super) fn export(alloc: Global, rows: &[Row]) -> Result<Vec<u8>, AllocError> {
-    export_with(alloc, rows, &[])
+pub(super) fn old_export(alloc: Global, rows: &[Row]) -> Result<Vec<u8>, AllocError> {
+    old_export_with(alloc, rows, &[])
 }
 
-fn exports(alloc: Global, inputs: &[&[Row]]) -> Result<Vec<Vec<u8>>, AllocError> {
+// The same in version 2, all of one session and without code points.
+pub(super) fn export_of(alloc: Global, session: u32, rows: &[Row]) -> Result<Vec<u8>, AllocError> {
+    let mut octets = Vec::from_slice(alloc, b"TCAX\x00\x02\x00\x00\x00")?;
+    octets.push(u8::try_from(rows.len()).unwrap_or(0))?;
+    for (time, place, size) in rows {
+        octets.extend_from_slice(&time_and_domain(alloc, *time)?)?;
+        octets.extend_from_slice(&session.to_be_bytes())?;
+        octets.extend_from_slice(&place.to_be_bytes())?;
+        octets.extend_from_slice(&size.to_be_bytes())?;
+        octets.extend_from_slice(b"\x00\x00\x00\x00\x01")?;
+    }
+    Ok(octets)
+}
+
+// The export of these rows in session 0, as the commands write it.
+pub(super) fn export(alloc: Global, rows: &[Row]) -> Result<Vec<u8>, AllocError> {
+    export_of(alloc, 0, rows)
+}
+
+// An input of session 0.
+pub(super) fn plain(octets: Vec<u8>) -> Input {
+    Input { session: 0, octets }
+}
+
+fn exports(alloc: Global, inputs: &[&[Row]]) -> Result<Vec<Input>, AllocError> {
     let mut all = Vec::new(alloc);
     for rows in inputs {
-        all.push(export(alloc, rows)?)?;
+        all.push(plain(old_export(alloc, rows)?))?;
     }
     Ok(all)
 }
 
-fn metered(alloc: Global, spec: &str, inputs: &[Vec<u8>]) -> Result<Vec<u8>, RunFault> {
+fn metered(alloc: Global, spec: &str, inputs: &[Input]) -> Result<Vec<u8>, RunFault> {
     if inputs.len() > 2 {
         return Err(refusal(None, Family::Memory, 1));
     }
@@ -69,7 +99,7 @@ fn refusal(input: Option<u32>, family: Family, number: u8) -> RunFault {
     }
 }
 
-fn prints_by(alloc: Global, spec: &str, inputs: &[Vec<u8>], lines: &str) -> bool {
+fn prints_by(alloc: Global, spec: &str, inputs: &[Input], lines: &str) -> bool {
     match metered(alloc, spec, inputs) {
         Ok(text) => text.as_slice() == lines.as_bytes(),
         Err(_) => false,
@@ -120,7 +150,7 @@ fn meters_no_disputed_content(rt: HostRuntime) {
 }
 
 // The export of packets at one time, each of so many octets and with a code point, as the one input.
-fn export_of_packets(alloc: Global, packets: &[(u32, u8)]) -> Result<Vec<Vec<u8>>, AllocError> {
+fn export_of_packets(alloc: Global, packets: &[(u32, u8)]) -> Result<Vec<Input>, AllocError> {
     let mut rows = Vec::new(alloc);
     let mut code_points = Vec::new(alloc);
     for (place, (size, code_point)) in packets.iter().enumerate() {
@@ -128,7 +158,7 @@ fn export_of_packets(alloc: Global, packets: &[(u32, u8)]) -> Result<Vec<Vec<u8>
         code_points.push(*code_point)?;
     }
     let mut inputs = Vec::new(alloc);
-    inputs.push(export_with(alloc, &rows, &code_points)?)?;
+    inputs.push(plain(old_export_with(alloc, &rows, &code_points)?))?;
     Ok(inputs)
 }
 
@@ -225,7 +255,7 @@ fn cut_short(alloc: Global) -> Option<RunFault> {
         return None;
     };
     if let Some(last) = inputs.last_mut() {
-        let _octet = last.pop();
+        let _octet = last.octets.pop();
     }
     metered(alloc, SPEC, &inputs).err()
 }
@@ -245,9 +275,9 @@ pub(super) const TEMPLATE_AND_RECORD: [u8; 65] = [
 ];
 
 // These octets as the one input.
-fn one_input(alloc: Global, octets: &[u8]) -> Result<Vec<Vec<u8>>, AllocError> {
+fn one_input(alloc: Global, octets: &[u8]) -> Result<Vec<Input>, AllocError> {
     let mut inputs = Vec::new(alloc);
-    inputs.push(Vec::from_slice(alloc, octets)?)?;
+    inputs.push(plain(Vec::from_slice(alloc, octets)?))?;
     Ok(inputs)
 }
 
@@ -291,36 +321,99 @@ fn meters_captures(rt: HostRuntime) {
     assert!(rt; meters(alloc, &octets).err() == Some(refusal(Some(0), Family::Decode, 1)));
 }
 
-// Whether a capture combines to an export that combines to the same octets.
-fn combines_again(alloc: Global) -> bool {
-    let Ok(inputs) = one_input(alloc, &TEMPLATE_AND_RECORD) else {
-        return false;
+// What `combine` writes for these octets as its one input, where it prints that it has so many reports.
+fn combined(alloc: Global, octets: &[u8], line: &str) -> Option<Vec<u8>> {
+    let Ok(inputs) = one_input(alloc, octets) else {
+        return None;
     };
-    let (mut first, mut second) = (Host::new(Vec::new(alloc)), Host::new(Vec::new(alloc)));
-    let mut out = Host::new(Vec::new(alloc));
-    if inputs.len() > 1 || run_combine(alloc, &inputs, &mut first, &mut out).is_err() {
-        return false;
+    if inputs.len() > 1 {
+        return None;
     }
-    let first = first.into_inner();
-    let Ok(exports) = one_input(alloc, &first) else {
-        return false;
-    };
-    if exports.len() > 1 || run_combine(alloc, &exports, &mut second, &mut out).is_err() {
-        return false;
+    let (mut export, mut out) = (Host::new(Vec::new(alloc)), Host::new(Vec::new(alloc)));
+    let done = run_combine(alloc, &inputs, &mut export, &mut out).is_ok();
+    if done && out.into_inner().as_slice() == line.as_bytes() {
+        Some(export.into_inner())
+    } else {
+        None
     }
-    let (second, out) = (second.into_inner(), out.into_inner());
-    first.as_slice() == EXPORT_OF_RECORD
-        && second.as_slice() == EXPORT_OF_RECORD
-        && out.as_slice() == b"reports 1\nreports 1\n".as_slice()
 }
 
-// The export of that one report.
-const EXPORT_OF_RECORD: &[u8] =
-    b"TCAX\x00\x01\x00\x00\x00\x01\x00\x00\x01\x8b\xcf\xe5\x68\x00\x00\x00\x00\x07\x00\x00\x00\x05\x00\x00\x05\xdc\x0a\x00\x00\x00\x01";
+// Whether these octets combine to that export.
+fn combines_to(alloc: Global, octets: &[u8], line: &str, export: &[u8]) -> bool {
+    match combined(alloc, octets, line) {
+        Some(written) => written.as_slice() == export,
+        None => false,
+    }
+}
+
+// The export of that one report in version 1.
+const OLD_EXPORT_OF_RECORD: [u8; 35] = [
+    0x54, 0x43, 0x41, 0x58, 0x00, 0x01, 0x00, 0x00, 0x00, 0x01, 0x00, 0x00, 0x01, 0x8b, 0xcf, 0xe5,
+    0x68, 0x00, 0x00, 0x00, 0x00, 0x07, 0x00, 0x00, 0x00, 0x05, 0x00, 0x00, 0x05, 0xdc, 0x0a, 0x00,
+    0x00, 0x00, 0x01,
+];
+
+// And in version 2.
+const EXPORT_OF_RECORD: [u8; 39] = [
+    0x54, 0x43, 0x41, 0x58, 0x00, 0x02, 0x00, 0x00, 0x00, 0x01, 0x00, 0x00, 0x01, 0x8b, 0xcf, 0xe5,
+    0x68, 0x00, 0x00, 0x00, 0x00, 0x07, 0x00, 0x00, 0x00, 0x00, 0x00, 0x00, 0x00, 0x05, 0x00, 0x00,
+    0x05, 0xdc, 0x0a, 0x00, 0x00, 0x00, 0x01,
+];
 
 #[test]
 fn combines_a_capture_to_its_export(rt: HostRuntime) {
-    assert!(rt; combines_again(rt.alloc()));
+    let alloc = rt.alloc();
+    let line = "reports 1\n";
+    assert!(rt; combines_to(alloc, &TEMPLATE_AND_RECORD, line, &EXPORT_OF_RECORD));
+    assert!(rt; combines_to(alloc, &OLD_EXPORT_OF_RECORD, line, &EXPORT_OF_RECORD));
+    assert!(rt; combines_to(alloc, &EXPORT_OF_RECORD, line, &EXPORT_OF_RECORD));
+}
+
+// The exports of the three reports in version 1 and in version 2.
+pub(super) const OLD_EXPORT_OF_THREE: [u8; 85] = [
+    0x54, 0x43, 0x41, 0x58, 0x00, 0x01, 0x00, 0x00, 0x00, 0x03, 0x00, 0x00, 0x01, 0x8b, 0xcf, 0xe5,
+    0x68, 0x00, 0x00, 0x00, 0x00, 0x07, 0x00, 0x00, 0x00, 0x00, 0x00, 0x00, 0x05, 0xdc, 0x00, 0x00,
+    0x00, 0x00, 0x01, 0x00, 0x00, 0x01, 0x8b, 0xcf, 0xe5, 0x68, 0x64, 0x00, 0x00, 0x00, 0x07, 0x00,
+    0x00, 0x00, 0x01, 0x00, 0x00, 0x03, 0xe8, 0x00, 0x00, 0x00, 0x00, 0x01, 0x00, 0x00, 0x01, 0x8b,
+    0xcf, 0xe5, 0x68, 0xc8, 0x00, 0x00, 0x00, 0x07, 0x00, 0x00, 0x00, 0x02, 0x00, 0x00, 0x03, 0x20,
+    0x00, 0x00, 0x00, 0x00, 0x01,
+];
+
+pub(super) const EXPORT_OF_THREE: [u8; 97] = [
+    0x54, 0x43, 0x41, 0x58, 0x00, 0x02, 0x00, 0x00, 0x00, 0x03, 0x00, 0x00, 0x01, 0x8b, 0xcf, 0xe5,
+    0x68, 0x00, 0x00, 0x00, 0x00, 0x07, 0x00, 0x00, 0x00, 0x00, 0x00, 0x00, 0x00, 0x00, 0x00, 0x00,
+    0x05, 0xdc, 0x00, 0x00, 0x00, 0x00, 0x01, 0x00, 0x00, 0x01, 0x8b, 0xcf, 0xe5, 0x68, 0x64, 0x00,
+    0x00, 0x00, 0x07, 0x00, 0x00, 0x00, 0x00, 0x00, 0x00, 0x00, 0x01, 0x00, 0x00, 0x03, 0xe8, 0x00,
+    0x00, 0x00, 0x00, 0x01, 0x00, 0x00, 0x01, 0x8b, 0xcf, 0xe5, 0x68, 0xc8, 0x00, 0x00, 0x00, 0x07,
+    0x00, 0x00, 0x00, 0x00, 0x00, 0x00, 0x00, 0x02, 0x00, 0x00, 0x03, 0x20, 0x00, 0x00, 0x00, 0x00,
+    0x01,
+];
+
+#[test]
+fn writes_version_2_of_exports_of_both_versions(rt: HostRuntime) {
+    let alloc = rt.alloc();
+    let line = "reports 3\n";
+    assert!(rt; combines_to(alloc, &OLD_EXPORT_OF_THREE, line, &EXPORT_OF_THREE));
+    assert!(rt; combines_to(alloc, &EXPORT_OF_THREE, line, &EXPORT_OF_THREE));
+}
+
+// The refusal of the export in version 2 with these octets as the number of its version.
+fn meters_version(alloc: Global, high: u8, low: u8) -> Option<RunFault> {
+    let mut octets = EXPORT_OF_THREE;
+    (octets[4], octets[5]) = (high, low);
+    meters(alloc, &octets).err()
+}
+
+#[test]
+fn meters_exports_of_both_versions(rt: HostRuntime) {
+    let alloc = rt.alloc();
+    assert!(rt; meters_to(alloc, &OLD_EXPORT_OF_THREE, THREE_LINES));
+    assert!(rt; meters_to(alloc, &EXPORT_OF_THREE, THREE_LINES));
+    assert!(rt; meters_version(alloc, 0, 2) == None);
+    for (high, low, number) in [(0, 3, 2), (0, 0, 2), (1, 2, 2), (2, 0, 2), (0, 1, 3)] {
+        let refused = Some(refusal(Some(0), Family::Export, number));
+        assert!(rt; meters_version(alloc, high, low) == refused, "{high} {low}");
+    }
 }
 
 // Whether the inputs combine to the export of these rows, with this line.
@@ -420,12 +513,7 @@ struct Written {
     statement: Vec<u8>,
 }
 
-fn billed(
-    alloc: Global,
-    plan: &str,
-    inputs: &[Vec<u8>],
-    exports: bool,
-) -> Result<Written, RunFault> {
+fn billed(alloc: Global, plan: &str, inputs: &[Input], exports: bool) -> Result<Written, RunFault> {
     if inputs.len() > 9 {
         return Err(refusal(None, Family::Memory, 1));
     }
@@ -456,14 +544,14 @@ fn states_octets(alloc: Global, inputs: &[&[u8]], lines: &str) -> bool {
         let Ok(input) = Vec::from_slice(alloc, octets) else {
             return false;
         };
-        if all.push(input).is_err() {
+        if all.push(plain(input)).is_err() {
             return false;
         }
     }
     states_inputs(alloc, &all, lines)
 }
 
-fn states_inputs(alloc: Global, inputs: &[Vec<u8>], lines: &str) -> bool {
+fn states_inputs(alloc: Global, inputs: &[Input], lines: &str) -> bool {
     let Ok(text) = format!(in alloc; "{OPENING}{lines}") else {
         return false;
     };
@@ -537,14 +625,14 @@ fn writes_the_export_of_a_bill(rt: HostRuntime) {
 }
 
 // The export of the first report, and these octets behind it.
-fn first_and(alloc: Global, octets: &[u8]) -> Result<Vec<Vec<u8>>, AllocError> {
+fn first_and(alloc: Global, octets: &[u8]) -> Result<Vec<Input>, AllocError> {
     let mut inputs = exports(alloc, &[&[FIRST]])?;
-    inputs.push(Vec::from_slice(alloc, octets)?)?;
+    inputs.push(plain(Vec::from_slice(alloc, octets)?))?;
     Ok(inputs)
 }
 
 // Whether a plan and inputs are refused so.
-fn bill_is_refused(alloc: Global, plan: &str, inputs: &[Vec<u8>], fault: RunFault) -> bool {
+fn bill_is_refused(alloc: Global, plan: &str, inputs: &[Input], fault: RunFault) -> bool {
     billed(alloc, plan, inputs, true).err() == Some(fault)
 }
 
@@ -725,13 +813,13 @@ fn message_before_and_after_its_template(alloc: Global) -> Result<Vec<u8>, Alloc
 // The notes, the number of reports and the places of what that capture bills.
 fn places_of_the_message_twice(alloc: Global) -> Result<(Option<Notes>, Vec<u8>), AllocError> {
     let mut inputs = Vec::new(alloc);
-    inputs.push(message_before_and_after_its_template(alloc)?)?;
+    inputs.push(plain(message_before_and_after_its_template(alloc)?))?;
     let mut places = Vec::new(alloc);
     match billed(alloc, PLAN, &inputs, true) {
         Ok(billed) => {
-            // Behind the ten octets of its header an export has 25 for each report, with the place in
-            // octets 12 to 15.
-            for report in billed.export.iter().skip(10 + 15).step_by(25) {
+            // Behind the ten octets of its header an export has 29 for each report, with the place in
+            // octets 16 to 19.
+            for report in billed.export.iter().skip(10 + 19).step_by(29) {
                 places.push(*report)?;
             }
             Ok((billed.notes.last().copied(), places))

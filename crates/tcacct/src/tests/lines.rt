@@ -116,9 +116,19 @@ fn refuses_wrong_lines(rt: HostRuntime) {
     }
 }
 
+// Whether each line of a text has fewer than 100 octets.
+fn has_short_lines(text: &str) -> bool {
+    for line in text.lines() {
+        if line.len() >= 100 {
+            return false;
+        }
+    }
+    !text.is_empty()
+}
+
 #[test]
 fn gives_help(rt: HostRuntime) {
-    let lines: [(&[&str], &str); 6] = [
+    let lines: [(&[&str], &str); 16] = [
         (&["tcacct", "--help"], "Usage: tcacct <COMMAND>"),
         (&["tcacct", "-h"], "Usage: tcacct <COMMAND>"),
         (&["tcacct", "help"], "Usage: tcacct <COMMAND>"),
@@ -134,11 +144,46 @@ fn gives_help(rt: HostRuntime) {
             &["tcacct", "bill", "--help"],
             "Usage: tcacct bill [OPTIONS] <PLAN> <INPUT>",
         ),
+        (
+            &["tcacct", "combine", "--help"],
+            "Usage: tcacct combine <OUT> <INPUT>",
+        ),
+        (
+            &["tcacct", "audit", "--help"],
+            "Usage: tcacct audit <PLAN> <EXPORT> <STATEMENT>",
+        ),
+        (
+            &["tcacct", "meter", "--help"],
+            "one or two files of reports, each PATH or N@PATH",
+        ),
+        (
+            &["tcacct", "meter", "--help"],
+            "N@PATH for the file at PATH as a capture of session N",
+        ),
+        (
+            &["tcacct", "combine", "--help"],
+            "files of reports, each PATH or N@PATH",
+        ),
+        (&["tcacct", "combine", "--help"], "N@PATH one of session N"),
+        (
+            &["tcacct", "combine", "--help"],
+            "`tcacct combine OUT OLD` writes one anew",
+        ),
+        (
+            &["tcacct", "bill", "--help"],
+            "1 to 256 files of reports, each PATH or N@PATH",
+        ),
+        (&["tcacct", "bill", "--help"], "N@PATH one of session N"),
+        (
+            &["tcacct", "bill", "--help"],
+            "each [[account.term]] has its",
+        ),
     ];
     for (words, part) in lines {
         let Some(text) = help(rt.alloc(), words) else {
             panic!(rt; "no help");
         };
         assert!(rt; text.as_str().contains(part), "{words:?}: {text}");
+        assert!(rt; has_short_lines(text.as_str()), "{words:?}: {text}");
     }
 }

@@ -3,7 +3,8 @@ use crate::bill::run_bill_plain;
 use crate::fault::{Family, RunFault};
 use crate::replicated::run_bill;
 use crate::tests::commands::{
-    FIRST, Full, OPENING, PLAN, Row, SECOND, TEMPLATE_AND_RECORD, THIRD, THREE_REPORTS, export,
+    EXPORT_OF_THREE, FIRST, Full, OPENING, PLAN, Row, SECOND, TEMPLATE_AND_RECORD, THIRD,
+    THREE_REPORTS, export, plain,
 };
 use std::alloc::{AllocError, Global};
 use std::io;
@@ -11,23 +12,23 @@ use std::sync::Wait;
 use std::test::*;
 use std::thread::Threads;
 use tca_ingest::NoGate;
-use tca_report::Host;
+use tca_report::{Host, Input};
 
 // What was billed: how many notes, the export, and the statement.
 #[derive(Drop)]
-struct Written {
-    notes: usize,
-    export: Vec<u8>,
-    statement: Vec<u8>,
+pub(super) struct Written {
+    pub(super) notes: usize,
+    pub(super) export: Vec<u8>,
+    pub(super) statement: Vec<u8>,
 }
 
 // The bill by so many replicas, each of so many workers.
-fn billed<R: Threads + Wait + Sync>(
+pub(super) fn billed<R: Threads + Wait + Sync>(
     rt: &R,
     alloc: Global,
-    inputs: &[Vec<u8>],
-    replicas: u32,
-    workers: u32,
+    plan: &str,
+    inputs: &[Input],
+    (replicas, workers): (u32, u32),
 ) -> Result<Written, RunFault> {
     if inputs.is_empty() || inputs.len() > 256 {
         return Err(RunFault::from(AllocError));
@@ -37,11 +38,10 @@ fn billed<R: Threads + Wait + Sync>(
     }
     let mut export = Host::new(Vec::new(alloc));
     let mut out = Host::new(Vec::new(alloc));
-    let plan = PLAN.as_bytes();
     let notes = run_bill(
         rt,
         alloc,
-        plan,
+        plan.as_bytes(),
         inputs,
         replicas,
         workers,
@@ -57,14 +57,17 @@ fn billed<R: Threads + Wait + Sync>(
 }
 
 // The bill by one thread.
-fn billed_plainly(alloc: Global, inputs: &[Vec<u8>]) -> Result<Written, RunFault> {
+pub(super) fn billed_plainly(
+    alloc: Global,
+    plan: &str,
+    inputs: &[Input],
+) -> Result<Written, RunFault> {
     if inputs.len() > 256 {
         return Err(RunFault::from(AllocError));
     }
     let mut export = Host::new(Vec::new(alloc));
     let mut out = Host::new(Vec::new(alloc));
-    let plan = PLAN.as_bytes();
-    let notes = run_bill_plain(alloc, plan, inputs, Some(&mut export), &mut out)?;
+    let notes = run_bill_plain(alloc, plan.as_bytes(), inputs, Some(&mut export), &mut out)?;
     Ok(Written {
         notes: notes.len(),
         export: export.into_inner(),
@@ -80,10 +83,10 @@ fn are_same(one: &Written, other: &Written) -> bool {
 }
 
 // The exports of these reports, one each.
-pub(super) fn export_of_each(alloc: Global, rows: &[Row]) -> Result<Vec<Vec<u8>>, AllocError> {
+pub(super) fn export_of_each(alloc: Global, rows: &[Row]) -> Result<Vec<Input>, AllocError> {
     let mut inputs = Vec::new(alloc);
     for row in rows {
-        inputs.push(export(alloc, &[*row])?)?;
+        inputs.push(plain(export(alloc, &[*row])?))?;
     }
     Ok(inputs)
 }
@@ -112,22 +115,20 @@ fn states_three(alloc: Global, bill: &Written) -> bool {
 }
 
 // Whether a bill has the export of the three reports, and notes of three inputs.
-fn exports_three(alloc: Global, bill: &Written) -> bool {
-    let Ok(whole) = export(alloc, &[FIRST, SECOND, THIRD]) else {
-        return false;
-    };
-    (bill.export.as_slice(), bill.notes) == (whole.as_slice(), 3)
+fn exports_three(bill: &Written) -> bool {
+    (bill.export.as_slice(), bill.notes) == (EXPORT_OF_THREE.as_slice(), 3)
 }
 
 // Whether the bill by so many replicas, each of so many workers, is the same as this one.
-fn bills_as<R: Threads + Wait + Sync>(
+pub(super) fn bills_as<R: Threads + Wait + Sync>(
     rt: &R,
     alloc: Global,
-    inputs: &[Vec<u8>],
-    (replicas, workers): (u32, u32),
+    plan: &str,
+    inputs: &[Input],
+    numbers: (u32, u32),
     plainly: &Written,
 ) -> bool {
-    match billed(rt, alloc, inputs, replicas, workers) {
+    match billed(rt, alloc, plan, inputs, numbers) {
         Ok(billed) => are_same(&billed, plainly),
         Err(_) => false,
     }
@@ -139,26 +140,26 @@ fn bills_alike_by_each_number_of_replicas_and_workers(rt: HostRuntime) {
     let Ok(inputs) = export_of_each(alloc, &[FIRST, SECOND, THIRD]) else {
         panic!(rt; "inputs");
     };
-    let Ok(plainly) = billed_plainly(alloc, &inputs) else {
+    let Ok(plainly) = billed_plainly(alloc, PLAN, &inputs) else {
         panic!(rt; "a bill");
     };
     assert!(rt; states_three(alloc, &plainly));
-    assert!(rt; exports_three(alloc, &plainly));
+    assert!(rt; exports_three(&plainly));
     for (replicas, workers) in NUMBERS {
         let numbers = (replicas, workers);
         assert!(rt;
-            bills_as(&rt, alloc, &inputs, numbers, &plainly),
+            bills_as(&rt, alloc, PLAN, &inputs, numbers, &plainly),
             "{replicas} {workers}"
         );
     }
 }
 
 // Three exports, and a message that ends before its length says.
-fn with_a_cut(alloc: Global) -> Result<Vec<Vec<u8>>, AllocError> {
+fn with_a_cut(alloc: Global) -> Result<Vec<Input>, AllocError> {
     let mut inputs = export_of_each(alloc, &[FIRST, SECOND, THIRD])?;
     let mut cut = Vec::from_slice(alloc, &TEMPLATE_AND_RECORD)?;
     cut.truncate(64);
-    inputs.push(cut)?;
+    inputs.push(plain(cut))?;
     Ok(inputs)
 }
 
@@ -173,8 +174,8 @@ fn refuses_the_first_input_with_a_fault(rt: HostRuntime) {
         family: Family::Wire,
         number: 1,
     };
-    for (replicas, workers) in NUMBERS {
-        let refused = billed(&rt, alloc, &inputs, replicas, workers);
+    for numbers in NUMBERS {
+        let refused = billed(&rt, alloc, PLAN, &inputs, numbers);
         assert!(rt; refused.err() == Some(fault));
     }
 }
@@ -228,7 +229,7 @@ impl io::Write for Narrow {
 fn is_cut_off<R: Threads + Wait + Sync>(
     rt: &R,
     alloc: Global,
-    inputs: &[Vec<u8>],
+    inputs: &[Input],
     room: usize,
 ) -> bool {
     let Ok(text) = format!(in alloc; "{OPENING}{THREE_REPORTS}") else {

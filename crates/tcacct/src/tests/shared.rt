@@ -8,6 +8,7 @@ mod jobs_memory;
 mod limits;
 mod memory;
 mod rows;
+mod sessions;
 mod threads;
 
 use std::alloc::{AllocError, Global};
@@ -32,10 +33,15 @@ const THIRD: (u32, u32, u32) = (2, 200, 800);
 // The parts of a ledger: one for each pass, and one that stays.
 const PARTS: u64 = 65537;
 
-fn report(row: (u32, u32, u32)) -> Option<Report> {
+// The report of a row in a session.
+fn report_of(session: u32, row: (u32, u32, u32)) -> Option<Report> {
     let (place, late, octets) = row;
     Report::new(
-        Identity { domain: 7, place },
+        Identity {
+            domain: 7,
+            session,
+            place,
+        },
         Content {
             time: START.wrapping_add(late as u64),
             octets,
@@ -48,7 +54,7 @@ fn report(row: (u32, u32, u32)) -> Option<Report> {
 fn reports(alloc: Global, rows: &[(u32, u32, u32)]) -> Option<Vec<Report>> {
     let mut list = Vec::new(alloc);
     for row in rows {
-        let Some(report) = report(*row) else {
+        let Some(report) = report_of(0, *row) else {
             return None;
         };
         if list.push(report).is_err() {

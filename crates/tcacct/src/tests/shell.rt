@@ -2,8 +2,8 @@ use crate::ending::Ending;
 use crate::line::LineFault;
 use crate::shell::{end, run, words_of};
 use crate::tests::commands::{
-    EXAMPLE_CAPTURE, FIRST, Full, OPENING, PLAN, SECOND, SPEC, TEMPLATE_AND_RECORD, THIRD,
-    THREE_LINES, THREE_REPORTS, export,
+    EXAMPLE_CAPTURE, EXPORT_OF_THREE, FIRST, Full, OLD_EXPORT_OF_THREE, OPENING, PLAN, SECOND,
+    SPEC, TEMPLATE_AND_RECORD, THIRD, THREE_LINES, THREE_REPORTS, export, old_export,
 };
 use std::alloc::{AllocError, Global};
 use std::env::{Env, FillError};
@@ -16,9 +16,9 @@ use std::{env, fs, io, process};
 use tca_report::Host;
 
 // Makes a new folder the current one, each test being a process of its own, with three reports in two
-// files, a file that is cut short, captures with a set of an unknown template and with a set that is
+// exports, one of version 1 and one of version 2, a file that is cut short, captures with a set of an unknown template and with a set that is
 // skipped too, a plan, and a text that is none.
-fn enter(rt: &HostRuntime, name: &str) -> io::Result<PathBuf> {
+pub(super) fn enter(rt: &HostRuntime, name: &str) -> io::Result<PathBuf> {
     let id = process::id(rt.process());
     let folder = format!(in rt.alloc(); "tcacct_{name}_{id}")?;
     let path = env::temp_dir(rt)?.join(rt.alloc(), folder.as_str())?;
@@ -31,7 +31,7 @@ fn enter(rt: &HostRuntime, name: &str) -> io::Result<PathBuf> {
 
 // Makes those files in the current folder.
 fn fill(rt: &HostRuntime) -> io::Result<()> {
-    fs::write(rt, "one", export(rt.alloc(), &[FIRST])?.as_slice())?;
+    fs::write(rt, "one", old_export(rt.alloc(), &[FIRST])?.as_slice())?;
     fs::write(rt, "two", export(rt.alloc(), &[SECOND, THIRD])?.as_slice())?;
     fs::write(rt, "cut", b"TCAX\x00\x01\x00\x00\x00".as_slice())?;
     fs::write(rt, "unknown", EXAMPLE_CAPTURE.as_slice())?;
@@ -64,7 +64,7 @@ fn ran<R: Files + Threads + Wait + Sync + AllocGlobal>(rt: &R, words: &[&str]) -
 }
 
 // Whether these words give this.
-fn gives<R: Files + Threads + Wait + Sync + AllocGlobal>(
+pub(super) fn gives<R: Files + Threads + Wait + Sync + AllocGlobal>(
     rt: &R,
     words: &[&str],
     ending: &str,
@@ -76,7 +76,10 @@ fn gives<R: Files + Threads + Wait + Sync + AllocGlobal>(
 }
 
 // Whether these words give the statement of the three reports.
-fn bills_three<R: Files + Threads + Wait + Sync + AllocGlobal>(rt: &R, words: &[&str]) -> bool {
+pub(super) fn bills_three<R: Files + Threads + Wait + Sync + AllocGlobal>(
+    rt: &R,
+    words: &[&str],
+) -> bool {
     let Ok(statement) = format!(in rt.alloc(); "0|{OPENING}{THREE_REPORTS}|") else {
         return false;
     };
@@ -92,7 +95,7 @@ fn meters_three<R: Files + Threads + Wait + Sync + AllocGlobal>(rt: &R, words: &
 }
 
 // Whether a file has these octets.
-fn holds(rt: &HostRuntime, name: &str, octets: &[u8]) -> bool {
+pub(super) fn holds(rt: &HostRuntime, name: &str, octets: &[u8]) -> bool {
     match fs::read(rt, name) {
         Ok(found) => found.as_slice() == octets,
         Err(_) => false,
@@ -164,11 +167,8 @@ fn runs_commands(rt: HostRuntime) {
 }
 
 // Whether the export of the three reports is written to a file.
-fn writes_three(rt: &HostRuntime) -> bool {
-    match export(rt.alloc(), &[FIRST, SECOND, THIRD]) {
-        Ok(three) => fs::write(rt, "three", three.as_slice()).is_ok(),
-        Err(_) => false,
-    }
+pub(super) fn writes_three(rt: &HostRuntime) -> bool {
+    fs::write(rt, "three", EXPORT_OF_THREE.as_slice()).is_ok()
 }
 
 // Whether their statement, one that is shorter and one that is longer are.
@@ -246,7 +246,7 @@ fn makes_out_once_all_is_read(rt: HostRuntime) {
         (
             &["combine", "out", "empty"],
             "0|reports 0\n|",
-            b"TCAX\x00\x01\x00\x00\x00\x00",
+            b"TCAX\x00\x02\x00\x00\x00\x00",
         ),
         (
             &["bill", "--export", "out", "none", "one"],
@@ -273,11 +273,8 @@ fn makes_out_once_all_is_read(rt: HostRuntime) {
 }
 
 // Whether a file has the export of the three reports.
-fn holds_three(rt: &HostRuntime, name: &str) -> bool {
-    match export(rt.alloc(), &[FIRST, SECOND, THIRD]) {
-        Ok(three) => holds(rt, name, three.as_slice()),
-        Err(_) => false,
-    }
+pub(super) fn holds_three(rt: &HostRuntime, name: &str) -> bool {
+    holds(rt, name, EXPORT_OF_THREE.as_slice())
 }
 
 #[test]
@@ -293,11 +290,20 @@ fn writes_to_an_input(rt: HostRuntime) {
     assert!(rt; fs::remove_dir_all(&rt, folder.as_path()).is_ok());
 }
 
-// An export of 40,001 reports, which has 1,000,035 octets.
-fn large_export(alloc: Global) -> Result<Vec<u8>, AllocError> {
-    let mut octets = Vec::from_slice(alloc, b"TCAX\x00\x01\x00\x00\x9c\x41")?;
+// An export of 40,001 reports of session 0, in version 1 or in version 2.
+fn large_export(alloc: Global, version: u8) -> Result<Vec<u8>, AllocError> {
+    let mut octets = Vec::from_slice(
+        alloc,
+        &[b'T', b'C', b'A', b'X', 0, version, 0, 0, 0x9c, 0x41],
+    )?;
+    let session: &[u8] = if version == 1 {
+        b""
+    } else {
+        b"\x00\x00\x00\x00"
+    };
     for place in 0..40_001u32 {
         octets.extend_from_slice(b"\x00\x00\x01\x8b\xcf\xe5\x68\x00\x00\x00\x00\x07")?;
+        octets.extend_from_slice(session)?;
         octets.extend_from_slice(&place.to_be_bytes())?;
         octets.extend_from_slice(b"\x00\x00\x05\xdc\x0a\x00\x00\x00\x01")?;
     }
@@ -309,13 +315,32 @@ fn reads_large_files(rt: HostRuntime) {
     let Ok(folder) = enter(&rt, "large") else {
         panic!(rt; "a folder");
     };
-    let Ok(octets) = large_export(rt.alloc()) else {
+    let Ok(old) = large_export(rt.alloc(), 1) else {
         panic!(rt; "an export");
     };
-    assert!(rt; octets.len() == 1_000_035);
-    assert!(rt; fs::write(&rt, "large", octets.as_slice()).is_ok());
-    assert!(rt; gives(&rt, &["combine", "out", "large"], "0|reports 40001\n|"));
-    assert!(rt; holds(&rt, "out", octets.as_slice()));
+    let Ok(new) = large_export(rt.alloc(), 2) else {
+        panic!(rt; "an export");
+    };
+    assert!(rt; (old.len(), new.len()) == (1_000_035, 1_160_039));
+    for octets in [old.as_slice(), new.as_slice()] {
+        assert!(rt; fs::write(&rt, "large", octets).is_ok());
+        assert!(rt; gives(&rt, &["combine", "out", "large"], "0|reports 40001\n|"));
+        assert!(rt; holds(&rt, "out", new.as_slice()));
+    }
+    assert!(rt; fs::remove_dir_all(&rt, folder.as_path()).is_ok());
+}
+
+#[test]
+fn migrates_an_export(rt: HostRuntime) {
+    let Ok(folder) = enter(&rt, "migration") else {
+        panic!(rt; "a folder");
+    };
+    assert!(rt; fs::write(&rt, "old", OLD_EXPORT_OF_THREE.as_slice()).is_ok());
+    assert!(rt; gives(&rt, &["combine", "new", "old"], "0|reports 3\n|"));
+    assert!(rt; holds_three(&rt, "new"));
+    assert!(rt; holds(&rt, "old", OLD_EXPORT_OF_THREE.as_slice()));
+    assert!(rt; gives(&rt, &["combine", "old", "old"], "0|reports 3\n|"));
+    assert!(rt; holds_three(&rt, "old"));
     assert!(rt; fs::remove_dir_all(&rt, folder.as_path()).is_ok());
 }
 

@@ -50,14 +50,20 @@ returns-in_err-pairs-clause-exact c = grind (arith, common_steps)
 pub returns-in_err-pairs-clause-ok : goal.returns-in_err-pairs-clause-ok
 returns-in_err-pairs-clause-ok c = grind (arith, common_steps)
 
-pub returns-in-Ok-clause-exact : goal.returns-in-Ok-clause-exact
-returns-in-Ok-clause-exact c = grind (arith, common_steps)
+pub returns-in_err-terms-clause-exact : goal.returns-in_err-terms-clause-exact
+returns-in_err-terms-clause-exact c = grind (arith, common_steps)
 
-pub returns-in-Ok-clause-ok : goal.returns-in-Ok-clause-ok
-returns-in-Ok-clause-ok c = grind (arith, common_steps)
+pub returns-in_err-terms-clause-ok : goal.returns-in_err-terms-clause-ok
+returns-in_err-terms-clause-ok c = grind (arith, common_steps)
 
-pub returns-in-Err-clause-exact : goal.returns-in-Err-clause-exact
-returns-in-Err-clause-exact c = grind (arith, common_steps)
+pub returns-in_err-meter-clause-exact : goal.returns-in_err-meter-clause-exact
+returns-in_err-meter-clause-exact c = grind (arith, common_steps)
 
-pub returns-in-Err-clause-ok : goal.returns-in-Err-clause-ok
-returns-in-Err-clause-ok c = grind (arith, common_steps)
+pub returns-in_err-meter-clause-ok : goal.returns-in_err-meter-clause-ok
+returns-in_err-meter-clause-ok c = grind (arith, common_steps)
+
+pub returns-clause-exact : goal.returns-clause-exact
+returns-clause-exact c = grind (arith, common_steps)
+
+pub returns-clause-ok : goal.returns-clause-ok
+returns-clause-ok c = grind (arith, common_steps)

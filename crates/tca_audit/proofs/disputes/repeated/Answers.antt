@@ -5,7 +5,7 @@ use Rattle.tca_audit.proofs.disputes.repeated.Goals as goal
 use Rattle.tca_audit.proofs.disputes.repeated.Goals.{then-stands_at+then-not-stands_at+in_ok-push, else-stands_at, else-stands_at-via-then-stands_at+else-not-stands_at, else-stands_at-via-else-stands_at}
 
 abbrev none : Identity
-none = record { domain = 0; place = 0 }
+none = record { domain = 0; session = 0; place = 0 }
 
 pub loop-at-init : goal.loop-at-init
 loop-at-init c = rw c.new-list.ensures.items refl

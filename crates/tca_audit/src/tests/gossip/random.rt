@@ -1,62 +1,56 @@
 //! Lists of steps in no order, in worlds of two to five replicas, with reports that come late, again, or dispute one another.
 use super::outcomes::{Outcome, outcome_of};
 use super::plain::{NAMES, Plain};
-use super::{PLAN, report};
+use crate::tests::Numbers;
+use crate::tests::plain::{PLAN, is_billed, some_content};
 use std::alloc::Global;
-use tca_accounts::{Bill, Plan, bill_all};
+use tca_accounts::{Bill, Plan, Tally, bill_all};
 use tca_gossip::{Replica, Reply, Step, World};
-use tca_report::Report;
+use tca_report::{Identity, Report};
 
-// Numbers that follow one another by a fixed rule.
-#[derive(Drop)]
-struct Numbers {
-    state: u64,
+// A name that may be a stranger's.
+fn some_name(numbers: &mut Numbers, names: u32) -> u32 {
+    if numbers.below(20) == 0 {
+        return names.wrapping_add(1);
+    }
+    numbers.below(names).wrapping_add(1)
 }
 
-impl Numbers {
-    // The next one, below a bound.
-    fn below(&mut self, bound: u32) -> u32 {
-        self.state = self
-            .state
-            .wrapping_mul(6_364_136_223_846_793_005)
-            .wrapping_add(1_442_695_040_888_963_407);
-        let high = (self.state >> 33) as u32;
-        high.checked_rem(bound).unwrap_or(0)
-    }
-
-    // A name that may be a stranger's.
-    fn name(&mut self, names: u32) -> u32 {
-        if self.below(20) == 0 {
-            return names.wrapping_add(1);
-        }
-        self.below(names).wrapping_add(1)
-    }
+// One of the 20 reports of a list of steps, of ten identities: five places in each of two sessions. The first ten are of an identity each.
+fn numbered(list: u32, number: u32) -> Option<Report> {
+    let identity = Identity {
+        domain: 7,
+        session: number % 2,
+        place: number % 10 / 2,
+    };
+    let mut numbers = Numbers {
+        state: list as u64 * 20 + number as u64,
+    };
+    let iface = numbers.below(2).wrapping_add(1);
+    Report::new(identity, some_content(&mut numbers, iface))
 }
 
-// Some of 20 reports of ten identities, whose order in time is not that of their places. Two thirds are the first content of an
-// identity, and dispute nothing.
-fn some_reports(alloc: Global, numbers: &mut Numbers) -> Option<Vec<Report>> {
-    let mut list = Vec::new(alloc);
-    for _ in 0..numbers.below(4) {
-        let bound = if numbers.below(3) == 0 { 20 } else { 10 };
-        let number = numbers.below(bound) % 20;
-        let row = (number % 10, number * 7 % 20 * 150, 700 + number * 10);
-        let Some(report) = report(row) else {
+// Some of the 20, whose order in time is not that of their places. Most are the first content of an identity, and dispute nothing.
+fn some_reports(alloc: Global, list: u32, numbers: &mut Numbers) -> Option<Vec<Report>> {
+    let mut reports = Vec::new(alloc);
+    for _ in 0..numbers.below(6) {
+        let bound = if numbers.below(6) == 0 { 20 } else { 10 };
+        let Some(report) = numbered(list, numbers.below(bound)) else {
             return None;
         };
-        if list.push(report).is_err() {
+        if reports.push(report).is_err() {
             return None;
         }
     }
-    Some(list)
+    Some(reports)
 }
 
-fn some_step(alloc: Global, names: u32, numbers: &mut Numbers) -> Option<Step> {
-    let at = numbers.name(names);
+fn some_step(alloc: Global, list: u32, names: u32, numbers: &mut Numbers) -> Option<Step> {
+    let at = some_name(numbers, names);
     let message = numbers.below(12);
     Some(match numbers.below(8) {
         0 | 1 => {
-            let Some(reports) = some_reports(alloc, numbers) else {
+            let Some(reports) = some_reports(alloc, list, numbers) else {
                 return None;
             };
             Step::Take { at, reports }
@@ -66,15 +60,15 @@ fn some_step(alloc: Global, names: u32, numbers: &mut Numbers) -> Option<Step> {
         5 | 6 => Step::Deliver { message, to: at },
         _ => Step::Merge {
             into: at,
-            other: numbers.name(names),
+            other: some_name(numbers, names),
         },
     })
 }
 
-fn some_steps(alloc: Global, names: u32, numbers: &mut Numbers) -> Option<Vec<Step>> {
+fn some_steps(alloc: Global, list: u32, names: u32, numbers: &mut Numbers) -> Option<Vec<Step>> {
     let mut steps = Vec::new(alloc);
     for _ in 0..12 {
-        let Some(step) = some_step(alloc, names, numbers) else {
+        let Some(step) = some_step(alloc, list, names, numbers) else {
             return None;
         };
         if steps.push(step).is_err() {
@@ -120,22 +114,27 @@ fn has_chains(replica: &Replica, plain: &Plain) -> bool {
     true
 }
 
-fn are_alike(one: &Bill, other: &Bill) -> bool {
-    let (accounts, others) = (one.accounts.as_slice(), other.accounts.as_slice());
-    match (accounts.first(), others.first()) {
-        (Some(tally), Some(wanted)) => {
-            accounts.len() == others.len()
-                && tally.total == wanted.total
-                && tally.spans.as_slice() == wanted.spans.as_slice()
-                && one.reports == other.reports
-                && one.disputed == other.disputed
-                && one.unassigned == other.unassigned
+fn are_tallies_alike(tallies: &[Tally], others: &[Tally]) -> bool {
+    let mut left = others.iter();
+    for tally in tallies {
+        let Some(other) = left.next() else {
+            return false;
+        };
+        if tally.total != other.total || tally.spans.as_slice() != other.spans.as_slice() {
+            return false;
         }
-        _ => false,
     }
+    left.next().is_none()
 }
 
-// Whether a replica holds what the lists say, and has the bill of its log.
+fn are_alike(one: &Bill, other: &Bill) -> bool {
+    are_tallies_alike(one.accounts.as_slice(), other.accounts.as_slice())
+        && one.reports == other.reports
+        && one.disputed == other.disputed
+        && one.unassigned == other.unassigned
+}
+
+// Whether a replica holds what the lists say, and has the bill of its log, which is the plain one.
 fn shows(alloc: Global, replica: &Replica, plain: &Plain, plan: &Plan) -> bool {
     let Ok(log) = plain.log(replica.name()) else {
         return false;
@@ -146,7 +145,10 @@ fn shows(alloc: Global, replica: &Replica, plain: &Plain, plan: &Plan) -> bool {
     let Ok(totals) = replica.totals() else {
         return false;
     };
-    has_all(replica, &log) && has_chains(replica, plain) && are_alike(&totals, &whole)
+    has_all(replica, &log)
+        && has_chains(replica, plain)
+        && are_alike(&totals, &whole)
+        && is_billed(&totals, &log)
 }
 
 fn all_show(alloc: Global, world: &World, plain: &Plain, plan: &Plan) -> bool {
@@ -161,39 +163,45 @@ fn all_show(alloc: Global, world: &World, plain: &Plain, plan: &Plan) -> bool {
 }
 
 // Whether twelve steps get the replies of plain lists, and leave what these hold.
-fn agrees(alloc: Global, world: &mut World, plain: &mut Plain, numbers: &mut Numbers) -> bool {
-    let Ok(plan) = Plan::from_text(alloc, PLAN.as_bytes()) else {
-        return false;
-    };
-    let Some(steps) = some_steps(alloc, plain.names(), numbers) else {
+fn agrees(
+    alloc: Global,
+    world: &mut World,
+    plain: &mut Plain,
+    plan: &Plan,
+    list: u32,
+    numbers: &mut Numbers,
+) -> bool {
+    let Some(steps) = some_steps(alloc, list, plain.names(), numbers) else {
         return false;
     };
     let Ok(replies) = world.run(&steps) else {
         return false;
     };
-    are_of(plain, &steps, &replies) && all_show(alloc, world, plain, &plan)
+    are_of(plain, &steps, &replies) && all_show(alloc, world, plain, plan)
 }
 
-// Whether a world of so many names does, and again from there.
-fn goes(alloc: Global, names: u32, numbers: &mut Numbers) -> bool {
+// Whether a world of two to five names does, and again from there.
+fn goes(alloc: Global, list: u32, plan: &Plan, numbers: &mut Numbers) -> bool {
     let all = NAMES;
+    let names = list % 4 + 2;
     let Some(some) = all.get(..names as usize) else {
         return false;
     };
-    let Ok(plan) = Plan::from_text(alloc, PLAN.as_bytes()) else {
-        return false;
-    };
     let mut plain = Plain::new(alloc, names);
-    let Ok(mut world) = World::new(alloc, some, &plan) else {
+    let Ok(mut world) = World::new(alloc, some, plan) else {
         return false;
     };
-    agrees(alloc, &mut world, &mut plain, numbers) && agrees(alloc, &mut world, &mut plain, numbers)
+    agrees(alloc, &mut world, &mut plain, plan, list, numbers)
+        && agrees(alloc, &mut world, &mut plain, plan, list, numbers)
 }
 
 #[test]
 fn any_list_of_steps_gets_the_replies_of_plain_lists(rt: HostRuntime) {
+    let Ok(plan) = Plan::from_text(rt.alloc(), PLAN.as_bytes()) else {
+        panic!(rt; "a plan");
+    };
     let mut numbers = Numbers { state: 29 };
     for list in 0..4000 {
-        assert!(rt; goes(rt.alloc(), list % 4 + 2, &mut numbers), "list {list}");
+        assert!(rt; goes(rt.alloc(), list, &plan, &mut numbers), "list {list}");
     }
 }

@@ -26,6 +26,11 @@ pub(super) fn count(rate: u64, from: u64, to: u64, most: u64) -> u128 {
     found
 }
 
+/// How many tokens have come by a time, the last of them at the least time for which it is one.
+pub(super) fn come(rate: u64, time: u64) -> u64 {
+    rate.saturating_mul(time) / 1000
+}
+
 /// By which rules tokens come in and packets are judged.
 #[derive(Clone, Copy)]
 pub enum Kind {
@@ -49,6 +54,25 @@ pub struct Slow {
 }
 
 impl Slow {
+    /// A meter with full buckets. Each pair is the rate and the size of a bucket.
+    pub fn full(
+        kind: Kind,
+        (cir, cbs): (u64, u64),
+        (second_rate, second_size): (u64, u64),
+        aware: bool,
+    ) -> Slow {
+        Slow {
+            kind,
+            cir,
+            cbs,
+            second_rate,
+            second_size,
+            aware,
+            committed: cbs,
+            second: second_size,
+        }
+    }
+
     fn let_in_committed(&mut self) {
         if self.committed < self.cbs {
             self.committed += 1;
@@ -77,7 +101,18 @@ impl Slow {
         }
     }
 
-    pub(super) fn take(&mut self, octets: u64, pre: Colour) -> Colour {
+    /// Lets in the tokens of one millisecond, one after the other, at a time that may be late.
+    pub fn let_in_at(&mut self, time: u64) {
+        let earlier = time.saturating_sub(1);
+        for _ in come(self.cir, earlier)..come(self.cir, time) {
+            self.let_in_committed();
+        }
+        for _ in come(self.second_rate, earlier)..come(self.second_rate, time) {
+            self.let_in_second();
+        }
+    }
+
+    pub fn take(&mut self, octets: u64, pre: Colour) -> Colour {
         let pre = if self.aware { pre } else { Colour::Green };
         match self.kind {
             Kind::Rfc2697 => self.take_one(octets, octets, pre),
@@ -117,6 +152,32 @@ impl Slow {
                 Colour::Yellow
             }
             _ => Colour::Red,
+        }
+    }
+}
+
+/// Slow meters one after the other: that of now, and those that are to come, each with full buckets and the millisecond from which on
+/// it takes packets.
+#[derive(Clone, Copy)]
+pub struct SlowTerms {
+    pub now: Slow,
+    pub later: [(u64, Slow); 3],
+}
+
+impl SlowTerms {
+    /// Lets in each token at its millisecond, and goes on with full buckets where a meter begins.
+    pub(super) fn wait(&mut self, from: u64, to: u64) {
+        for time in from..to {
+            self.now.let_in_at(time + 1);
+            self.begin(time + 1);
+        }
+    }
+
+    fn begin(&mut self, time: u64) {
+        for (start, meter) in self.later {
+            if start == time {
+                self.now = meter;
+            }
         }
     }
 }

@@ -54,11 +54,13 @@ impl Meter for Counting {
     }
 }
 
-// A report of 100 octets at one of the tens of milliseconds, or one of another place a little later.
+// A report at one of the tens of milliseconds, or one of another place a little later. The first five are green twice, yellow, red, and
+// yellow again.
 fn row(at: u32, later: u32) -> Option<Report> {
     let place = at % 100 + 100 * (later % 10);
     let late = at % 100 * 10 + later % 10;
-    report(place, late, 100, 0)
+    let octets = [1100, 800, 700, 400, 200];
+    report(place, late, octets[at as usize % 5], 0)
 }
 
 // Resumes the lane, and answers the steps where they are those that the meter counted and the tally is that of a fresh lane.

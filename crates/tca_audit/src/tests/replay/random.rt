@@ -1,42 +1,45 @@
 //! Lists of puts, withdrawals and resumes in no order.
 ghost use Rattle.std.specs.Prelude.{◌<◌, ◌≤◌};
 
-use super::{HOUR, are_alike, fresh_tally, put, report};
+use super::{are_alike, put, tally_with};
+use crate::tests::Numbers;
+use crate::tests::plain::{OWNERS, PLAN, listed, some_content, sums};
 use std::alloc::{AllocError, Global};
-use tca_meters::{Colour, SrTcm};
+use tca_accounts::{Plan, Tally};
+use tca_meters::{Colour, Termed};
 use tca_replay::Lane;
-use tca_report::Report;
+use tca_report::{Identity, Report};
 
-// Numbers that look random, from 0 up to a bound.
-#[derive(Drop)]
-struct Numbers {
-    seed: u32,
+// The period of the lanes, of 100 milliseconds.
+const PERIOD: u64 = 100;
+
+// A lane's meter and the colour of other code points, the number of their owner, and that of the reports that it may get.
+#[derive(Clone, Copy)]
+struct Metered {
+    meter: Termed,
+    other: Colour,
+    account: u32,
+    list: u32,
 }
 
-impl Numbers {
-    fn below(&mut self, bound: u32) -> u32 {
-        self.seed = self
-            .seed
-            .wrapping_mul(1_664_525)
-            .wrapping_add(1_013_904_223);
-        (self.seed >> 8).checked_rem(bound).unwrap_or(0)
-    }
-}
-
-// One of 24 reports in four hours, of every precolour, whose order in time is not that of their places.
-fn one_of(number: u32) -> Option<Report> {
+// One of the 24 reports that a lane may get, of two sessions that have the same places. They are within the time in which buckets fill,
+// of every precolour, and their order in time is not that of their places.
+fn one_of(number: u32, metered: &Metered) -> Option<Report> {
     let number = number % 24;
-    let dscp = match number % 4 {
-        0 => 10,
-        1 => 12,
-        2 => 14,
-        _ => 0,
+    let identity = Identity {
+        domain: 7,
+        session: number % 2,
+        place: number / 2,
     };
-    report(number, number * 7 % 24 * 600_000, 40 + 90 * number, dscp)
+    let mut numbers = Numbers {
+        state: metered.list as u64 * 24 + number as u64,
+    };
+    let iface = metered.account.wrapping_add(1);
+    Report::new(identity, some_content(&mut numbers, iface))
 }
 
 // How many rows come before a report.
-fn rank(lane: &Lane<SrTcm>, report: &Report) -> usize {
+fn rank(lane: &Lane<Termed>, report: &Report) -> usize {
     let mut count: usize = 0;
     for row in lane.rows() {
         if *row < *report {
@@ -48,7 +51,7 @@ fn rank(lane: &Lane<SrTcm>, report: &Report) -> usize {
 
 // Puts a report that is not there, or withdraws it. The answer is the least row that changed.
 fn change(
-    lane: &mut Lane<SrTcm>,
+    lane: &mut Lane<Termed>,
     report: Report,
     least: Option<usize>,
 ) -> Result<usize, AllocError> {
@@ -61,11 +64,28 @@ fn change(
     Ok(least.unwrap_or(row).min(row))
 }
 
-// Whether a lane answers the bound on its steps and the tally of a fresh lane.
+// The tally of a fresh lane with the rows of this one.
+fn fresh_tally(alloc: Global, lane: &Lane<Termed>, metered: &Metered) -> Result<Tally, AllocError> {
+    let mut fresh = Lane::new(alloc, metered.meter, metered.other, PERIOD, 65_536);
+    tally_with(alloc, &mut fresh, lane.rows())
+}
+
+// Whether a tally has the sums of the rows by single tokens.
+fn is_plain(alloc: Global, tally: &Tally, lane: &Lane<Termed>, account: u32) -> bool {
+    let Ok(list) = listed(alloc, lane.rows()) else {
+        return false;
+    };
+    let Some(owner) = OWNERS.get(account as usize) else {
+        return false;
+    };
+    sums(owner, &list) == Some((tally.total.octets(), tally.total.packets()))
+}
+
+// Whether a lane answers the bound on its steps, the tally of a fresh lane, and the plain sums.
 fn resumes(
     alloc: Global,
-    lane: &mut Lane<SrTcm>,
-    meter: SrTcm,
+    lane: &mut Lane<Termed>,
+    metered: &Metered,
     k: u32,
     least: Option<usize>,
 ) -> bool {
@@ -77,55 +97,83 @@ fn resumes(
     let Ok(tally) = lane.tally(alloc) else {
         return false;
     };
-    let Ok(fresh) = fresh_tally(alloc, meter, lane.rows()) else {
+    let Ok(fresh) = fresh_tally(alloc, lane, metered) else {
         return false;
     };
-    few && are_alike(&tally, &fresh)
+    few && are_alike(&tally, &fresh) && is_plain(alloc, &tally, lane, metered.account)
 }
 
 // Whether a lane agrees throughout a list of 24 changes and some resumes between them.
 fn changed_agrees(
     alloc: Global,
-    lane: &mut Lane<SrTcm>,
-    meter: SrTcm,
+    lane: &mut Lane<Termed>,
+    metered: &Metered,
     k: u32,
     numbers: &mut Numbers,
 ) -> bool {
     let mut least = None;
     let mut alike = true;
     for _ in 0..24 {
-        if let Some(report) = one_of(numbers.below(24)) {
+        if let Some(report) = one_of(numbers.below(24), metered) {
             let Ok(row) = change(lane, report, least) else {
                 return false;
             };
             least = Some(row);
         }
         if numbers.below(4) == 0 {
-            alike = resumes(alloc, lane, meter, k, least) && alike;
+            alike = resumes(alloc, lane, metered, k, least) && alike;
             least = None;
         }
     }
-    resumes(alloc, lane, meter, k, least) && alike
+    resumes(alloc, lane, metered, k, least) && alike
 }
 
 // The same of a lane that has no rows at first.
-fn agrees(alloc: Global, k: u32, numbers: &mut Numbers) -> bool
+fn agrees(alloc: Global, k: u32, metered: &Metered, numbers: &mut Numbers) -> bool
     requires some { 0 < k }
     requires few { k ≤ 65536 }
 {
-    let Ok(meter) = SrTcm::new(1000, 2000, 1000, true) else {
-        return false;
-    };
-    let mut lane = Lane::new(alloc, meter, Colour::Green, HOUR, k);
-    changed_agrees(alloc, &mut lane, meter, k, numbers)
+    let mut lane = Lane::new(alloc, metered.meter, metered.other, PERIOD, k);
+    changed_agrees(alloc, &mut lane, metered, k, numbers)
+}
+
+// The meter of one of the accounts.
+fn metered_of(plan: &Plan, list: u32) -> Option<Metered> {
+    let account = list % 4;
+    if account >= plan.accounts() {
+        return None;
+    }
+    Some(Metered {
+        meter: plan.meter(account),
+        other: plan.other(account),
+        account,
+        list,
+    })
+}
+
+// The same of a lane of one of the accounts.
+fn agrees_under(alloc: Global, k: u32, plan: &Plan, list: u32, numbers: &mut Numbers) -> bool
+    requires some { 0 < k }
+    requires few { k ≤ 65536 }
+{
+    match metered_of(plan, list) {
+        Some(metered) => agrees(alloc, k, &metered, numbers),
+        None => false,
+    }
 }
 
 #[test]
 fn any_list_of_changes_leaves_the_tally_of_its_rows(rt: HostRuntime) {
-    let mut numbers = Numbers { seed: 8 };
+    let Ok(plan) = Plan::from_text(rt.alloc(), PLAN.as_bytes()) else {
+        panic!(rt; "a plan");
+    };
+    let mut numbers = Numbers { state: 8 };
     for k in [1, 2, 3, 256] {
         for list in 0..1000 {
-            assert!(rt; agrees(rt.alloc(), k, &mut numbers), "list {list} at {k}");
+            assert!(rt;
+                agrees_under(rt.alloc(), k, &plan, list, &mut numbers),
+                "list {list} at {k}"
+            );
         }
     }
 }

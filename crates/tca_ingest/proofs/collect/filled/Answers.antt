@@ -4,6 +4,7 @@ use Rattle.std.specs.List.{AllZip}
 use Rattle.std.proofs.lemmas.Iterator.Adapters.{YieldsList-from_vec}
 use Rattle.std.proofs.lemmas.Iterator.Consumers.{YieldsList-end, YieldsList-turn}
 use Rattle.std.proofs.lemmas.List.{map-id}
+use Rattle.tca_report.specs.input.Inputs.{input_view}
 use Rattle.tca_ingest.specs.Works.{IsResult, IsResultAt, AreNumbered}
 use Rattle.tca_ingest.specs.declared.job.Done.{Done}
 use Rattle.tca_ingest.proofs.Collecting.{numbered_push, zip_length, zip_push, zip_through}
@@ -15,7 +16,7 @@ loop-place-preserved c =
     let one : Done = record { job = c.number_of-job.result; result = c.in-Some-place.result } in
     let road = YieldsList-from_vec {s = c.into_iter-place-iterator.result} c.args.places.items (search rules) (search rules) in
     let low = (YieldsList-turn road l.yielded l.place-iterator l.yielded_by c.next.result c.next.new.self c.in-Some.place c.in-Some.is c.next.ensures.steps).0 in
-    let places = zip_length (λ input place. IsResultAt input.now place) c.args.inputs.now c.args.places.items c.requires.results in
+    let places = zip_length (λ input place. IsResultAt (input_view input.now) place) c.args.inputs.now c.args.places.items c.requires.results in
     let so_far = zip_length (λ place d. place ≡ Some d.result) l.yielded l.done.items l.invariant.2 in
     let counted : c.len-in-loop-place.result ≡ length l.done.items = search rules in
     let number : c.number_of-job.result ≡ length l.done.items = c.number_of-job.ensures (omega (arith, counted, low, places, so_far, c.requires.count)) ∙ counted in (
@@ -30,8 +31,8 @@ pub returns-clause-done : goal.returns-clause-done
 returns-clause-done c =
     let road = YieldsList-from_vec {s = c.into_iter-place-iterator.result} c.args.places.items (search rules) (search rules) in
     let whole : c.loop-place.yielded ≡ c.args.places.items = sym (map-id c.loop-place.yielded) ∙ (YieldsList-end road c.loop-place.yielded c.loop-place.place-iterator c.loop-place.yielded_by c.next.result c.next.new.self c.in-None.is c.next.ensures.steps).0 in
-    zip_through (λ input place. IsResultAt input.now place) (λ place d. place ≡ Some d.result) (λ input d. IsResult input.now d.result)
-    (λ input place d fits is. subst (IsResultAt input.now) is fits)
+    zip_through (λ input place. IsResultAt (input_view input.now) place) (λ place d. place ≡ Some d.result) (λ input d. IsResult (input_view input.now) d.result)
+    (λ input place d fits is. subst (IsResultAt (input_view input.now)) is fits)
     c.args.inputs.now c.args.places.items c.loop-place.done.items c.requires.results
     (subst (λ places. AllZip (λ place d. place ≡ Some d.result) places c.loop-place.done.items) whole c.loop-place.invariant.2)
 

@@ -1,5 +1,6 @@
 use Rattle.std.proofs.lemmas.Grind.{common_steps}
-use Rattle.std.proofs.Common.{◌≡◌, ◌≢◌, ◌∙◌, Err, rules, sym, subst, ap, arith}
+use Rattle.std.proofs.Common.{◌≡◌, ◌≢◌, ◌∙◌, ℕ, List, Err, rules, sym, subst, ap, arith}
+use Rattle.tca_report.specs.input.Inputs.{input_view}
 use Rattle.tca_report.specs.input.Wants.{WantsMemory}
 use Rattle.tca_report.specs.declared.input.InputFault.TheVariants.{Memory}
 use Rattle.tca_ingest.specs.declared.job.JobFault.TheVariants.{Input}
@@ -12,9 +13,10 @@ invariant_of-result g c = elim c.match-gather.branch [
   | in-Err w ↦
       let from : c.gather.result ≡ Err w.in-Err.fault = search rules in
       let is : c.match-gather.result ≡ Err (Input w.in-Err.fault) = search rules in
-      let own : w.in-Err.fault ≢ Memory → contents_of c.args.input.now ≡ Err w.in-Err.fault = search rules in
-      let wanted : w.in-Err.fault ≡ Memory → WantsMemory c.args.input.now = λ m. c.gather.ensures.memory_wanted (from ∙ ap Err m) in
-      subst (IsResult c.args.input.now) (sym is) (own, wanted)
+      let own : w.in-Err.fault ≢ Memory → contents_of (input_view c.args.input.now) ≡ Err w.in-Err.fault = search rules in
+      let wanted : w.in-Err.fault ≡ Memory → WantsMemory (input_view c.args.input.now) =
+      λ m. subst (λ (octets : List ℕ). WantsMemory (record { session = c.args.input.now.session; octets = octets })) c.deref.ensures.value (c.gather.ensures.memory_wanted (from ∙ ap Err m)) in
+      subst (IsResult (input_view c.args.input.now)) (sym is) (own, wanted)
   | in-Ok w ↦ elim w.match-take_inside.branch [ in-Ok-take_inside w' ↦ search rules | in-Err-take_inside w' ↦ search rules ]
 ]
 

@@ -2,7 +2,8 @@ use Rattle.std.proofs.Common.{rules, ◌≡◌, ◌≤◌, List, [], ◌∷◌, 
 use Rattle.std.proofs.lemmas.List.{append-nil}
 use Rattle.tca_report.specs.report.Reports.{PacketReport}
 use Rattle.tca_report.specs.declared.report.Identity.{Identity}
-use Rattle.tca_log.specs.Logs.{count_at}
+use Rattle.tca_report.specs.report.Identities.{identity_of}
+use Rattle.tca_log.specs.Logs.{origin_of, count_at}
 use Rattle.tca_log.proofs.AscendingPlaces.{IsAbove, alone_more, alone_none, last_of, none_disputed}
 use Rattle.tca_log.proofs.ascending.places_ascend.Goals as goal
 
@@ -15,30 +16,30 @@ pub loop-report-preserved-else-identity-before : goal.loop-report-preserved-else
 loop-report-preserved-else-identity-before g c =
     let r = c.in-Some.report.now in
     let seen = c.loop-report.invariant.seen in
-    let at : c.identity-identity.result ≡ record { domain = r.domain; place = r.place } = c.identity-identity.ensures in
-    let domain : c.identity-identity.result.domain ≡ r.domain = ap (λ (i : Identity). i.domain) at in
+    let at : c.identity-identity.result ≡ identity_of r = c.identity-identity.ensures in
+    let origin : c.origin.result ≡ origin_of (identity_of r) = c.origin.ensures ∙ ap (λ (i : Identity). origin_of i) at in
     let place : c.identity-identity.result.place ≡ r.place = ap (λ (i : Identity). i.place) at in
-    let was : last_of c.loop-report.last.entries r.domain ≡ Some c.in-Some-2.before = rw (← domain) (search rules) in
-    let above : IsAbove (last_of c.loop-report.last.entries r.domain) r.place = rw was (omega (arith, place, c.if-identity-before.false)) in
+    let was : last_of c.loop-report.last.entries (origin_of (identity_of r)) ≡ Some c.in-Some-2.before = rw (← origin) (search rules) in
+    let above : IsAbove (last_of c.loop-report.last.entries (origin_of (identity_of r))) r.place = rw was (omega (arith, place, c.if-identity-before.false)) in
     record {
       seen = seen ++ r ∷ [];
       split = append_assoc seen (r ∷ []) c.next.new.self ∙ ap (λ (l : List PacketReport). seen ++ l) (sym c.in-Some.ensures.steps) ∙ c.loop-report.invariant.split;
-      alone = alone_more seen c.loop-report.last.entries c.insert.new.self.entries r c.loop-report.invariant.alone above (rw (← domain, ← place) c.in_ok-before.ensures.updates.0);
+      alone = alone_more seen c.loop-report.last.entries c.insert.new.self.entries r c.loop-report.invariant.alone above (rw (← origin, ← place) c.in_ok-before.ensures.updates.0);
     }
 
 pub loop-report-preserved : goal.loop-report-preserved
 loop-report-preserved g c =
     let r = c.in-Some.report.now in
     let seen = c.loop-report.invariant.seen in
-    let at : c.identity-identity.result ≡ record { domain = r.domain; place = r.place } = c.identity-identity.ensures in
-    let domain : c.identity-identity.result.domain ≡ r.domain = ap (λ (i : Identity). i.domain) at in
+    let at : c.identity-identity.result ≡ identity_of r = c.identity-identity.ensures in
+    let origin : c.origin.result ≡ origin_of (identity_of r) = c.origin.ensures ∙ ap (λ (i : Identity). origin_of i) at in
     let place : c.identity-identity.result.place ≡ r.place = ap (λ (i : Identity). i.place) at in
-    let was : last_of c.loop-report.last.entries r.domain ≡ None = rw (← domain) (search rules) in
-    let above : IsAbove (last_of c.loop-report.last.entries r.domain) r.place = rw was tt in
+    let was : last_of c.loop-report.last.entries (origin_of (identity_of r)) ≡ None = rw (← origin) (search rules) in
+    let above : IsAbove (last_of c.loop-report.last.entries (origin_of (identity_of r))) r.place = rw was tt in
     record {
       seen = seen ++ r ∷ [];
       split = append_assoc seen (r ∷ []) c.next.new.self ∙ ap (λ (l : List PacketReport). seen ++ l) (sym c.in-Some.ensures.steps) ∙ c.loop-report.invariant.split;
-      alone = alone_more seen c.loop-report.last.entries c.insert.new.self.entries r c.loop-report.invariant.alone above (rw (← domain, ← place) c.in_ok-before.ensures.updates.0);
+      alone = alone_more seen c.loop-report.last.entries c.insert.new.self.entries r c.loop-report.invariant.alone above (rw (← origin, ← place) c.in_ok-before.ensures.updates.0);
     }
 
 pub returns : goal.returns

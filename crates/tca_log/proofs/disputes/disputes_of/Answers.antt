@@ -1,18 +1,19 @@
 use Rattle.std.proofs.Common.{◌≡◌, List, ap, subst, sym, arith, length}
 use Rattle.std.specs.Prelude.{IfOk}
 use Rattle.std.specs.List.Sorted.{IsStrictlySortedBy}
+use Rattle.std.specs.Ordering.{eq_by_cmp}
 use Rattle.std.proofs.lemmas.List.Filters.{dedup_is}
 use Rattle.tca_report.specs.declared.report.Identity.{Identity}
 use Rattle.tca_report.specs.report.Identities.{identity_cmp}
 use Rattle.tca_log.proofs.Contents.{disputed_rises}
-use Rattle.tca_log.proofs.Repeats.{disputed_few, disputes_are, found_are, same_identity}
+use Rattle.tca_log.proofs.Repeats.{disputed_few, disputes_are, found_are}
 use Rattle.tca_log.proofs.disputes.disputes_of.Goals as goal
 
 pub of_ascending-requires-clause-rises : goal.of_ascending-requires-clause-rises
 of_ascending-requires-clause-rises g c =
     let again = c.in_ok-disputed.disputed.items in
     let ids = c.in_ok-identities.identities.items in
-    let set = found_are again c.dedup.new.self.items c.in_ok-disputed.ensures.sorted (dedup_is same_identity again c.dedup.new.self.items c.dedup.ensures.filtered) in
+    let set = found_are again c.dedup.new.self.items c.in_ok-disputed.ensures.sorted (dedup_is (eq_by_cmp identity_cmp) again c.dedup.new.self.items c.dedup.ensures.filtered) in
     let all = disputes_are c.args.reports.now.rows ids again c.dedup.new.self.items c.in_ok-identities.ensures.all (rw c.deref.ensures.value at c.in_ok-disputed.ensures.twice) set in
     subst (IsStrictlySortedBy identity_cmp) (sym all) (disputed_rises c.args.reports.now.rows)
 
@@ -20,7 +21,7 @@ pub of_ascending-requires-clause-few : goal.of_ascending-requires-clause-few
 of_ascending-requires-clause-few g c =
     let again = c.in_ok-disputed.disputed.items in
     let ids = c.in_ok-identities.identities.items in
-    let set = found_are again c.dedup.new.self.items c.in_ok-disputed.ensures.sorted (dedup_is same_identity again c.dedup.new.self.items c.dedup.ensures.filtered) in
+    let set = found_are again c.dedup.new.self.items c.in_ok-disputed.ensures.sorted (dedup_is (eq_by_cmp identity_cmp) again c.dedup.new.self.items c.dedup.ensures.filtered) in
     let all = disputes_are c.args.reports.now.rows ids again c.dedup.new.self.items c.in_ok-identities.ensures.all (rw c.deref.ensures.value at c.in_ok-disputed.ensures.twice) set in
     omega (arith, ap length all, disputed_few c.args.reports.now.rows, c.requires)
 
@@ -28,6 +29,6 @@ pub returns : goal.returns
 returns g c =
     let again = c.in_ok-disputed.disputed.items in
     let ids = c.in_ok-identities.identities.items in
-    let set = found_are again c.dedup.new.self.items c.in_ok-disputed.ensures.sorted (dedup_is same_identity again c.dedup.new.self.items c.dedup.ensures.filtered) in
+    let set = found_are again c.dedup.new.self.items c.in_ok-disputed.ensures.sorted (dedup_is (eq_by_cmp identity_cmp) again c.dedup.new.self.items c.dedup.ensures.filtered) in
     let all = disputes_are c.args.reports.now.rows ids again c.dedup.new.self.items c.in_ok-identities.ensures.all (rw c.deref.ensures.value at c.in_ok-disputed.ensures.twice) set in
     subst (λ (l : List Identity). IfOk c.of_ascending.result (λ o. o.rows ≡ l)) all c.of_ascending.ensures.rows

@@ -3,14 +3,13 @@ use Rattle.std.specs.Ordering.{eq_by_cmp}
 use Rattle.std.specs.List.Sorted.{IsSorted}
 use Rattle.tca_join.specs.Sets.{has}
 use Rattle.tca_report.specs.declared.report.Identity.{Identity}
-use Rattle.tca_report.specs.report.Identities.{identity_cmp}
-use Rattle.tca_report.proofs.lemmas.report.Identities.{identity_total}
-use Rattle.tca_log.proofs.Repeats.{repeated_in, repeated_next, repeated_end, same_identity_is, order_from_sorted, order_repeated, sorted_from_order, twice_in}
+use Rattle.tca_report.specs.report.Identities.{identity_cmp, identity_total}
+use Rattle.tca_log.proofs.Repeats.{repeated_in, repeated_next, repeated_end, order_from_sorted, order_repeated, sorted_from_order, twice_in}
 use Rattle.tca_log.proofs.disputes.repeated.Goals as goal
 use Rattle.tca_log.proofs.disputes.repeated.Goals.{then-eq+in_ok-push, else-eq}
 
 abbrev none : Identity
-none = record { domain = 0; place = 0 }
+none = record { domain = 0; session = 0; place = 0 }
 
 pub loop-at-preserved : goal.loop-at-preserved
 loop-at-preserved g c =
@@ -22,10 +21,10 @@ loop-at-preserved g c =
     let next = repeated_next xs c.loop-at.at none so_far all (omega arith) (omega arith) c.loop-at.invariant in
     elim c.if-eq.branch [
       | then-eq+in_ok-push w ↦
-          let tied : eq_by_cmp identity_cmp y x ≡ true = sym (same_identity_is y x) ∙ sym c.eq.ensures ∙ w.if-eq.true in
+          let tied : eq_by_cmp identity_cmp y x ≡ true = sym c.eq.ensures ∙ w.if-eq.true in
           rw (w.again-is, w.in_ok-push.ensures.items) (subst (λ (b : Bool). cond b (so_far ++ y ∷ []) so_far ++ repeated_in identity_cmp (drop (c.loop-at.at + 1 - 1) xs) ≡ all) tied next)
       | else-eq w ↦
-          let apart : eq_by_cmp identity_cmp y x ≡ false = sym (same_identity_is y x) ∙ sym c.eq.ensures ∙ w.if-eq.false in
+          let apart : eq_by_cmp identity_cmp y x ≡ false = sym c.eq.ensures ∙ w.if-eq.false in
           rw w.again-is (subst (λ (b : Bool). cond b (so_far ++ y ∷ []) so_far ++ repeated_in identity_cmp (drop (c.loop-at.at + 1 - 1) xs) ≡ all) apart next)
     ]
 

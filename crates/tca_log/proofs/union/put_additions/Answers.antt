@@ -1,6 +1,5 @@
 use Rattle.std.proofs.Common.{◌+◌, ◌≤◌, length, subst, sym, ap, ◌∙◌}
-use Rattle.tca_report.specs.report.Identities.{identity_cmp}
-use Rattle.tca_report.proofs.lemmas.report.Identities.{identity_total}
+use Rattle.tca_report.specs.report.Identities.{identity_cmp, identity_total}
 use Rattle.tca_log.specs.Logs.{index_cmp}
 use Rattle.tca_log.specs.Rows.Ordered.{without_each, AreApart}
 use Rattle.tca_log.proofs.OrderedRows.Each.{undone_all}

@@ -2,8 +2,8 @@ use Rattle.std.proofs.Common.{sym}
 use Rattle.std.proofs.lemmas.List.Filters.{dedup_is}
 use Rattle.tca_join.proofs.Merge.{in_order_of_rising}
 use Rattle.tca_report.specs.report.Reports.{report_cmp}
-use Rattle.tca_report.proofs.lemmas.report.Order.{report_total, report_exact}
-use Rattle.tca_log.proofs.Gathering.{same_report, same_tied, set_is}
+use Rattle.tca_report.proofs.lemmas.report.Order.{report_total, report_exact, report_eq, same_report_is}
+use Rattle.tca_log.proofs.Gathering.{set_is}
 use Rattle.tca_log.proofs.union.set_of.Goals as goal
 
 pub returns-then-ascend : goal.returns-then-ascend
@@ -11,4 +11,4 @@ returns-then-ascend g c = sym (in_order_of_rising report_cmp report_total report
 
 pub returns : goal.returns
 returns g c =
-    set_is report_cmp report_total report_exact same_report same_tied c.args.reports.items c.sort_unstable.new.self.items c.dedup.new.self.items c.sort_unstable.ensures.permutation c.sort_unstable.ensures.sorted (dedup_is same_report c.sort_unstable.new.self.items c.dedup.new.self.items c.dedup.ensures.filtered)
+    set_is report_cmp report_total report_exact report_eq same_report_is c.args.reports.items c.sort_unstable.new.self.items c.dedup.new.self.items c.sort_unstable.ensures.permutation c.sort_unstable.ensures.sorted (dedup_is report_eq c.sort_unstable.new.self.items c.dedup.new.self.items c.dedup.ensures.filtered)

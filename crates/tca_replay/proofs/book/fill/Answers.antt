@@ -1,7 +1,7 @@
 use Rattle.std.proofs.Common.{◌≡◌, ◌<◌, Some, length, get_or, sym, ap, ◌∙◌, arith}
 use Rattle.tca_accounts.specs.Plans.{account_of}
 use Rattle.tca_replay.specs.Lanes.{lane_put, lane_ready}
-use Rattle.tca_replay.specs.Books.{CanPut, lanes_at}
+use Rattle.tca_replay.specs.Books.{CanPut}
 use Rattle.tca_replay.proofs.Books.{set_changed, changed_twice, lane_free}
 use Rattle.tca_replay.proofs.book.fill.Goals as goal
 

@@ -5,7 +5,7 @@ use Rattle.tca_replay.proofs.book.lanes_of.Goals as goal
 
 pub loop-n-preserved : goal.loop-n-preserved
 loop-n-preserved g c =
-    rw (c.in_ok-push.ensures.items, c.new-lane.ensures, c.period.ensures.value) (first_more c.args.plan.now c.args.k c.loop-n.n c.loop-n.lanes.items c.meter.result c.other.result c.loop-n.invariant (omega (arith, c.accounts-n-end.ensures.value)) c.meter.ensures c.other.ensures)
+    rw (c.in_ok-push.ensures.items, c.new-lane.ensures, c.period.ensures.value) (first_more c.args.plan.now c.args.k c.loop-n.n c.loop-n.lanes.items c.meter.result c.other.result c.loop-n.invariant (omega (arith, c.accounts-n-end.ensures.value)) c.meter.ensures.value c.other.ensures)
 
 pub meter-requires : goal.meter-requires
 meter-requires g c = grind (arith, common_steps)

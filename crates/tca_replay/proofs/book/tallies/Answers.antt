@@ -1,7 +1,7 @@
 use Rattle.std.proofs.lemmas.Grind.{common_steps}
-use Rattle.std.proofs.Common.{◌≡◌, ◌<◌, ◌∷◌, ◌++◌, [], length, take, sym, ap, ◌∙◌, arith}
+use Rattle.std.proofs.Common.{◌<◌, ◌∷◌, ◌++◌, [], length, take, sym, ap, ◌∙◌, arith}
 use Rattle.std.specs.Prelude.{map}
-use Rattle.tca_meters.specs.declared.any_meter.AnyMeter.{AnyMeter}
+use Rattle.tca_meters.specs.Termed.{TermedMeter}
 use Rattle.tca_replay.specs.Lanes.{LaneView}
 use Rattle.tca_replay.specs.Books.{lane_tally}
 use Rattle.tca_replay.proofs.Loops.{map_more}
@@ -13,7 +13,7 @@ loop-lane-preserved g c =
     let lanes = c.args.lanes.now in
     let d = c.lane-item.result in
     let inside : l.lane-index < length lanes = omega (arith, c.loop-lane-test.true) in
-    rw (c.in_ok-push.ensures.items, c.in_ok-tally.ensures, l.invariant) (ap (λ (x : LaneView AnyMeter). map lane_tally (take l.lane-index lanes) ++ lane_tally x ∷ []) c.lane-item.is ∙ sym (map_more lane_tally l.lane-index lanes d inside))
+    rw (c.in_ok-push.ensures.items, c.in_ok-tally.ensures, l.invariant) (ap (λ (x : LaneView TermedMeter). map lane_tally (take l.lane-index lanes) ++ lane_tally x ∷ []) c.lane-item.is ∙ sym (map_more lane_tally l.lane-index lanes d inside))
 
 pub loop-lane-init : goal.loop-lane-init
 loop-lane-init g c = grind (arith, common_steps)

@@ -13,13 +13,13 @@ use Rattle.tca_report.proofs.input.gather.Goals as goal
 pub returns-then-not-has_magic-clause-first : goal.returns-then-not-has_magic-clause-first
 returns-then-not-has_magic-clause-first c =
     let other : is_export c.args.octets.now ≡ false = sym c.has_magic.ensures.exact ∙ c.if-not-has_magic.true in
-    capture_first c.args.octets.now c.read_capture.result other c.read_capture.ensures.exact
+    capture_first (record { session = c.args.session; octets = c.args.octets.now }) c.read_capture.result other c.read_capture.ensures.exact
 
 pub returns-in-Err-clause-first : goal.returns-in-Err-clause-first
 returns-in-Err-clause-first c = λ ne.
     let is : is_export c.args.octets.now ≡ true = sym c.has_magic.ensures.exact ∙ c.if-not-has_magic.false in
     let other : c.in-Err.fault ≢ export.Memory = search rules in
-    export_first c.args.octets.now c.in-Err.fault is (c.in-Err.ensures.first other)
+    export_first (record { session = c.args.session; octets = c.args.octets.now }) c.in-Err.fault is (c.in-Err.ensures.first other)
 
 pub returns-in-Ok-clause-refused : goal.returns-in-Ok-clause-refused
 returns-in-Ok-clause-refused c = λ f is wrong. let e = c.in-Ok.ensures.refused f wrong in absurd cc
@@ -43,7 +43,7 @@ pub returns-in-Err-Memory-clause-memory_wanted : goal.returns-in-Err-Memory-clau
 returns-in-Err-Memory-clause-memory_wanted c = λ e.
     let is : is_export c.args.octets.now ≡ true = sym c.has_magic.ensures.exact ∙ c.if-not-has_magic.false in
     let wanted = c.in-Err-Memory.ensures.memory (ap (λ (f : ExportFault). Err f) c.in-Err-Memory.field-0-is) in
-    AnExport is wanted.0 wanted.1 wanted.2 wanted.3
+    AnExport is wanted.0 wanted.1 wanted.2
 
 pub returns-then-not-has_magic-clause-exact : goal.returns-then-not-has_magic-clause-exact
 returns-then-not-has_magic-clause-exact c = grind (arith, common_steps)

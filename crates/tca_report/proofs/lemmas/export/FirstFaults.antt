@@ -1,24 +1,26 @@
 -- The fault that an export is refused for is the first from the left, and the first from the left is the one that it is refused for.
-use Rattle.std.proofs.Common.{◌≡◌, ◌≢◌, ℕ, suc, ◌+◌, ◌-◌, ◌*◌, ◌^◌, ◌<◌, ◌≤◌, Bool, true, false, cond, not, List, ◌++◌, length, take, drop, None, Result, Ok, Err, refl, sym, ap, subst, ◌∙◌, arith, inl, inr, length-append, take_all}
+use Rattle.std.proofs.Common.{◌≡◌, ◌≢◌, ℕ, suc, ◌+◌, ◌-◌, ◌^◌, ◌<◌, ◌≤◌, Bool, true, false, cond, not, List, ◌++◌, length, take, drop, Option, Some, None, Result, Ok, Err, refl, sym, ap, subst, ◌∙◌, arith, inl, inr, length-append, take_all}
 use Rattle.std.specs.Prelude.{◌⊎◌, nat_lt, ◌==◌, IsErrOf, IsOkAnd}
 use Rattle.std.specs.List.{flat_map}
 use Rattle.std.specs.Int.{w16, w32, from_be_bytes, to_be_bytes}
 use Rattle.std.proofs.lemmas.Bool.Decides.{nat_tests}
-use Rattle.std.proofs.lemmas.List.{take-append-drop, take-append-le, length-take, length-drop, drop-drop}
-use Rattle.std.proofs.lemmas.Nat.{be_bytes_2, from_be_bytes-to_be_bytes_2, from_be_bytes-to_be_bytes_4}
+use Rattle.std.proofs.lemmas.List.{take-append-drop, take-append-le, length-take, length-drop}
+use Rattle.std.proofs.lemmas.Nat.{from_be_bytes-to_be_bytes_2, from_be_bytes-to_be_bytes_4}
 use Rattle.tca_wire.specs.Results.{Gives}
 use Rattle.tca_report.specs.report.Reports.{PacketReport, in_range}
-use Rattle.tca_report.specs.export.Spelling.{record_octets, header_octets, export, magic, most_reports, IsExportable}
-use Rattle.tca_report.specs.export.Reading.{above, records_at, has_magic, count_of, after_header, reading}
+use Rattle.tca_report.specs.export.Spelling.{version_of, records_size, record_octets, header_octets, magic, most_reports, IsExport}
+use Rattle.tca_report.specs.export.Reading.{above, records_at, has_magic, format_of, counted, header_of, after_header, reading}
 use Rattle.tca_report.specs.export.FirstFaults.{HasReport, IsFaultyExport, CutLetters, OtherLetters, CutHeader, OtherVersion, ManyReports, CutReports, MoreOctets, OutOfRange, NotAbove}
+use Rattle.tca_report.specs.declared.export.Format.{Format}
+use Rattle.tca_report.specs.declared.export.Format.TheVariants.{Version1, Version2}
 use Rattle.tca_report.specs.declared.export.ExportFault.{ExportFault}
 use Rattle.tca_report.specs.declared.export.ExportFault.TheVariants.{Magic, Version, Count, Cut, Range, Order, Memory}
-use Rattle.tca_report.proofs.lemmas.export.Records.{IsBytes, octets_drop, octets_take, front4, below_4, in_range_true, in_range_holds}
-use Rattle.tca_report.proofs.lemmas.export.Spelling.{length-records, count_of_all, four_letters, tests_passed, reading_takes}
+use Rattle.tca_report.proofs.lemmas.export.Records.{IsBytes, octets_drop, octets_take, below_4, in_range_true, widths_in_range}
+use Rattle.tca_report.proofs.lemmas.export.Spelling.{length-records, header_is, counted_is, header_of_all, version_in, format_holds, four_letters, version_spelled, header_spelled, IsRight, header_right, reading_takes}
 use Rattle.tca_report.proofs.lemmas.export.RecordFaults.{last_of, follows_snoc, follows_last, IsWrong, first_wrong, stops_at}
 
 -- one test of a chain of refusals: it refuses, or what follows it does
-refused_by : (b : Bool) (f : ExportFault) (more : Result ℕ ExportFault) (g : ExportFault) → cond b (Err f) more ≡ Err g → ((b ≡ true) × (f ≡ g)) ⊎ ((b ≡ false) × (more ≡ Err g))
+refused_by : (b : Bool) (f : ExportFault) (more : Result (Format × ℕ) ExportFault) (g : ExportFault) → cond b (Err f) more ≡ Err g → ((b ≡ true) × (f ≡ g)) ⊎ ((b ≡ false) × (more ≡ Err g))
 refused_by true f more g e = inl (refl, cc)
 refused_by false f more g e = inr (refl, e)
 
@@ -38,17 +40,17 @@ lt_holds m n h = grind (arith, nat_tests, h)
 le_holds : (m n : ℕ) → nat_lt m n ≡ false → n ≤ m
 le_holds m n h = grind (arith, nat_tests, h)
 
-one_true : (n : ℕ) → n ≡ 1 → not (n == 1) ≡ false
-one_true n h = grind (arith, nat_tests, h)
+none_for : (n : ℕ) → n ≢ 1 → n ≢ 2 → format_of n ≡ None
+none_for n one two =
+    let p : (n == 1) ≡ false = grind (arith, nat_tests, one) in
+    let q : (n == 2) ≡ false = grind (arith, nat_tests, two) in
+    rw (p, q) refl
 
-one_holds : (n : ℕ) → not (n == 1) ≡ false → n ≡ 1
-one_holds n h = grind (arith, nat_tests, h)
-
-other_true : (n : ℕ) → n ≢ 1 → not (n == 1) ≡ true
-other_true n h = grind (arith, nat_tests, h)
-
-other_holds : (n : ℕ) → not (n == 1) ≡ true → n ≢ 1
-other_holds n h = λ is. let same : not (n == 1) ≡ false = one_true n is in absurd cc
+none_holds : (n : ℕ) → format_of n ≡ None → (n ≢ 1) × (n ≢ 2)
+none_holds n e = (
+  λ is. let some : format_of n ≡ Some Version1 = ap format_of is in absurd cc,
+  λ is. let some : format_of n ≡ Some Version2 = ap format_of is in absurd cc,
+)
 
 not_true : (b : Bool) → not b ≡ true → b ≡ false
 not_true true e = absurd cc
@@ -67,39 +69,39 @@ same_fault f g e = cc
 below_2 : (octets : List ℕ) → IsBytes octets → from_be_bytes w16 (take 2 octets) < 2 ^ 16
 below_2 octets fits = let h = octets_take 2 octets fits in omega (arith, h 0, h 1)
 
-front2 : (octets : List ℕ) → IsBytes octets → 2 ≤ length octets → to_be_bytes w16 (from_be_bytes w16 (take 2 octets)) ++ drop 2 octets ≡ octets
-front2 octets fits long = ap (λ (x : List ℕ). x ++ drop 2 octets) (be_bytes_2 (take 2 octets) _ (omega (arith, length-take 2 octets)) (octets_take 2 octets fits) refl) ∙ take-append-drop 2 octets
+same_version : (f g : ExportFault) → let x : Result (Format × ℕ) ExportFault = Err f in x ≡ Err g → f ≡ g
+same_version f g e = cc
 
--- letters and version, and what follows them
-version_spelled : (octets : List ℕ) → IsBytes octets → 10 ≤ length octets → has_magic octets ≡ true
-    → octets ≡ magic ++ (to_be_bytes w16 (from_be_bytes w16 (take 2 (drop 4 octets))) ++ drop 6 octets)
-version_spelled octets fits long letters =
-    let a = drop 4 octets in
-    sym (
-    ap (λ (z : List ℕ). magic ++ (to_be_bytes w16 (from_be_bytes w16 (take 2 a)) ++ z)) (sym (drop-drop 2 4 octets))
-    ∙ ap (λ (z : List ℕ). magic ++ z) (front2 a (octets_drop 4 octets fits) (omega (arith, length-drop 4 octets, long)))
-    ∙ four_letters octets (omega arith) letters
-    )
-
--- a header of version 1, and what follows it
-header_spelled : (octets : List ℕ) → IsBytes octets → 10 ≤ length octets → has_magic octets ≡ true → from_be_bytes w16 (take 2 (drop 4 octets)) ≡ 1
-    → octets ≡ header_octets (from_be_bytes w32 (take 4 (drop 6 octets))) ++ drop 10 octets
-header_spelled octets fits long letters version =
-    let b = drop 6 octets in
-    let n = from_be_bytes w32 (take 4 b) in
-    let last : to_be_bytes w32 n ++ drop 10 octets ≡ b =
-    ap (λ (z : List ℕ). to_be_bytes w32 n ++ z) (sym (drop-drop 4 6 octets)) ∙ front4 b (octets_drop 6 octets fits) (omega (arith, length-drop 6 octets, long)) in
-    version_spelled octets fits long letters
-    ∙ ap (λ (v : ℕ). magic ++ (to_be_bytes w16 v ++ b)) version
-    ∙ ap (λ (z : List ℕ). magic ++ (to_be_bytes w16 1 ++ z)) (sym last)
-
--- what is wrong with a header, and with how many octets follow it
-header_fault : (octets : List ℕ) (fault : ExportFault) → IsBytes octets → count_of octets ≡ Err fault → IsFaultyExport octets fault
-unfolding count_of
-header_fault octets fault fits e =
+-- what is wrong with version and count, and with how many octets follow them
+counted_fault : (octets : List ℕ) (fault : ExportFault) → IsBytes octets → 10 ≤ length octets → has_magic octets ≡ true
+    → (given : Option Format) → format_of (from_be_bytes w16 (take 2 (drop 4 octets))) ≡ given
+    → counted (from_be_bytes w16 (take 2 (drop 4 octets))) (from_be_bytes w32 (take 4 (drop 6 octets))) (length octets) given ≡ Err fault → IsFaultyExport octets fault
+counted_fault octets fault fits room right None k e =
+    let version = from_be_bytes w16 (take 2 (drop 4 octets)) in
+    let other = none_holds version k in
+    OtherVersion version (drop 6 octets) (version_spelled octets fits room right) (below_2 (drop 4 octets) (octets_drop 4 octets fits))
+    other.0 other.1 (omega (arith, length-drop 6 octets, room)) (sym (same_version (Version version) fault e))
+counted_fault octets fault fits room right (Some format) k e =
     let version = from_be_bytes w16 (take 2 (drop 4 octets)) in
     let count = from_be_bytes w32 (take 4 (drop 6 octets)) in
     let size = length-drop 10 octets in
+    let whole = header_spelled octets format fits room right (format_holds version format k) in
+    elim (refused_by (nat_lt most_reports count) Count _ fault e) [
+      | inl many ↦ ManyReports format count (drop 10 octets) whole (below_4 (drop 6 octets) (octets_drop 6 octets fits)) (lt_holds _ _ many.0) (sym many.1)
+      | inr some ↦ elim (refused_by (nat_lt (length octets) (10 + records_size format count)) Cut _ fault some.1) [
+        | inl cut ↦ CutReports format count (drop 10 octets) whole (le_holds _ _ some.0) (omega (arith, size, room, lt_holds _ _ cut.0)) (sym cut.1)
+        | inr enough ↦ elim (refused_by (nat_lt (10 + records_size format count) (length octets)) Count _ fault enough.1) [
+          | inl more ↦ MoreOctets format count (drop 10 octets) whole (le_holds _ _ some.0) (omega (arith, size, room, lt_holds _ _ more.0)) (sym more.1)
+          | inr fails ↦ absurd cc
+        ]
+      ]
+    ]
+
+-- what is wrong with a header, and with how many octets follow it
+header_fault : (octets : List ℕ) (fault : ExportFault) → IsBytes octets → header_of octets ≡ Err fault → IsFaultyExport octets fault
+unfolding header_of
+header_fault octets fault fits e =
+    let version = from_be_bytes w16 (take 2 (drop 4 octets)) in
     elim (refused_by (nat_lt (length octets) 4) Cut _ fault e) [
       | inl few ↦ CutLetters (lt_holds _ _ few.0) (sym few.1)
       | inr four ↦ elim (refused_by (not (has_magic octets)) Magic _ fault four.1) [
@@ -117,59 +119,27 @@ header_fault octets fault fits e =
             let right : has_magic octets ≡ true = not_false (has_magic octets) letters.0 in
             elim (refused_by (nat_lt (length octets) 10) Cut _ fault letters.1) [
               | inl few ↦ CutHeader (drop 4 octets) (sym (four_letters octets long right)) (omega (arith, length-drop 4 octets, long, lt_holds _ _ few.0)) (sym few.1)
-              | inr ten ↦
-                  let room = le_holds _ _ ten.0 in
-                  elim (refused_by (not (version == 1)) (Version version) _ fault ten.1) [
-                    | inl other ↦
-                        OtherVersion version (drop 6 octets) (version_spelled octets fits room right) (below_2 (drop 4 octets) (octets_drop 4 octets fits))
-                        (other_holds version other.0) (omega (arith, length-drop 6 octets, room)) (sym other.1)
-                    | inr first ↦
-                        let whole = header_spelled octets fits room right (one_holds version first.0) in
-                        elim (refused_by (nat_lt most_reports count) Count _ fault first.1) [
-                          | inl many ↦ ManyReports count (drop 10 octets) whole (below_4 (drop 6 octets) (octets_drop 6 octets fits)) (lt_holds _ _ many.0) (sym many.1)
-                          | inr some ↦ elim (refused_by (nat_lt (length octets) (10 + 25 * count)) Cut _ fault some.1) [
-                            | inl cut ↦ CutReports count (drop 10 octets) whole (le_holds _ _ some.0) (omega (arith, size, room, lt_holds _ _ cut.0)) (sym cut.1)
-                            | inr enough ↦ elim (refused_by (nat_lt (10 + 25 * count) (length octets)) Count _ fault enough.1) [
-                              | inl more ↦ MoreOctets count (drop 10 octets) whole (le_holds _ _ some.0) (omega (arith, size, room, lt_holds _ _ more.0)) (sym more.1)
-                              | inr fails ↦ absurd cc
-                            ]
-                          ]
-                        ]
-                  ]
+              | inr ten ↦ counted_fault octets fault fits (le_holds _ _ ten.0) right (format_of version) refl ten.1
             ]
       ]
     ]
 
--- a header of this count has just the octets that it needs
-record IsRight (octets : List ℕ) (count : ℕ) : Type 0 where
-  whole : octets ≡ header_octets count ++ drop 10 octets
-  few : count ≤ most_reports
-  long : length (drop 10 octets) ≡ 25 * count
-
-header_right : (octets : List ℕ) (n : ℕ) → IsBytes octets → count_of octets ≡ Ok n → IsRight octets n
-header_right octets n fits e =
-    let t = tests_passed octets n e in
-    let room : 10 ≤ length octets = omega (arith, t.long) in
-    record {
-      whole = header_spelled octets fits room t.letters t.version ∙ ap (λ (m : ℕ). header_octets m ++ drop 10 octets) t.stated;
-      few = t.few;
-      long = omega (arith, length-drop 10 octets, t.long);
-    }
-
 -- what is wrong with a report behind a right header
-report_fault : (octets : List ℕ) (count : ℕ) (fault : ExportFault) → IsBytes octets → IsRight octets count → records_at count 0 None (drop 10 octets) ≡ Err fault
-    → IsFaultyExport octets fault
-report_fault octets count fault fits right e =
-    let u = first_wrong count 0 None (drop 10 octets) fault (octets_drop 10 octets fits) right.long e in
+report_fault : (octets : List ℕ) (format : Format) (count : ℕ) (fault : ExportFault) → IsBytes octets → IsRight octets format count
+    → records_at format count 0 None (drop 10 octets) ≡ Err fault → IsFaultyExport octets fault
+report_fault octets format count fault fits right e =
+    let u = first_wrong format count 0 None (drop 10 octets) fault (octets_drop 10 octets fits) right.long e in
     let number : 0 + length u.before ≡ length u.before = omega arith in
     let has : HasReport octets u.before u.r = record {
+      format = format;
       count = count;
       behind = u.behind;
-      whole = right.whole ∙ ap (λ (z : List ℕ). header_octets count ++ z) u.whole;
+      whole = right.whole ∙ ap (λ (z : List ℕ). header_octets format count ++ z) u.whole;
       few = right.few;
       long = sym (ap length u.whole) ∙ right.long;
       rises = u.follows;
       ranges = u.ranges;
+      sessions = u.sessions;
       widths = u.widths;
     } in
     elim u.wrong [
@@ -177,96 +147,93 @@ report_fault octets count fault fits right e =
           OutOfRange u.before u.r has (λ ranged. let holds = in_range_true u.r ranged in absurd (true_false (sym holds ∙ bad.0)))
           (bad.1 ∙ ap (λ (m : ℕ). Range m) number)
       | inr low ↦
-          NotAbove u.before u.r has (in_range_holds u.r u.widths.domain u.widths.place u.widths.iface low.0)
+          NotAbove u.before u.r has (widths_in_range format u.r u.widths low.0)
           (λ rises. absurd (true_false (sym (follows_last None u.before u.r rises) ∙ low.1)))
           (low.2 ∙ ap (λ (m : ℕ). Order m) number)
     ]
 
 pub export_fault : (octets : List ℕ) (fault : ExportFault) → IsBytes octets → reading octets ≡ Err fault → IsFaultyExport octets fault
-export_fault octets fault fits e = go (count_of octets) refl e
+export_fault octets fault fits e = go (header_of octets) refl e
   where
-    go : (r : Result ℕ ExportFault) → count_of octets ≡ r → after_header octets r ≡ Err fault → IsFaultyExport octets fault
+    go : (r : Result (Format × ℕ) ExportFault) → header_of octets ≡ r → after_header octets r ≡ Err fault → IsFaultyExport octets fault
     go (Err f) k e = header_fault octets fault fits (k ∙ ap (λ (g : ExportFault). Err g) (same_fault f fault e))
-    go (Ok n) k e = report_fault octets n fault fits (header_right octets n fits k) e
+    go (Ok x) k e = report_fault octets x.0 x.1 fault fits (header_right octets x fits k) e
 
 -- the tests of a header, each with those before it
 module _ (octets : List ℕ) where
-  letters_cut : length octets < 4 → count_of octets ≡ Err Cut
-  unfolding count_of
+  letters_cut : length octets < 4 → header_of octets ≡ Err Cut
+  unfolding header_of
   letters_cut few = let a = lt_true (length octets) 4 few in rw a refl
 
-  letters_other : 4 ≤ length octets → has_magic octets ≡ false → count_of octets ≡ Err Magic
-  unfolding count_of
+  letters_other : 4 ≤ length octets → has_magic octets ≡ false → header_of octets ≡ Err Magic
+  unfolding header_of
   letters_other long m = let a = lt_false (length octets) 4 long in rw (a, m) refl
 
-  header_cut : has_magic octets ≡ true → 4 ≤ length octets → length octets < 10 → count_of octets ≡ Err Cut
-  unfolding count_of
+  header_cut : has_magic octets ≡ true → 4 ≤ length octets → length octets < 10 → header_of octets ≡ Err Cut
+  unfolding header_of
   header_cut m long few =
       let a = lt_false (length octets) 4 long in
       let b = lt_true (length octets) 10 few in
       rw (a, m, b) refl
 
-  version_other : (v : ℕ) → has_magic octets ≡ true → 10 ≤ length octets → from_be_bytes w16 (take 2 (drop 4 octets)) ≡ v → v ≢ 1 → count_of octets ≡ Err (Version v)
-  unfolding count_of
-  version_other v m long is other =
-      let a = lt_false (length octets) 4 (omega (arith, long)) in
-      let b = lt_false (length octets) 10 long in
-      let c = other_true v other in
-      rw (a, m, b, is, c) refl
+  version_other : (v : ℕ) → has_magic octets ≡ true → 10 ≤ length octets → from_be_bytes w16 (take 2 (drop 4 octets)) ≡ v → v ≢ 1 → v ≢ 2 → header_of octets ≡ Err (Version v)
+  version_other v m long is one two =
+      let count = from_be_bytes w32 (take 4 (drop 6 octets)) in
+      header_is octets m long
+      ∙ ap (λ (z : ℕ). counted z count (length octets) (format_of z)) is
+      ∙ ap (λ (z : Option Format). counted v count (length octets) z) (none_for v one two)
 
-  module _ (count : ℕ) (m : has_magic octets ≡ true) (v : from_be_bytes w16 (take 2 (drop 4 octets)) ≡ 1) (n : from_be_bytes w32 (take 4 (drop 6 octets)) ≡ count)
+  module _ (format : Format) (count : ℕ) (m : has_magic octets ≡ true) (v : from_be_bytes w16 (take 2 (drop 4 octets)) ≡ version_of format) (n : from_be_bytes w32 (take 4 (drop 6 octets)) ≡ count)
       (long : 10 ≤ length octets) where
-    count_many : most_reports < count → count_of octets ≡ Err Count
-    unfolding count_of
+    count_many : most_reports < count → header_of octets ≡ Err Count
     count_many many =
-        let a = lt_false (length octets) 4 (omega (arith, long)) in
-        let b = lt_false (length octets) 10 long in
         let c = lt_true most_reports count many in
-        rw (a, m, b, v, n, c) refl
+        counted_is octets format count m long v n ∙ rw c refl
 
-    count_cut : count ≤ most_reports → length octets < 10 + 25 * count → count_of octets ≡ Err Cut
-    unfolding count_of
+    count_cut : count ≤ most_reports → length octets < 10 + records_size format count → header_of octets ≡ Err Cut
     count_cut few cut =
-        let a = lt_false (length octets) 4 (omega (arith, long)) in
-        let b = lt_false (length octets) 10 long in
         let c = lt_false most_reports count few in
-        let d = lt_true (length octets) (10 + 25 * count) cut in
-        rw (a, m, b, v, n, c, d) refl
+        let d = lt_true (length octets) (10 + records_size format count) cut in
+        counted_is octets format count m long v n ∙ rw (c, d) refl
 
-    count_more : count ≤ most_reports → 10 + 25 * count < length octets → count_of octets ≡ Err Count
-    unfolding count_of
+    count_more : count ≤ most_reports → 10 + records_size format count < length octets → header_of octets ≡ Err Count
     count_more few more =
-        let a = lt_false (length octets) 4 (omega (arith, long)) in
-        let b = lt_false (length octets) 10 long in
         let c = lt_false most_reports count few in
-        let d = lt_false (length octets) (10 + 25 * count) (omega (arith, more)) in
-        let e = lt_true (10 + 25 * count) (length octets) more in
-        rw (a, m, b, v, n, c, d, e) refl
+        let d = lt_false (length octets) (10 + records_size format count) (omega (arith, more)) in
+        let e = lt_true (10 + records_size format count) (length octets) more in
+        counted_is octets format count m long v n ∙ rw (c, d, e) refl
 
 -- the reading of octets whose header is refused
-header_ends : (octets : List ℕ) (f fault : ExportFault) → count_of octets ≡ Err f → fault ≡ f → reading octets ≡ Err fault
+header_ends : (octets : List ℕ) (f fault : ExportFault) → header_of octets ≡ Err f → fault ≡ f → reading octets ≡ Err fault
 header_ends octets f fault e is = ap (after_header octets) e ∙ ap (λ (g : ExportFault). Err g) (sym is)
 
-whole_length : (count : ℕ) (rest : List ℕ) → length (header_octets count ++ rest) ≡ 10 + length rest
-whole_length count rest = omega (arith, length-append (header_octets count) rest)
+whole_length : (format : Format) (count : ℕ) (rest : List ℕ) → length (header_octets format count ++ rest) ≡ 10 + length rest
+whole_length format count rest = omega (arith, length-append (header_octets format count) rest)
+
+-- so many octets have room for one report behind those before it
+reports_within : (format : Format) (before : List PacketReport) (r : PacketReport) (behind : List ℕ) (count : ℕ)
+    → length (flat_map (record_octets format) before ++ (record_octets format r ++ behind)) ≡ records_size format count → suc (length before) ≤ count
+reports_within Version1 before r behind count long =
+    omega (arith, long, length-append (flat_map (record_octets Version1) before) (record_octets Version1 r ++ behind), length-append (record_octets Version1 r) behind, length-records Version1 before)
+reports_within Version2 before r behind count long =
+    omega (arith, long, length-append (flat_map (record_octets Version2) before) (record_octets Version2 r ++ behind), length-append (record_octets Version2 r) behind, length-records Version2 before)
 
 -- the reading of octets whose report is refused
 report_ends : (octets : List ℕ) (before : List PacketReport) (r : PacketReport) (fault : ExportFault) → HasReport octets before r
     → IsWrong (length before) (last_of None before) r fault → reading octets ≡ Err fault
 report_ends octets before r fault h wrong =
-    let body = flat_map record_octets before ++ (record_octets r ++ h.behind) in
-    let all = header_octets h.count ++ body in
+    let f = h.format in
+    let body = flat_map (record_octets f) before ++ (record_octets f r ++ h.behind) in
+    let all = header_octets f h.count ++ body in
     let k = h.count - suc (length before) in
     let few = h.few in
-    let parts = length-append (flat_map record_octets before) (record_octets r ++ h.behind) in
-    let last = length-append (record_octets r) h.behind in
-    let many : h.count ≡ suc (length before + k) = omega (arith, h.long, parts, last, length-records before) in
-    let long : length all ≡ 10 + 25 * h.count = omega (arith, whole_length h.count body, h.long) in
+    let many : h.count ≡ suc (length before + k) = omega (arith, reports_within f before r h.behind h.count h.long) in
+    let long : length all ≡ 10 + records_size f h.count = omega (arith, whole_length f h.count body, h.long) in
     let n = from_be_bytes-to_be_bytes_4 h.count (omega (arith, few)) in
     let number : length before ≡ 0 + length before = omega arith in
     ap reading h.whole
-    ∙ ap (after_header all) (count_of_all all h.count refl refl n few long)
-    ∙ stops_at before h.count k 0 None r h.behind fault many h.rises h.ranges h.widths (subst (λ (m : ℕ). IsWrong m (last_of None before) r fault) number wrong)
+    ∙ ap (after_header all) (header_of_all all f h.count refl (version_in f h.count body) n few long)
+    ∙ stops_at f before h.count k 0 None r h.behind fault many h.rises h.ranges h.sessions h.widths (subst (λ (m : ℕ). IsWrong m (last_of None before) r fault) number wrong)
 
 pub export_no_other : (octets : List ℕ) (fault : ExportFault) → IsFaultyExport octets fault → reading octets ≡ Err fault
 export_no_other octets fault (CutLetters few is) = header_ends octets Cut fault (letters_cut octets few) is
@@ -283,27 +250,27 @@ export_no_other octets fault (OtherLetters letters rest whole four other is) =
 export_no_other octets fault (CutHeader rest whole few is) =
     let all = magic ++ rest in
     ap reading whole ∙ header_ends all Cut fault (header_cut all refl (omega arith) (omega (arith, few))) is
-export_no_other octets fault (OtherVersion version rest whole small other long is) =
+export_no_other octets fault (OtherVersion version rest whole small one two long is) =
     let all = magic ++ (to_be_bytes w16 version ++ rest) in
-    ap reading whole ∙ header_ends all (Version version) fault (version_other all version refl (omega (arith, long)) (from_be_bytes-to_be_bytes_2 version small) other) is
-export_no_other octets fault (ManyReports count rest whole small many is) =
-    let all = header_octets count ++ rest in
-    let size = whole_length count rest in
+    ap reading whole ∙ header_ends all (Version version) fault (version_other all version refl (omega (arith, long)) (from_be_bytes-to_be_bytes_2 version small) one two) is
+export_no_other octets fault (ManyReports format count rest whole small many is) =
+    let all = header_octets format count ++ rest in
+    let size = whole_length format count rest in
     ap reading whole
-    ∙ header_ends all Count fault (count_many all count refl refl (from_be_bytes-to_be_bytes_4 count small) (omega (arith, size)) many) is
-export_no_other octets fault (CutReports count rest whole few cut is) =
-    let all = header_octets count ++ rest in
-    let size = whole_length count rest in
+    ∙ header_ends all Count fault (count_many all format count refl (version_in format count rest) (from_be_bytes-to_be_bytes_4 count small) (omega (arith, size)) many) is
+export_no_other octets fault (CutReports format count rest whole few cut is) =
+    let all = header_octets format count ++ rest in
+    let size = whole_length format count rest in
     ap reading whole
-    ∙ header_ends all Cut fault (count_cut all count refl refl (from_be_bytes-to_be_bytes_4 count (omega (arith, few))) (omega (arith, size)) few (omega (arith, size, cut))) is
-export_no_other octets fault (MoreOctets count rest whole few more is) =
-    let all = header_octets count ++ rest in
-    let size = whole_length count rest in
+    ∙ header_ends all Cut fault (count_cut all format count refl (version_in format count rest) (from_be_bytes-to_be_bytes_4 count (omega (arith, few))) (omega (arith, size)) few (omega (arith, size, cut))) is
+export_no_other octets fault (MoreOctets format count rest whole few more is) =
+    let all = header_octets format count ++ rest in
+    let size = whole_length format count rest in
     ap reading whole
-    ∙ header_ends all Count fault (count_more all count refl refl (from_be_bytes-to_be_bytes_4 count (omega (arith, few))) (omega (arith, size)) few (omega (arith, size, more))) is
+    ∙ header_ends all Count fault (count_more all format count refl (version_in format count rest) (from_be_bytes-to_be_bytes_4 count (omega (arith, few))) (omega (arith, size)) few (omega (arith, size, more))) is
 export_no_other octets fault (OutOfRange before r h out is) =
     elim (either (in_range r)) [
-      | inl holds ↦ absurd (out (in_range_holds r h.widths.domain h.widths.place h.widths.iface holds))
+      | inl holds ↦ absurd (out (widths_in_range h.format r h.widths holds))
       | inr fails ↦ report_ends octets before r fault h (inl (fails, is))
     ]
 export_no_other octets fault (NotAbove before r h ranged falls is) =
@@ -332,11 +299,11 @@ answers_fault {X = X} view result octets gives memory fault wrong = go result gi
     go (Err (Order n)) gives memory e = let p : reading octets ≡ Err (Order n) = gives (λ x. cc) in cc
 
 -- what is read and has a report is the spelling of a list that has one
-pub spells_some : (octets : List ℕ) → IsBytes octets → IsOkAnd (reading octets) (λ rs. 0 < length rs) → (rs : List PacketReport) × IsExportable rs × (octets ≡ export rs) × (0 < length rs)
+pub spells_some : (octets : List ℕ) → IsBytes octets → IsOkAnd (reading octets) (λ rs. 0 < length rs) → (rs : List PacketReport) × IsExport octets rs × (0 < length rs)
 spells_some octets fits some = go (reading octets) refl some
   where
-    go : (r : Result (List PacketReport) ExportFault) → reading octets ≡ r → IsOkAnd r (λ rs. 0 < length rs) → (rs : List PacketReport) × IsExportable rs × (octets ≡ export rs) × (0 < length rs)
-    go (Ok rs) e more = let t = reading_takes octets rs fits e in (rs, t.0, t.1, more)
+    go : (r : Result (List PacketReport) ExportFault) → reading octets ≡ r → IsOkAnd r (λ rs. 0 < length rs) → (rs : List PacketReport) × IsExport octets rs × (0 < length rs)
+    go (Ok rs) e more = (rs, reading_takes octets rs fits e, more)
     go (Err f) e more = absurd more
 
 pub same_export : {X : Type 0} (f g : ExportFault) → let x : Result X ExportFault = Err f in x ≡ Err g → f ≡ g
@@ -347,9 +314,9 @@ pub never_memory : (octets : List ℕ) (fault : ExportFault) → IsFaultyExport 
 never_memory octets fault (CutLetters few is) m = let e : Cut ≡ Memory = sym is ∙ m in absurd cc
 never_memory octets fault (OtherLetters letters rest whole four other is) m = let e : Magic ≡ Memory = sym is ∙ m in absurd cc
 never_memory octets fault (CutHeader rest whole few is) m = let e : Cut ≡ Memory = sym is ∙ m in absurd cc
-never_memory octets fault (OtherVersion version rest whole small other long is) m = let e : Version version ≡ Memory = sym is ∙ m in absurd cc
-never_memory octets fault (ManyReports count rest whole small many is) m = let e : Count ≡ Memory = sym is ∙ m in absurd cc
-never_memory octets fault (CutReports count rest whole few cut is) m = let e : Cut ≡ Memory = sym is ∙ m in absurd cc
-never_memory octets fault (MoreOctets count rest whole few more is) m = let e : Count ≡ Memory = sym is ∙ m in absurd cc
+never_memory octets fault (OtherVersion version rest whole small one two long is) m = let e : Version version ≡ Memory = sym is ∙ m in absurd cc
+never_memory octets fault (ManyReports format count rest whole small many is) m = let e : Count ≡ Memory = sym is ∙ m in absurd cc
+never_memory octets fault (CutReports format count rest whole few cut is) m = let e : Cut ≡ Memory = sym is ∙ m in absurd cc
+never_memory octets fault (MoreOctets format count rest whole few more is) m = let e : Count ≡ Memory = sym is ∙ m in absurd cc
 never_memory octets fault (OutOfRange before r h out is) m = let e : Range (length before) ≡ Memory = sym is ∙ m in absurd cc
 never_memory octets fault (NotAbove before r h ranged falls is) m = let e : Order (length before) ≡ Memory = sym is ∙ m in absurd cc

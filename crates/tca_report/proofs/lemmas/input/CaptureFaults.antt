@@ -18,6 +18,7 @@ use Rattle.tca_wire.proofs.Tiles.{message_found, message_only}
 use Rattle.tca_wire.proofs.FirstFaults.{fault_found, fault_only}
 use Rattle.tca_wire.proofs.Framings.{version_front, length_front, each_both, frame_more}
 use Rattle.tca_wire.proofs.FramesOf.{is_stream}
+use Rattle.tca_templates.specs.Records.{source_of}
 use Rattle.tca_templates.specs.Reading.{ReadMessage, read_of}
 use Rattle.tca_templates.specs.Sessions.{IsSession}
 use Rattle.tca_templates.specs.FirstFaults as templates
@@ -26,7 +27,7 @@ use Rattle.tca_templates.proofs.FirstFaults.{reading_fault, reading_no_other}
 use Rattle.tca_templates.proofs.SessionMaps.{session_opens, session_stays}
 use Rattle.tca_report.specs.report.Reports.{PacketReport}
 use Rattle.tca_report.specs.export.Reading.{reading}
-use Rattle.tca_report.specs.input.Inputs.{CaptureSoFar, nothing, with_message, with_reading, with_split, capture_with, capture_after, ended, capture_of, is_export, exported, input_of}
+use Rattle.tca_report.specs.input.Inputs.{CaptureSoFar, nothing, with_message, with_reading, with_split, capture_with, capture_after, ended, capture_of, is_export, exported, read_input, InputView}
 use Rattle.tca_report.specs.input.Captures.{AreRead}
 use Rattle.tca_report.specs.input.FirstFaults.{IsFaultyMessage, NoMessage, WrongMessage, IsFaultyCapture, IsFirstFault, AnExport, ACapture}
 use Rattle.tca_report.specs.input.Gathered.{gathered_of, gathered_view}
@@ -145,18 +146,18 @@ with_wrong at h m behind fault frame ok e = go (message_of m) refl e
     some : 0 < length (m ++ behind)
     some = omega (arith, frame.room, length-append m behind)
 
-    read : (x : Header × List SetSpan) → IsMessage m x.0 x.1 → (r : Result ReadMessage DecodeFault) → read_of h.templates x.0 (take x.0.length m) x.1 ≡ r
+    read : (x : Header × List SetSpan) → IsMessage m x.0 x.1 → (r : Result ReadMessage DecodeFault) → read_of h.templates (source_of h.session x.0) (take x.0.length m) x.1 ≡ r
         → with_reading at h r ≡ Err fault → IsFaultyMessage h at (m ++ behind) fault
     read x message (Ok given) j e = absurd cc
     read x message (Err f) j e =
         let own = take-append-le x.0.length m behind message.whole in
-        let wrong = reading_fault h.templates x.0 (take x.0.length m) x.1 f ok.octets j in
+        let wrong = reading_fault h.templates (source_of h.session x.0) (take x.0.length m) x.1 f ok.octets j in
         WrongMessage x.0 x.1 (message_front m behind x.0 x.1 message) f
-        (subst (λ (o : List ℕ). templates.IsFirstFault h.templates x.0 o x.1 f) (sym own) wrong) (sym (same_fault (Decode at f) fault e))
+        (subst (λ (o : List ℕ). templates.IsFirstFault h.templates (source_of h.session x.0) o x.1 f) (sym own) wrong) (sym (same_fault (Decode at f) fault e))
 
     go : (r : Result (Header × List SetSpan) WireFault) → message_of m ≡ r → with_split at h m r ≡ Err fault → IsFaultyMessage h at (m ++ behind) fault
     go (Err f) k e = NoMessage some f (fault_front m behind f frame (fault_found m f k)) (sym (same_fault (Wire at f) fault e))
-    go (Ok x) k e = read x (message_found m x.0 x.1 k) (read_of h.templates x.0 (take x.0.length m) x.1) refl e
+    go (Ok x) k e = read x (message_found m x.0 x.1 k) (read_of h.templates (source_of h.session x.0) (take x.0.length m) x.1) refl e
 
 -- Messages that are read, and behind them the first that isn't.
 record IsUpTo (at : ℕ) (h : CaptureSoFar) (octets : List ℕ) (fault : InputFault) : Type 0 where
@@ -192,7 +193,7 @@ first_wrong at h (m ∷ ms) behind fault each ok e = go (λ next session k. firs
         }
     go more (Ok next) k e =
         let n = with_found at h next m each.0 ok k in
-        let session : IsSession next.templates = subst (λ (x : CaptureSoFar). IsSession x.templates) (sym n.is) (session_stays h.templates n.header m n.sets n.given ok n.reading) in
+        let session : IsSession next.templates = subst (λ (x : CaptureSoFar). IsSession x.templates) (sym n.is) (session_stays h.templates (source_of h.session n.header) m n.sets n.given ok n.reading) in
         let r = more next session e in
         let far : at + length m + length (concat r.messages) ≡ at + length (m ++ concat r.messages) = omega (arith, length-append m (concat r.messages)) in
         record {
@@ -229,14 +230,14 @@ ended_wrong at rest (Holds (b ∷ bs)) h fault ends e =
     NoMessage (subst (λ (o : List ℕ). 0 < length o) ends.0 some) Short (inl (refl, ends.1)) (sym (same_fault (Wire at Short) fault e))
 ended_wrong at rest (Failed f) h fault ends e = NoMessage (faulty_some rest f ends) f (inr (inl ends)) (sym (same_fault (Wire at f) fault e))
 
-capture_fault : (octets : List ℕ) (fault : InputFault) → capture_of octets ≡ Err fault → IsFaultyCapture octets fault
-capture_fault octets fault e = go (capture_after 0 nothing (frames_of octets).0) refl e
+capture_fault : (session : ℕ) (octets : List ℕ) (fault : InputFault) → capture_of session octets ≡ Err fault → IsFaultyCapture session octets fault
+capture_fault session octets fault e = go (capture_after 0 (nothing session) (frames_of octets).0) refl e
   where
-    go : (r : Result CaptureSoFar InputFault) → capture_after 0 nothing (frames_of octets).0 ≡ r
-        → (r >>= (ended (length (concat (frames_of octets).0)) (frames_of octets).1)) ≡ Err fault → IsFaultyCapture octets fault
+    go : (r : Result CaptureSoFar InputFault) → capture_after 0 (nothing session) (frames_of octets).0 ≡ r
+        → (r >>= (ended (length (concat (frames_of octets).0)) (frames_of octets).1)) ≡ Err fault → IsFaultyCapture session octets fault
     go (Err f) k e =
         let s = is_stream octets in
-        let p = first_wrong 0 nothing (frames_of octets).0 s.rest fault s.each session_opens (k ∙ e) in
+        let p = first_wrong 0 (nothing session) (frames_of octets).0 s.rest fault s.each session_opens (k ∙ e) in
         let here : 0 + length (concat p.messages) ≡ length (concat p.messages) = omega arith in
         record {
           messages = p.messages;
@@ -253,43 +254,43 @@ capture_fault octets fault e = go (capture_after 0 nothing (frames_of octets).0)
           rest = s.rest;
           so_far = now;
           whole = s.whole;
-          before = all_found 0 nothing now (frames_of octets).0 s.each session_opens k;
+          before = all_found 0 (nothing session) now (frames_of octets).0 s.each session_opens k;
           wrong = ended_wrong (length (concat (frames_of octets).0)) s.rest (frames_of octets).1 now fault s.ends e;
         }
 
-pub input_fault : (octets : List ℕ) (fault : InputFault) → (is_export octets ≡ true → AllByRecursion (λ (b : ℕ). b < 256) octets) → input_of octets ≡ Err fault → IsFirstFault octets fault
-input_fault octets fault all e = go (is_export octets) refl e
+pub input_fault : (input : InputView) (fault : InputFault) → (is_export input.octets ≡ true → AllByRecursion (λ (b : ℕ). b < 256) input.octets) → read_input input ≡ Err fault → IsFirstFault input fault
+input_fault input fault all e = go (is_export input.octets) refl e
   where
-    read : is_export octets ≡ true → (r : Result (List PacketReport) ExportFault) → reading octets ≡ r → exported r ≡ Err fault → IsFirstFault octets fault
+    read : is_export input.octets ≡ true → (r : Result (List PacketReport) ExportFault) → reading input.octets ≡ r → exported input.session r ≡ Err fault → IsFirstFault input fault
     read k (Ok rs) j e = absurd cc
-    read k (Err f) j e = AnExport k f (export_fault octets f (bytes octets (all k)) j) (sym (same_fault (Export f) fault e))
+    read k (Err f) j e = AnExport k f (export_fault input.octets f (bytes input.octets (all k)) j) (sym (same_fault (Export f) fault e))
 
-    go : (b : Bool) → is_export octets ≡ b → cond b (exported (reading octets)) (capture_of octets) ≡ Err fault → IsFirstFault octets fault
-    go true k e = read k (reading octets) refl e
-    go false k e = ACapture k (capture_fault octets fault e)
+    go : (b : Bool) → is_export input.octets ≡ b → cond b (exported input.session (reading input.octets)) (capture_of input.session input.octets) ≡ Err fault → IsFirstFault input fault
+    go true k e = read k (reading input.octets) refl e
+    go false k e = ACapture k (capture_fault input.session input.octets fault e)
 
 -- the session after messages that were read
 session_kept : (h : CaptureSoFar) (ms : List (List ℕ)) (after : CaptureSoFar) → AreRead h ms after → IsSession h.templates → IsSession after.templates
 session_kept h [] after p ok = subst (λ (x : CaptureSoFar). IsSession x.templates) (sym p) ok
-session_kept h (m ∷ ms) after p ok = session_kept (with_message h p.given) ms after p.others (session_stays h.templates p.header m p.sets p.given ok p.reading)
+session_kept h (m ∷ ms) after p ok = session_kept (with_message h p.given) ms after p.others (session_stays h.templates (source_of h.session p.header) m p.sets p.given ok p.reading)
 
 cut_short : (at : ℕ) (rest : List ℕ) (h : CaptureSoFar) → 0 < length rest → ended at (Holds rest) h ≡ Err (Wire at Short)
 cut_short at [] h some = absurd (omega (arith, some))
 cut_short at (b ∷ bs) h some = refl
 
 -- Octets of a capture behind messages that are read.
-module _ (octets : List ℕ) (ms : List (List ℕ)) (rest : List ℕ) (h : CaptureSoFar) (split : octets ≡ concat ms ++ rest) (before : AreRead nothing ms h) where
+module _ (session : ℕ) (octets : List ℕ) (ms : List (List ℕ)) (rest : List ℕ) (h : CaptureSoFar) (split : octets ≡ concat ms ++ rest) (before : AreRead (nothing session) ms h) where
   abbrev at : ℕ
   at = length (concat ms)
 
-  all_after : capture_after 0 nothing ms ≡ Ok h
-  all_after = all_only 0 nothing ms h before
+  all_after : capture_after 0 (nothing session) ms ≡ Ok h
+  all_after = all_only 0 (nothing session) ms h before
 
   frames : AllByRecursion IsFrame ms
-  frames = frames_all nothing ms h before
+  frames = frames_all (nothing session) ms h before
 
   -- they begin with a message that is refused
-  pub refused_there : (m behind : List ℕ) (fault : InputFault) → rest ≡ m ++ behind → IsFrame m → capture_with at h m ≡ Err fault → capture_of octets ≡ Err fault
+  pub refused_there : (m behind : List ℕ) (fault : InputFault) → rest ≡ m ++ behind → IsFrame m → capture_with at h m ≡ Err fault → capture_of session octets ≡ Err fault
   refused_there m behind fault parts frame e =
       let all = ms ++ m ∷ [] in
       let stream : IsStream (concat all) all (Holds []) = record {
@@ -299,20 +300,20 @@ module _ (octets : List ℕ) (ms : List (List ℕ)) (rest : List ℕ) (h : Captu
         ends = (refl, inl (omega arith));
       } in
       let here : 0 + at ≡ at = omega arith in
-      let stops : capture_after 0 nothing all ≡ Err fault =
-      all_on 0 nothing ms (m ∷ []) h all_after ∙ ap (λ (n : ℕ). capture_after n h (m ∷ [])) here ∙ all_refused at h m [] fault e in
-      ap (λ (o : List ℕ). capture_of o) (frame_more octets ms m rest behind split parts) ∙ capture_stops (concat all) behind all (Holds []) fault stream stops
+      let stops : capture_after 0 (nothing session) all ≡ Err fault =
+      all_on 0 (nothing session) ms (m ∷ []) h all_after ∙ ap (λ (n : ℕ). capture_after n h (m ∷ [])) here ∙ all_refused at h m [] fault e in
+      ap (λ (o : List ℕ). capture_of session o) (frame_more octets ms m rest behind split parts) ∙ capture_stops session (concat all) behind all (Holds []) fault stream stops
 
-  pub no_message : (f : WireFault) → 0 < length rest → wire.IsFirstFault rest f → capture_of octets ≡ Err (Wire at f)
+  pub no_message : (f : WireFault) → 0 < length rest → wire.IsFirstFault rest f → capture_of session octets ≡ Err (Wire at f)
   no_message f some w =
       elim w [
         | inl part ↦
             let stream : IsStream octets ms (Holds rest) = record { rest = rest; whole = split; each = frames; ends = (refl, part.1) } in
-            capture_ends octets ms (Holds rest) h stream all_after ∙ cut_short at rest h some ∙ ap (λ (x : WireFault). Err (Wire at x)) (sym part.0)
+            capture_ends session octets ms (Holds rest) h stream all_after ∙ cut_short at rest h some ∙ ap (λ (x : WireFault). Err (Wire at x)) (sym part.0)
         | inr more ↦ elim more [
           | inl bad ↦
               let stream : IsStream octets ms (Failed f) = record { rest = rest; whole = split; each = frames; ends = bad } in
-              capture_ends octets ms (Failed f) h stream all_after
+              capture_ends session octets ms (Failed f) h stream all_after
           | inr sets ↦
               let m = take (length_at rest) rest in
               let behind = drop (length_at rest) rest in
@@ -327,7 +328,7 @@ module _ (octets : List ℕ) (ms : List (List ℕ)) (rest : List ℕ) (h : Captu
       ]
 
   wrong_message : (header : Header) (sets : List SetSpan) (f : DecodeFault) → IsMessage rest header sets
-      → templates.IsFirstFault h.templates header (take header.length rest) sets f → capture_of octets ≡ Err (Decode at f)
+      → templates.IsFirstFault h.templates (source_of h.session header) (take header.length rest) sets f → capture_of session octets ≡ Err (Decode at f)
   wrong_message header sets f p w =
       let m = take header.length rest in
       let behind = drop header.length rest in
@@ -337,35 +338,35 @@ module _ (octets : List ℕ) (ms : List (List ℕ)) (rest : List ℕ) (h : Captu
       let there : IsMessage (m ++ behind) header sets = subst (λ (o : List ℕ). IsMessage o header sets) parts p in
       let facts : length_at (m ++ behind) ≡ length m = sym (ap (λ (x : Header). x.length) there.header) ∙ sym size in
       let own : IsMessage m header sets = message_own m behind header sets (sym size) there in
-      let session = session_kept nothing ms h before session_opens in
+      let kept = session_kept (nothing session) ms h before session_opens in
       let whole : take header.length m ≡ m = take_all header.length m (omega (arith, size)) in
       refused_there m behind (Decode at f) parts (frame_own m behind long there.version facts)
-      (with_is at h m m h.templates header sets (Err f) (message_only m header sets own) refl (sym whole) (reading_no_other h.templates header m sets f session.octets w))
+      (with_is at h m m h.session h.templates header sets (Err f) (message_only m header sets own) refl refl (sym whole) (reading_no_other h.templates (source_of h.session header) m sets f kept.octets w))
 
-capture_no_other : (octets : List ℕ) (fault : InputFault) → IsFaultyCapture octets fault → capture_of octets ≡ Err fault
-capture_no_other octets fault p = go p.wrong
+capture_no_other : (session : ℕ) (octets : List ℕ) (fault : InputFault) → IsFaultyCapture session octets fault → capture_of session octets ≡ Err fault
+capture_no_other session octets fault p = go p.wrong
   where
-    go : IsFaultyMessage p.so_far (length (concat p.messages)) p.rest fault → capture_of octets ≡ Err fault
-    go (NoMessage some f w is) = no_message octets p.messages p.rest p.so_far p.whole p.before f some w ∙ ap (λ (x : InputFault). Err x) (sym is)
+    go : IsFaultyMessage p.so_far (length (concat p.messages)) p.rest fault → capture_of session octets ≡ Err fault
+    go (NoMessage some f w is) = no_message session octets p.messages p.rest p.so_far p.whole p.before f some w ∙ ap (λ (x : InputFault). Err x) (sym is)
     go (WrongMessage header sets message f w is) =
-        wrong_message octets p.messages p.rest p.so_far p.whole p.before header sets f message w ∙ ap (λ (x : InputFault). Err x) (sym is)
+        wrong_message session octets p.messages p.rest p.so_far p.whole p.before header sets f message w ∙ ap (λ (x : InputFault). Err x) (sym is)
 
-pub input_no_other : (octets : List ℕ) (fault : InputFault) → IsFirstFault octets fault → input_of octets ≡ Err fault
-input_no_other octets fault (AnExport k f wrong is) =
-    ap (λ z. cond z (exported (reading octets)) (capture_of octets)) k ∙ ap (λ (r : Result (List PacketReport) ExportFault). exported r) (export_no_other octets f wrong)
+pub input_no_other : (input : InputView) (fault : InputFault) → IsFirstFault input fault → read_input input ≡ Err fault
+input_no_other input fault (AnExport k f wrong is) =
+    ap (λ z. cond z (exported input.session (reading input.octets)) (capture_of input.session input.octets)) k ∙ ap (λ (r : Result (List PacketReport) ExportFault). exported input.session r) (export_no_other input.octets f wrong)
     ∙ ap (λ (x : InputFault). Err x) (sym is)
-input_no_other octets fault (ACapture k p) = ap (λ z. cond z (exported (reading octets)) (capture_of octets)) k ∙ capture_no_other octets fault p
+input_no_other input fault (ACapture k p) = ap (λ z. cond z (exported input.session (reading input.octets)) (capture_of input.session input.octets)) k ∙ capture_no_other input.session input.octets fault p
 
 -- a fault of what was gathered is the fault of the reading
 gathered_holds : (r : Result CaptureSoFar InputFault) (fault : InputFault) → gathered_of r ≡ Err fault → r ≡ Err fault
 gathered_holds (Ok h) fault e = absurd cc
 gathered_holds (Err f) fault e = let same : f ≡ fault = cc in ap (λ (x : InputFault). Err x) same
 
-pub capture_first : (octets : List ℕ) (r : Result Gathered InputFault) → is_export octets ≡ false → Gives faults.Memory gathered_view r (gathered_of (capture_of octets))
-    → IfErr r (λ f. f ≢ faults.Memory → IsFirstFault octets f)
-capture_first octets r other g =
-    gives_err faults.Memory gathered_view (λ (f : InputFault). IsFirstFault octets f) r (gathered_of (capture_of octets))
-    (λ f e. ACapture other (capture_fault octets f (gathered_holds (capture_of octets) f e))) g
+pub capture_first : (input : InputView) (r : Result Gathered InputFault) → is_export input.octets ≡ false → Gives faults.Memory gathered_view r (gathered_of (capture_of input.session input.octets))
+    → IfErr r (λ f. f ≢ faults.Memory → IsFirstFault input f)
+capture_first input r other g =
+    gives_err faults.Memory gathered_view (λ (f : InputFault). IsFirstFault input f) r (gathered_of (capture_of input.session input.octets))
+    (λ f e. ACapture other (capture_fault input.session input.octets f (gathered_holds (capture_of input.session input.octets) f e))) g
 
-pub export_first : (octets : List ℕ) (f : ExportFault) → is_export octets ≡ true → IsFaultyExport octets f → IsFirstFault octets (Export f)
-export_first octets f is wrong = AnExport is f wrong refl
+pub export_first : (input : InputView) (f : ExportFault) → is_export input.octets ≡ true → IsFaultyExport input.octets f → IsFirstFault input (Export f)
+export_first input f is wrong = AnExport is f wrong refl

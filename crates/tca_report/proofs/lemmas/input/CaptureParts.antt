@@ -59,28 +59,28 @@ in_longer octets behind ms (Holds held) s =
     ((frames_of (held ++ behind)).0, (frames_of (held ++ behind)).1, joined octets behind held ms (frames_of (held ++ behind)).0 (frames_of (held ++ behind)).1 s (is_stream (held ++ behind)))
 in_longer octets behind ms (Failed fault) s = ([], Failed fault, subst (λ z. IsStream (octets ++ behind) z (Failed fault)) (sym (append-nil ms)) (fails_on octets behind ms fault s))
 
-capture_is : (octets : List ℕ) (ms : List (List ℕ)) (after : Framing) → IsStream octets ms after
-    → capture_of octets ≡ ((capture_after 0 nothing ms) >>= (ended (length (concat ms)) after))
-capture_is octets ms after s =
+capture_is : (session : ℕ) (octets : List ℕ) (ms : List (List ℕ)) (after : Framing) → IsStream octets ms after
+    → capture_of session octets ≡ ((capture_after 0 (nothing session) ms) >>= (ended (length (concat ms)) after))
+capture_is session octets ms after s =
     let same = frames_are octets ms after s in
-    ap₂ (λ (z : List (List ℕ)) (x : Framing). ((capture_after 0 nothing z) >>= (ended (length (concat z)) x))) same.0 same.1
+    ap₂ (λ (z : List (List ℕ)) (x : Framing). ((capture_after 0 (nothing session) z) >>= (ended (length (concat z)) x))) same.0 same.1
 
 -- the end of a capture whose messages are read
-pub capture_ends : (octets : List ℕ) (ms : List (List ℕ)) (after : Framing) (now : CaptureSoFar) → IsStream octets ms after → capture_after 0 nothing ms ≡ Ok now
-    → capture_of octets ≡ ended (length (concat ms)) after now
-capture_ends octets ms after now s e = capture_is octets ms after s ∙ ap (λ (r : Result CaptureSoFar InputFault). (r >>= (ended (length (concat ms)) after))) e
+pub capture_ends : (session : ℕ) (octets : List ℕ) (ms : List (List ℕ)) (after : Framing) (now : CaptureSoFar) → IsStream octets ms after → capture_after 0 (nothing session) ms ≡ Ok now
+    → capture_of session octets ≡ ended (length (concat ms)) after now
+capture_ends session octets ms after now s e = capture_is session octets ms after s ∙ ap (λ (r : Result CaptureSoFar InputFault). (r >>= (ended (length (concat ms)) after))) e
 
 -- a message in front that is refused
-pub capture_stops : (octets behind : List ℕ) (ms : List (List ℕ)) (after : Framing) (fault : InputFault) → IsStream octets ms after → capture_after 0 nothing ms ≡ Err fault
-    → capture_of (octets ++ behind) ≡ Err fault
-capture_stops octets behind ms after fault s e =
+pub capture_stops : (session : ℕ) (octets behind : List ℕ) (ms : List (List ℕ)) (after : Framing) (fault : InputFault) → IsStream octets ms after → capture_after 0 (nothing session) ms ≡ Err fault
+    → capture_of session (octets ++ behind) ≡ Err fault
+capture_stops session octets behind ms after fault s e =
     let l = in_longer octets behind ms after s in
-    capture_is (octets ++ behind) (ms ++ l.0) l.1 l.2 ∙ ap (λ (r : Result CaptureSoFar InputFault). (r >>= (ended (length (concat (ms ++ l.0))) l.1))) (all_stop 0 nothing ms l.0 fault e)
+    capture_is session (octets ++ behind) (ms ++ l.0) l.1 l.2 ∙ ap (λ (r : Result CaptureSoFar InputFault). (r >>= (ended (length (concat (ms ++ l.0))) l.1))) (all_stop 0 (nothing session) ms l.0 fault e)
 
 -- a header with a fault, behind messages that are read
-pub capture_fails : (octets behind : List ℕ) (ms : List (List ℕ)) (fault : WireFault) (now : CaptureSoFar) → IsStream octets ms (Failed fault) → capture_after 0 nothing ms ≡ Ok now
-    → capture_of (octets ++ behind) ≡ Err (Wire (length (concat ms)) fault)
-capture_fails octets behind ms fault now s e = capture_ends (octets ++ behind) ms (Failed fault) now (fails_on octets behind ms fault s) e
+pub capture_fails : (session : ℕ) (octets behind : List ℕ) (ms : List (List ℕ)) (fault : WireFault) (now : CaptureSoFar) → IsStream octets ms (Failed fault) → capture_after 0 (nothing session) ms ≡ Ok now
+    → capture_of session (octets ++ behind) ≡ Err (Wire (length (concat ms)) fault)
+capture_fails session octets behind ms fault now s e = capture_ends session (octets ++ behind) ms (Failed fault) now (fails_on octets behind ms fault s) e
 
 pub all_none : (at : ℕ) (so_far : CaptureSoFar) → capture_after at so_far [] ≡ Ok so_far
 unfolding capture_after

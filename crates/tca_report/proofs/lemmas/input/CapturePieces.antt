@@ -24,7 +24,7 @@ back_frames : (a b : List (List ℕ)) → AllByRecursion IsFrame (a ++ b) → Al
 back_frames [] b all = all
 back_frames (m ∷ a) b all = back_frames a b all.1
 
-module _ (octets piece : List ℕ) (framer after : Framing) (p : CaptureReader) (ms : List (List ℕ)) (r : HasRead octets framer p) (feeds : Feeds framer piece ms after) where
+module _ (session : ℕ) (octets piece : List ℕ) (framer after : Framing) (p : CaptureReader) (ms : List (List ℕ)) (r : HasRead session octets framer p) (feeds : Feeds framer piece ms after) where
   pub fed : IsStream (octets ++ piece) (r.messages ++ ms) after
   fed = joined octets piece r.held r.messages ms after r.stream (subst (λ f. Feeds f piece ms after) r.holds feeds)
 
@@ -45,15 +45,15 @@ module _ (octets piece : List ℕ) (framer after : Framing) (p : CaptureReader) 
   pub within_piece : p.at + length (concat ms) ≤ length octets + length piece
   within_piece = omega (arith, far, ap length fed.whole, length-append octets piece, length-append (concat (r.messages ++ ms)) fed.rest)
 
-  after_on : (given : Result CaptureSoFar InputFault) → capture_after p.at r.so_far ms ≡ given → capture_after 0 nothing (r.messages ++ ms) ≡ given
+  after_on : (given : Result CaptureSoFar InputFault) → capture_after p.at r.so_far ms ≡ given → capture_after 0 (nothing session) (r.messages ++ ms) ≡ given
   after_on given e =
       let here : 0 + length (concat r.messages) ≡ p.at = omega (arith, r.at) in
-      all_on 0 nothing r.messages ms r.so_far r.read ∙ ap (λ n. capture_after n r.so_far ms) here ∙ e
+      all_on 0 (nothing session) r.messages ms r.so_far r.read ∙ ap (λ n. capture_after n r.so_far ms) here ∙ e
 
-  pub read_on : (q : CaptureReader) (now : CaptureSoFar) → fault_of after ≡ None → capture_after p.at r.so_far ms ≡ Ok now → Agrees q now → q.at ≡ p.at + length (concat ms) → HasRead (octets ++ piece) after q
+  pub read_on : (q : CaptureReader) (now : CaptureSoFar) → fault_of after ≡ None → capture_after p.at r.so_far ms ≡ Ok now → Agrees q now → q.at ≡ p.at + length (concat ms) → HasRead session (octets ++ piece) after q
   read_on q now well e agrees at = go after well fed
     where
-      go : (x : Framing) → fault_of x ≡ None → IsStream (octets ++ piece) (r.messages ++ ms) x → HasRead (octets ++ piece) x q
+      go : (x : Framing) → fault_of x ≡ None → IsStream (octets ++ piece) (r.messages ++ ms) x → HasRead session (octets ++ piece) x q
       go (Holds held) none stream = record {
         messages = r.messages ++ ms;
         held = held;
@@ -66,17 +66,17 @@ module _ (octets piece : List ℕ) (framer after : Framing) (p : CaptureReader) 
       }
       go (Failed fault) none stream = absurd cc
 
-  pub stops_here : (behind : List ℕ) (fault : InputFault) → capture_after p.at r.so_far ms ≡ Err fault → capture_of ((octets ++ piece) ++ behind) ≡ Err fault
-  stops_here behind fault e = capture_stops (octets ++ piece) behind (r.messages ++ ms) after fault fed (after_on (Err fault) e)
+  pub stops_here : (behind : List ℕ) (fault : InputFault) → capture_after p.at r.so_far ms ≡ Err fault → capture_of session ((octets ++ piece) ++ behind) ≡ Err fault
+  stops_here behind fault e = capture_stops session (octets ++ piece) behind (r.messages ++ ms) after fault fed (after_on (Err fault) e)
 
   pub fails_here : (behind : List ℕ) (fault : WireFault) (now : CaptureSoFar) → fault_of after ≡ Some fault → capture_after p.at r.so_far ms ≡ Ok now
-      → capture_of ((octets ++ piece) ++ behind) ≡ Err (Wire (p.at + length (concat ms)) fault)
+      → capture_of session ((octets ++ piece) ++ behind) ≡ Err (Wire (p.at + length (concat ms)) fault)
   fails_here behind fault now bad e = go after bad fed
     where
-      go : (x : Framing) → fault_of x ≡ Some fault → IsStream (octets ++ piece) (r.messages ++ ms) x → capture_of ((octets ++ piece) ++ behind) ≡ Err (Wire (p.at + length (concat ms)) fault)
+      go : (x : Framing) → fault_of x ≡ Some fault → IsStream (octets ++ piece) (r.messages ++ ms) x → capture_of session ((octets ++ piece) ++ behind) ≡ Err (Wire (p.at + length (concat ms)) fault)
       go (Holds held) some stream = absurd cc
       go (Failed other) some stream =
-          capture_fails (octets ++ piece) behind (r.messages ++ ms) other now stream (after_on (Ok now) e)
+          capture_fails session (octets ++ piece) behind (r.messages ++ ms) other now stream (after_on (Ok now) e)
           ∙ ap₂ (λ (n : ℕ) (f : WireFault). Err (Wire n f)) far (same_fault other fault some)
 
 ends_well : (at : ℕ) (held : List ℕ) (so_far : CaptureSoFar) → ending (Holds held) ≡ Ok tt → ended at (Holds held) so_far ≡ Ok so_far
@@ -92,21 +92,21 @@ cut_alone [] fault e = absurd cc
 cut_alone (b ∷ bs) fault e = cc
 
 -- a capture's end takes no memory
-pub no_memory_at_end : (octets : List ℕ) (framer : Framing) (p : CaptureReader) (fault : WireFault) → HasRead octets framer p → ending framer ≡ Err fault → fault ≢ Memory
-no_memory_at_end octets framer p fault r e =
+pub no_memory_at_end : (session : ℕ) (octets : List ℕ) (framer : Framing) (p : CaptureReader) (fault : WireFault) → HasRead session octets framer p → ending framer ≡ Err fault → fault ≢ Memory
+no_memory_at_end session octets framer p fault r e =
     let cut = cut_alone r.held fault (ap ending (sym r.holds) ∙ e) in
     λ m. cc
 
 -- a capture that ends behind a message
-pub all_gathered : (octets : List ℕ) (framer : Framing) (p : CaptureReader) → HasRead octets framer p → ending framer ≡ Ok tt → gathered_of (capture_of octets) ≡ Ok (p.taken.reports.items, noted p)
-all_gathered octets framer p r e =
+pub all_gathered : (session : ℕ) (octets : List ℕ) (framer : Framing) (p : CaptureReader) → HasRead session octets framer p → ending framer ≡ Ok tt → gathered_of (capture_of session octets) ≡ Ok (p.taken.reports.items, noted p)
+all_gathered session octets framer p r e =
     let well = ends_well (length (concat r.messages)) r.held r.so_far (ap ending (sym r.holds) ∙ e) in
-    ap gathered_of (capture_ends octets r.messages (Holds r.held) r.so_far r.stream r.read ∙ well)
+    ap gathered_of (capture_ends session octets r.messages (Holds r.held) r.so_far r.stream r.read ∙ well)
     ∙ ap₂ (λ (reports : List PacketReport) (notes : Notes). Ok (reports, notes)) (sym r.agrees.reports) (sym r.agrees.notes)
 
 -- a capture that ends within one
-pub cut_at : (octets : List ℕ) (framer : Framing) (p : CaptureReader) (fault : WireFault) → HasRead octets framer p → ending framer ≡ Err fault → capture_of octets ≡ Err (Wire p.at fault)
-cut_at octets framer p fault r e =
-    capture_ends octets r.messages (Holds r.held) r.so_far r.stream r.read
+pub cut_at : (session : ℕ) (octets : List ℕ) (framer : Framing) (p : CaptureReader) (fault : WireFault) → HasRead session octets framer p → ending framer ≡ Err fault → capture_of session octets ≡ Err (Wire p.at fault)
+cut_at session octets framer p fault r e =
+    capture_ends session octets r.messages (Holds r.held) r.so_far r.stream r.read
     ∙ ends_badly (length (concat r.messages)) r.held r.so_far fault (ap ending (sym r.holds) ∙ e)
     ∙ ap (λ (n : ℕ). Err (Wire n fault)) (sym r.at)

@@ -14,6 +14,7 @@ use Rattle.tca_wire.specs.declared.fault.WireFault.{WireFault}
 use Rattle.tca_wire.specs.declared.fault.WireFault.TheVariants.{Memory}
 use Rattle.tca_wire.proofs.Tiles.{message_found}
 use Rattle.tca_wire.proofs.FirstFaults.{fault_found}
+use Rattle.tca_templates.specs.Records.{source_of}
 use Rattle.tca_templates.specs.Wants as templates
 use Rattle.tca_templates.proofs.SessionMaps.{session_opens}
 use Rattle.tca_report.specs.input.Inputs.{CaptureSoFar, nothing, capture_with, capture_after}
@@ -76,7 +77,7 @@ pub wanted_front : (so_far : CaptureSoFar) (m behind : List ℕ) → IsWantedFor
 wanted_front so_far m behind (TheSets header sets p some) = TheSets header sets (message_front m behind header sets p) some
 wanted_front so_far m behind (ARecord header sets p w) =
     let own = take-append-le header.length m behind p.whole in
-    ARecord header sets (message_front m behind header sets p) (subst (λ (o : List ℕ). templates.WantsMemory so_far.templates header o sets) (sym own) w)
+    ARecord header sets (message_front m behind header sets p) (subst (λ (o : List ℕ). templates.WantsMemory so_far.templates (source_of so_far.session header) o sets) (sym own) w)
 
 pub wanted_first : (at : ℕ) (so_far : CaptureSoFar) (m : List ℕ) (ms : List (List ℕ)) → IsWantedFor so_far m → IsWantedAmong at so_far (m ∷ ms)
 wanted_first at so_far m ms w = record {
@@ -116,10 +117,10 @@ around octets behind rest m a others whole =
     ∙ ap (λ z. concat a ++ z) (append_assoc m (concat others ++ rest) behind)
 
 -- memory that is wanted for a message of a piece
-pub wanted_in_piece : (octets piece : List ℕ) (framer after : Framing) (p : CaptureReader) (ms : List (List ℕ)) (r : HasRead octets framer p) → Feeds framer piece ms after
-    → (behind : List ℕ) → IsWantedAmong p.at r.so_far ms → IsWantedInCapture ((octets ++ piece) ++ behind)
-wanted_in_piece octets piece framer after p ms r feeds behind w =
-    let stream = fed octets piece framer after p ms r feeds in
+pub wanted_in_piece : (session : ℕ) (octets piece : List ℕ) (framer after : Framing) (p : CaptureReader) (ms : List (List ℕ)) (r : HasRead session octets framer p) → Feeds framer piece ms after
+    → (behind : List ℕ) → IsWantedAmong p.at r.so_far ms → IsWantedInCapture session ((octets ++ piece) ++ behind)
+wanted_in_piece session octets piece framer after p ms r feeds behind w =
+    let stream = fed session octets piece framer after p ms r feeds in
     let parts : r.messages ++ ms ≡ (r.messages ++ w.before) ++ (w.message ∷ w.others) =
     ap (λ (l : List (List ℕ)). r.messages ++ l) w.whole ∙ sym (append_assoc r.messages w.before (w.message ∷ w.others)) in
     let here : 0 + length (concat r.messages) ≡ p.at = omega (arith, r.at) in
@@ -128,8 +129,8 @@ wanted_in_piece octets piece framer after p ms r feeds behind w =
       rest = w.message ++ ((concat w.others ++ stream.rest) ++ behind);
       so_far = w.now;
       whole = around (octets ++ piece) behind stream.rest w.message (r.messages ++ w.before) w.others (stream.whole ∙ ap (λ (l : List (List ℕ)). concat l ++ stream.rest) parts);
-      before = all_found 0 nothing w.now (r.messages ++ w.before)
+      before = all_found 0 (nothing session) w.now (r.messages ++ w.before)
           (front_frames (r.messages ++ w.before) (w.message ∷ w.others) (subst (λ (l : List (List ℕ)). AllByRecursion IsFrame l) parts stream.each)) session_opens
-          (all_on 0 nothing r.messages w.before r.so_far r.read ∙ ap (λ (n : ℕ). capture_after n r.so_far w.before) here ∙ w.read);
+          (all_on 0 (nothing session) r.messages w.before r.so_far r.read ∙ ap (λ (n : ℕ). capture_after n r.so_far w.before) here ∙ w.read);
       wanted = wanted_front w.now w.message ((concat w.others ++ stream.rest) ++ behind) w.wanted;
     }

@@ -12,6 +12,7 @@ use Rattle.tca_wire.specs.declared.fault.WireFault.{WireFault}
 use Rattle.tca_wire.proofs.Tiles.{message_found, message_only}
 use Rattle.tca_wire.proofs.FirstFaults.{fault_found}
 use Rattle.tca_wire.proofs.Framings.{length_front, each_both, frame_more}
+use Rattle.tca_templates.specs.Records.{source_of}
 use Rattle.tca_templates.specs.Reading.{read_of}
 use Rattle.tca_templates.proofs.SessionMaps.{session_opens}
 use Rattle.tca_report.specs.input.Inputs.{CaptureSoFar, nothing, with_split, capture_with, capture_after, capture_of}
@@ -54,8 +55,8 @@ module _ (octets : List ℕ) (header : Header) (sets : List SetSpan) (p : IsMess
   own_with : (at : ℕ) (so_far : CaptureSoFar) → capture_with at so_far m ≡ capture_with at so_far octets
   own_with at so_far =
       let whole : take header.length m ≡ m = take_all header.length m (omega (arith, size)) in
-      with_is at so_far m m so_far.templates header sets (read_of so_far.templates header m sets) (message_only m header sets own) refl (sym whole) refl
-      ∙ sym (with_is at so_far octets m so_far.templates header sets (read_of so_far.templates header m sets) (message_only octets header sets p) refl refl refl)
+      with_is at so_far m m so_far.session so_far.templates header sets (read_of so_far.templates (source_of so_far.session header) m sets) (message_only m header sets own) refl refl (sym whole) refl
+      ∙ sym (with_is at so_far octets m so_far.session so_far.templates header sets (read_of so_far.templates (source_of so_far.session header) m sets) (message_only octets header sets p) refl refl refl refl)
 
 -- the frame of a message that was split off
 pub front_frame : (octets : List ℕ) (header : Header) (sets : List SetSpan) → IsMessage octets header sets → IsFrame (take (length_at octets) octets)
@@ -73,8 +74,8 @@ own_read at so_far next octets e = go (message_of octets) refl e
         subst (λ (n : ℕ). capture_with at so_far (take n octets) ≡ Ok next) size (own_with octets x.0 x.1 p at so_far ∙ e)
 
 -- a reader stands behind the messages that it has read
-pub stands : (octets done behind : List ℕ) (framer : Framing) (p : CaptureReader) → HasRead done framer p → octets ≡ done ++ behind → StandsIn octets p
-stands octets done behind framer p r e = record {
+pub stands : (session : ℕ) (octets done behind : List ℕ) (framer : Framing) (p : CaptureReader) → HasRead session done framer p → octets ≡ done ++ behind → StandsIn session octets p
+stands session octets done behind framer p r e = record {
   messages = r.messages;
   rest = r.stream.rest ++ behind;
   so_far = r.so_far;
@@ -85,18 +86,18 @@ stands octets done behind framer p r e = record {
   at = r.at;
 }
 
-module _ (octets left : List ℕ) (p : CaptureReader) (s : StandsIn octets p) (cut : left ≡ drop p.at octets) where
+module _ (session : ℕ) (octets left : List ℕ) (p : CaptureReader) (s : StandsIn session octets p) (cut : left ≡ drop p.at octets) where
   left_is : s.rest ≡ left
   left_is = sym (cut ∙ ap (λ (n : ℕ). drop n octets) s.at ∙ ap (λ (o : List ℕ). drop (length (concat s.messages)) o) s.whole ∙ drop-append_seam (concat s.messages) s.rest)
 
   split : octets ≡ concat s.messages ++ left
   split = s.whole ∙ ap (λ (o : List ℕ). concat s.messages ++ o) left_is
 
-  before : AreRead nothing s.messages s.so_far
-  before = all_found 0 nothing s.so_far s.messages s.each session_opens s.read
+  before : AreRead (nothing session) s.messages s.so_far
+  before = all_found 0 (nothing session) s.so_far s.messages s.each session_opens s.read
 
   pub goes_on : (q : CaptureReader) (next : CaptureSoFar) → capture_with p.at s.so_far left ≡ Ok next → Agrees q next → IsFrame (take (length_at left) left)
-      → q.at ≡ p.at + length_at left → StandsIn octets q
+      → q.at ≡ p.at + length_at left → StandsIn session octets q
   goes_on q next e agrees frame at =
       let m = take (length_at left) left in
       let behind = drop (length_at left) left in
@@ -110,23 +111,23 @@ module _ (octets left : List ℕ) (p : CaptureReader) (s : StandsIn octets p) (c
         so_far = next;
         whole = frame_more octets s.messages m left behind split parts;
         each = each_both s.messages (m ∷ []) s.each (frame, tt);
-        read = all_on 0 nothing s.messages (m ∷ []) s.so_far s.read ∙ ap (λ (n : ℕ). capture_after n s.so_far (m ∷ [])) here
+        read = all_on 0 (nothing session) s.messages (m ∷ []) s.so_far s.read ∙ ap (λ (n : ℕ). capture_after n s.so_far (m ∷ [])) here
             ∙ all_next p.at s.so_far next m [] (own_read p.at s.so_far next left e) ∙ all_none (p.at + length m) next;
         agrees = agrees;
         at = omega (arith, at, s.at, size, far, length-append (concat s.messages) (m ++ []), length-append m []);
       }
 
-  pub refused_here : (fault : InputFault) → 0 < length left → capture_with p.at s.so_far left ≡ Err fault → capture_of octets ≡ Err fault
+  pub refused_here : (fault : InputFault) → 0 < length left → capture_with p.at s.so_far left ≡ Err fault → capture_of session octets ≡ Err fault
   refused_here fault some e = go (message_of left) refl (ap (λ (n : ℕ). capture_with n s.so_far left) (sym s.at) ∙ e)
     where
-      go : (r : Result (Header × List SetSpan) WireFault) → message_of left ≡ r → with_split (length (concat s.messages)) s.so_far left r ≡ Err fault → capture_of octets ≡ Err fault
-      go (Err f) k j = no_message octets s.messages left s.so_far split before f some (fault_found left f k) ∙ j
+      go : (r : Result (Header × List SetSpan) WireFault) → message_of left ≡ r → with_split (length (concat s.messages)) s.so_far left r ≡ Err fault → capture_of session octets ≡ Err fault
+      go (Err f) k j = no_message session octets s.messages left s.so_far split before f some (fault_found left f k) ∙ j
       go (Ok x) k j =
           let message = message_found left x.0 x.1 k in
-          refused_there octets s.messages left s.so_far split before (take x.0.length left) (drop x.0.length left) fault (parts left x.0 x.1 message) (own_frame left x.0 x.1 message)
+          refused_there session octets s.messages left s.so_far split before (take x.0.length left) (drop x.0.length left) fault (parts left x.0 x.1 message) (own_frame left x.0 x.1 message)
           (own_with left x.0 x.1 message (length (concat s.messages)) s.so_far ∙ ap (λ (n : ℕ). capture_with n s.so_far left) (sym s.at) ∙ e)
 
-  pub wanted_here : IsWantedFor s.so_far left → IsWantedInCapture octets
+  pub wanted_here : IsWantedFor s.so_far left → IsWantedInCapture session octets
   wanted_here w = record {
     messages = s.messages;
     rest = left;
@@ -137,8 +138,8 @@ module _ (octets left : List ℕ) (p : CaptureReader) (s : StandsIn octets p) (c
   }
 
 -- nothing is left of the capture
-pub all_read : (octets : List ℕ) (p : CaptureReader) → StandsIn octets p → length octets ≤ p.at → HasRead octets (Holds []) p
-all_read octets p s end =
+pub all_read : (session : ℕ) (octets : List ℕ) (p : CaptureReader) → StandsIn session octets p → length octets ≤ p.at → HasRead session octets (Holds []) p
+all_read session octets p s end =
     let none : s.rest ≡ [] = nil_from_length s.rest (omega (arith, end, s.at, ap length s.whole, length-append (concat s.messages) s.rest)) in
     record {
       messages = s.messages;

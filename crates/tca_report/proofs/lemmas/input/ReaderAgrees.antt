@@ -7,7 +7,7 @@ use Rattle.tca_wire.specs.declared.message.Header.{Header}
 use Rattle.tca_wire.specs.declared.message.SetSpan.{SetSpan}
 use Rattle.tca_wire.specs.declared.fault.WireFault.{WireFault}
 use Rattle.tca_templates.specs.Templates.{Templates}
-use Rattle.tca_templates.specs.Records.{PlacedView}
+use Rattle.tca_templates.specs.Records.{PlacedView, source_of}
 use Rattle.tca_templates.specs.Reading.{ReadMessage, read_of}
 use Rattle.tca_templates.specs.declared.fault.DecodeFault.{DecodeFault}
 use Rattle.tca_report.specs.report.Reports.{PacketReport}
@@ -19,11 +19,12 @@ use Rattle.tca_report.specs.declared.input.Notes.{Notes}
 use Rattle.tca_report.specs.declared.input.capture.CaptureReader.{CaptureReader}
 
 -- what a message adds
-pub with_is : (at : ℕ) (so_far : CaptureSoFar) (octets own : List ℕ) (ts : Templates) (header : Header) (sets : List SetSpan) (read : Result ReadMessage DecodeFault)
-    → message_of octets ≡ Ok (header, sets) → ts ≡ so_far.templates → own ≡ take header.length octets → read_of ts header own sets ≡ read → capture_with at so_far octets ≡ with_reading at so_far read
-with_is at so_far octets own ts header sets read split known here found =
+pub with_is : (at : ℕ) (so_far : CaptureSoFar) (octets own : List ℕ) (number : ℕ) (ts : Templates) (header : Header) (sets : List SetSpan) (read : Result ReadMessage DecodeFault)
+    → message_of octets ≡ Ok (header, sets) → number ≡ so_far.session → ts ≡ so_far.templates → own ≡ take header.length octets → read_of ts (source_of number header) own sets ≡ read → capture_with at so_far octets ≡ with_reading at so_far read
+with_is at so_far octets own number ts header sets read split same known here found =
     ap (λ (x : Result (Header × List SetSpan) WireFault). with_split at so_far octets x) split
-    ∙ ap₂ (λ (t : Templates) (o : List ℕ). with_reading at so_far (read_of t header o sets)) (sym known) (sym here)
+    ∙ ap (λ (n : ℕ). with_reading at so_far (read_of so_far.templates (source_of n header) (take header.length octets) sets)) (sym same)
+    ∙ ap₂ (λ (t : Templates) (o : List ℕ). with_reading at so_far (read_of t (source_of number header) o sets)) (sym known) (sym here)
     ∙ ap (λ (x : Result ReadMessage DecodeFault). with_reading at so_far x) found
 
 taken_more : (r : Result PacketReport NotReport) (reasons : List NotReport) → length (or_taken r reasons) ≤ length reasons + 1
@@ -40,7 +41,8 @@ one_at_most (Some id) = omega arith
 
 -- the progress goes on by a message of so many octets
 pub record GoesOn (p q : CaptureReader) (given : ReadMessage) (size : ℕ) : Type 0 where
-  pub templates : q.decoder ≡ given.templates
+  pub session : q.decoder.number ≡ p.decoder.number
+  pub templates : q.decoder.templates ≡ given.templates
   pub reports : q.taken.reports.items ≡ p.taken.reports.items ++ reports_of given.records
   pub not_reports : (reasons : List NotReport) → p.taken.not_reports ≡ counts_of reasons → length reasons + length given.records < 2 ^ 64 → q.taken.not_reports ≡ counts_of (reasons ++ reasons_of given.records)
   pub messages : q.messages ≡ p.messages + 1
@@ -59,6 +61,7 @@ agrees_more p q so_far given size k g =
     let unplaced = g.unplaced ∙ ap (λ (n : Notes). n.unplaced + one_if given.unplaced) k.notes in
     let skipped = g.skipped ∙ ap (λ (n : Notes). n.skipped + given.skipped) k.notes in
     record {
+      session = g.session ∙ k.session;
       templates = g.templates;
       reports = g.reports ∙ ap (λ (l : List PacketReport). l ++ reports_of given.records) k.reports;
       notes = λ i. record { messages = messages i; not_reports = counts i; unplaced = unplaced i; skipped = skipped i };

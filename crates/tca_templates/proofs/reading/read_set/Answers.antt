@@ -20,14 +20,14 @@ returns-in_err-read_templates-clause-exact g c =
     let m = c.args.message.now in
     let p = err_from_is_err_and c.from_residual.result c.from_residual.ensures.1 in
     rw (p.1, p.2) (λ start given come other.
-    set_changes m.header m.octets.now given c.args.set false (templates_of c.args.templates.now) c.set_body-body.result.now _ (set_2 m.header m.octets.now given c.args.set c.if-set-eq2.true) come.templates c.set_body-body.ensures
+    set_changes c.args.source m.octets.now given c.args.set false (templates_of c.args.templates.now) c.set_body-body.result.now _ (set_2 c.args.source m.octets.now given c.args.set c.if-set-eq2.true) come.templates c.set_body-body.ensures
     (c.in_err-read_templates.ensures.exact other))
 
 pub returns-then-set-eq2-clause-exact : goal.returns-then-set-eq2-clause-exact
 returns-then-set-eq2-clause-exact g c = λ start given come.
     let m = c.args.message.now in (
       record given { templates = templates_of c.read_templates.new.templates },
-      set_changes m.header m.octets.now given c.args.set false (templates_of c.args.templates.now) c.set_body-body.result.now _ (set_2 m.header m.octets.now given c.args.set c.if-set-eq2.true) come.templates c.set_body-body.ensures
+      set_changes c.args.source m.octets.now given c.args.set false (templates_of c.args.templates.now) c.set_body-body.result.now _ (set_2 c.args.source m.octets.now given c.args.set c.if-set-eq2.true) come.templates c.set_body-body.ensures
           c.in_ok-read_templates.ensures.exact,
       record { templates = refl; records = come.records; count = come.count; unplaced = come.unplaced; skipped = come.skipped },
     )
@@ -37,14 +37,14 @@ returns-in_err-read_templates-2-clause-exact g c =
     let m = c.args.message.now in
     let p = err_from_is_err_and c.from_residual-in_err-read_templates-2.result c.from_residual-in_err-read_templates-2.ensures.1 in
     rw (p.1, p.2) (λ start given come other.
-    set_changes m.header m.octets.now given c.args.set true (templates_of c.args.templates.now) c.set_body-body.result.now _ (set_3 m.header m.octets.now given c.args.set c.if-set-eq2.false c.if-set-eq3.true) come.templates c.set_body-body.ensures
+    set_changes c.args.source m.octets.now given c.args.set true (templates_of c.args.templates.now) c.set_body-body.result.now _ (set_3 c.args.source m.octets.now given c.args.set c.if-set-eq2.false c.if-set-eq3.true) come.templates c.set_body-body.ensures
     (c.in_err-read_templates-2.ensures.exact other))
 
 pub returns-then-set-eq3-clause-exact : goal.returns-then-set-eq3-clause-exact
 returns-then-set-eq3-clause-exact g c = λ start given come.
     let m = c.args.message.now in (
       record given { templates = templates_of c.read_templates-then-set-eq3.new.templates },
-      set_changes m.header m.octets.now given c.args.set true (templates_of c.args.templates.now) c.set_body-body.result.now _ (set_3 m.header m.octets.now given c.args.set c.if-set-eq2.false c.if-set-eq3.true) come.templates c.set_body-body.ensures
+      set_changes c.args.source m.octets.now given c.args.set true (templates_of c.args.templates.now) c.set_body-body.result.now _ (set_3 c.args.source m.octets.now given c.args.set c.if-set-eq2.false c.if-set-eq3.true) come.templates c.set_body-body.ensures
           c.in_ok-read_templates-2.ensures.exact,
       record { templates = refl; records = come.records; count = come.count; unplaced = come.unplaced; skipped = come.skipped },
     )
@@ -53,7 +53,7 @@ pub returns-then-set-lt256-clause-exact : goal.returns-then-set-lt256-clause-exa
 returns-then-set-lt256-clause-exact g c = λ start given come.
     let m = c.args.message.now in (
       record given { skipped = given.skipped + 1 },
-      set_skipped m.header m.octets.now given c.args.set c.if-set-eq2.false c.if-set-eq3.false c.if-set-lt256.true,
+      set_skipped c.args.source m.octets.now given c.args.set c.if-set-eq2.false c.if-set-eq3.false c.if-set-lt256.true,
       record { templates = come.templates; records = come.records; count = come.count; unplaced = come.unplaced; skipped = ap (λ n. n + 1) come.skipped },
     )
 
@@ -61,7 +61,7 @@ pub returns-then-is_some-clause-exact : goal.returns-then-is_some-clause-exact
 returns-then-is_some-clause-exact g c = λ start given come.
     let m = c.args.message.now in (
       given,
-      set_stopped m.header m.octets.now given c.args.set c.if-set-eq2.false c.if-set-eq3.false c.if-set-lt256.false (ap is_some come.unplaced ∙ sym c.is_some.ensures ∙ c.if-is_some.true),
+      set_stopped c.args.source m.octets.now given c.args.set c.if-set-eq2.false c.if-set-eq3.false c.if-set-lt256.false (ap is_some come.unplaced ∙ sym c.is_some.ensures ∙ c.if-is_some.true),
       come,
     )
 
@@ -69,8 +69,8 @@ pub returns-in_default-clause-exact : goal.returns-in_default-clause-exact
 returns-in_default-clause-exact g c = λ start given come.
     let m = c.args.message.now in (
       record given { unplaced = Some c.args.set.id },
-      set_unknown m.header m.octets.now given c.args.set c.if-set-eq2.false c.if-set-eq3.false c.if-set-lt256.false (ap is_some come.unplaced ∙ sym c.is_some.ensures ∙ c.if-is_some.false)
-          (ap (λ (ts : Templates). known (m.header.domain, c.args.set.id) ts) come.templates ∙ sym c.in_default.ensures),
+      set_unknown c.args.source m.octets.now given c.args.set c.if-set-eq2.false c.if-set-eq3.false c.if-set-lt256.false (ap is_some come.unplaced ∙ sym c.is_some.ensures ∙ c.if-is_some.false)
+          (ap (λ (ts : Templates). known (c.args.source.domain, c.args.set.id) ts) come.templates ∙ sym c.in_default.ensures),
       record { templates = come.templates; records = come.records; count = come.count; unplaced = refl; skipped = come.skipped },
     )
 
@@ -80,9 +80,9 @@ returns-in_err-count-clause-exact g c =
     let t = template_of c.in-Some.template.now in
     let p = err_from_is_err_and c.from_residual-in_err-count.result c.from_residual-in_err-count.ensures.1 in
     rw (p.1, p.2) (λ start given come other.
-    set_records m.header m.octets.now given c.args.set t c.set_body-body.result.now _
-    (set_known m.header m.octets.now given c.args.set c.if-set-eq2.false c.if-set-eq3.false c.if-set-lt256.false (ap is_some come.unplaced ∙ sym c.is_some.ensures ∙ c.if-is_some.false) t
-    (ap (λ (ts : Templates). known (m.header.domain, c.args.set.id) ts) come.templates ∙ sym c.in-Some.ensures))
+    set_records c.args.source m.octets.now given c.args.set t c.set_body-body.result.now _
+    (set_known c.args.source m.octets.now given c.args.set c.if-set-eq2.false c.if-set-eq3.false c.if-set-lt256.false (ap is_some come.unplaced ∙ sym c.is_some.ensures ∙ c.if-is_some.false) t
+    (ap (λ (ts : Templates). known (c.args.source.domain, c.args.set.id) ts) come.templates ∙ sym c.in-Some.ensures))
     c.set_body-body.ensures (c.in_err-count.ensures.exact start given.records (come.records, come.count) other))
 
 pub returns-clause-exact : goal.returns-clause-exact
@@ -91,9 +91,9 @@ returns-clause-exact g c = λ start given come.
     let t = template_of c.in-Some.template.now in
     let read = c.in_ok-count.ensures.exact start given.records (come.records, come.count) in (
       record given { records = read.0 },
-      set_records m.header m.octets.now given c.args.set t c.set_body-body.result.now _
-          (set_known m.header m.octets.now given c.args.set c.if-set-eq2.false c.if-set-eq3.false c.if-set-lt256.false (ap is_some come.unplaced ∙ sym c.is_some.ensures ∙ c.if-is_some.false) t
-          (ap (λ (ts : Templates). known (m.header.domain, c.args.set.id) ts) come.templates ∙ sym c.in-Some.ensures))
+      set_records c.args.source m.octets.now given c.args.set t c.set_body-body.result.now _
+          (set_known c.args.source m.octets.now given c.args.set c.if-set-eq2.false c.if-set-eq3.false c.if-set-lt256.false (ap is_some come.unplaced ∙ sym c.is_some.ensures ∙ c.if-is_some.false) t
+          (ap (λ (ts : Templates). known (c.args.source.domain, c.args.set.id) ts) come.templates ∙ sym c.in-Some.ensures))
           c.set_body-body.ensures read.1,
       record { templates = come.templates; records = read.2.0; count = read.2.1; unplaced = come.unplaced; skipped = come.skipped },
     )
@@ -104,7 +104,7 @@ returns-in_err-read_templates-clause-wanted g c =
     let p = err_from_is_err_and c.from_residual.result c.from_residual.ensures.1 in
     rw (p.1, p.2) (λ memory start given come.
     let same : c.in_err-read_templates.field-0.0 ≡ Memory = cc in
-    TemplateSet c.if-set-eq2.true (wanted_at (template_front m.header.domain false) given.templates (templates_of c.args.templates.now) (c.args.set.at + 4) (body_of m.octets.now c.args.set) c.set_body-body.result.now
+    TemplateSet c.if-set-eq2.true (wanted_at (template_front c.args.source.domain false) given.templates (templates_of c.args.templates.now) (c.args.set.at + 4) (body_of m.octets.now c.args.set) c.set_body-body.result.now
     come.templates (sym c.set_body-body.ensures) (c.in_err-read_templates.ensures.wanted (ap (λ f. Err f) same))))
 
 pub returns-in_err-read_templates-2-clause-wanted : goal.returns-in_err-read_templates-2-clause-wanted
@@ -113,7 +113,7 @@ returns-in_err-read_templates-2-clause-wanted g c =
     let p = err_from_is_err_and c.from_residual-in_err-read_templates-2.result c.from_residual-in_err-read_templates-2.ensures.1 in
     rw (p.1, p.2) (λ memory start given come.
     let same : c.in_err-read_templates-2.field-0.0 ≡ Memory = cc in
-    OptionsTemplateSet c.if-set-eq3.true (wanted_at (template_front m.header.domain true) given.templates (templates_of c.args.templates.now) (c.args.set.at + 4) (body_of m.octets.now c.args.set) c.set_body-body.result.now
+    OptionsTemplateSet c.if-set-eq3.true (wanted_at (template_front c.args.source.domain true) given.templates (templates_of c.args.templates.now) (c.args.set.at + 4) (body_of m.octets.now c.args.set) c.set_body-body.result.now
     come.templates (sym c.set_body-body.ensures) (c.in_err-read_templates-2.ensures.wanted (ap (λ f. Err f) same))))
 
 pub returns-in_err-count-clause-wanted : goal.returns-in_err-count-clause-wanted
@@ -124,8 +124,8 @@ returns-in_err-count-clause-wanted g c =
     rw (p.1, p.2) (λ memory start given come.
     let same : c.in_err-count.field-0.0 ≡ Memory = cc in
     DataSet c.if-set-lt256.false (come.unplaced ∙ none_is c.args.aside.unplaced (sym c.is_some.ensures ∙ c.if-is_some.false)) t
-    (ap (λ (ts : Templates). known (m.header.domain, c.args.set.id) ts) come.templates ∙ sym c.in-Some.ensures)
-    (wanted_at (data_front m.header t) given.records given.records (c.args.set.at + 4) (body_of m.octets.now c.args.set) c.set_body-body.result.now refl (sym c.set_body-body.ensures)
+    (ap (λ (ts : Templates). known (c.args.source.domain, c.args.set.id) ts) come.templates ∙ sym c.in-Some.ensures)
+    (wanted_at (data_front c.args.source t) given.records given.records (c.args.set.at + 4) (body_of m.octets.now c.args.set) c.set_body-body.result.now refl (sym c.set_body-body.ensures)
     (c.in_err-count.ensures.wanted (ap (λ f. Err f) same) start given.records (come.records, come.count))))
 
 pub returns-in_err-read_templates-clause-few : goal.returns-in_err-read_templates-clause-few

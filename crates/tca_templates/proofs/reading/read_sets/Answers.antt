@@ -39,7 +39,7 @@ pub loop-set-init : goal.loop-set-init
 loop-set-init g c =
     let m = c.args.message.now in
     record {
-      so_far = λ start taken. (before _, record { templates = refl; records = taken; count = refl; unplaced = refl; skipped = refl }, refl, none_read m.header m.octets.now (before (templates_of c.args.templates.now)));
+      so_far = λ start taken. (before _, record { templates = refl; records = taken; count = refl; unplaced = refl; skipped = refl }, refl, none_read c.args.source m.octets.now (before (templates_of c.args.templates.now)));
       few = λ some. omega arith;
       bound = omega arith;
       sets = omega arith;
@@ -54,8 +54,8 @@ returns-in_err-aside-clause-exact g c =
     let p = err_from_is_err_and c.from_residual.result c.from_residual.ensures.1 in
     rw (p.1, p.2) (λ start taken other.
     let w = c.loop-set.invariant.so_far start taken in
-    let same = ap (λ (l : List SetSpan). set_of m.header m.octets.now w.0 (get_or l c.loop-set.set-index blank_set)) (sym c.deref-set-items.ensures.value) in
-    sym w.2 ∙ sets_step m.header m.octets.now w.0 m.sets.items c.loop-set.set-index (Err c.in_err-aside.field-0.0) lt (same ∙ c.in_err-aside.ensures.exact start w.0 w.1 other))
+    let same = ap (λ (l : List SetSpan). set_of c.args.source m.octets.now w.0 (get_or l c.loop-set.set-index blank_set)) (sym c.deref-set-items.ensures.value) in
+    sym w.2 ∙ sets_step c.args.source m.octets.now w.0 m.sets.items c.loop-set.set-index (Err c.in_err-aside.field-0.0) lt (same ∙ c.in_err-aside.ensures.exact start w.0 w.1 other))
 
 pub loop-set-preserved : goal.loop-set-preserved
 loop-set-preserved g c =
@@ -65,10 +65,10 @@ loop-set-preserved g c =
     record {
       so_far = λ start taken.
           let w = c.loop-set.invariant.so_far start taken in
-          let same = ap (λ (l : List SetSpan). set_of m.header m.octets.now w.0 (get_or l c.loop-set.set-index blank_set)) (sym c.deref-set-items.ensures.value) in
+          let same = ap (λ (l : List SetSpan). set_of c.args.source m.octets.now w.0 (get_or l c.loop-set.set-index blank_set)) (sym c.deref-set-items.ensures.value) in
           let next = c.in_ok-aside.ensures.exact start w.0 w.1 in
-          let step = sets_step m.header m.octets.now w.0 m.sets.items c.loop-set.set-index (Ok next.0) lt (same ∙ next.1) in
-          (next.0, next.2, sym step ∙ w.2, rw add-one (sets_more m.header m.octets.now (before (templates_of c.args.templates.now)) w.0 next.0 m.sets.items c.loop-set.set-index lt w.3 (same ∙ next.1)));
+          let step = sets_step c.args.source m.octets.now w.0 m.sets.items c.loop-set.set-index (Ok next.0) lt (same ∙ next.1) in
+          (next.0, next.2, sym step ∙ w.2, rw add-one (sets_more c.args.source m.octets.now (before (templates_of c.args.templates.now)) w.0 next.0 m.sets.items c.loop-set.set-index lt w.3 (same ∙ next.1)));
       few = λ more. rw add-one (omega (arith, tile_next m.sets.items 16 (drop 16 m.octets.now) m.tiled c.loop-set.set-index (omega arith), c.in_ok-aside.ensures.few, ap (λ (s : SetSpan). s.at + s.length) here));
       bound = omega (arith, c.in_ok-aside.ensures.few, ap (λ (s : SetSpan). s.at + s.length) here, (tile_span m.sets.items 16 (drop 16 m.octets.now) m.tiled c.loop-set.set-index lt).within, m.whole, m.room, length-drop 16 m.octets.now);
       sets = omega (arith, lt);
@@ -80,7 +80,7 @@ pub returns-clause-exact : goal.returns-clause-exact
 returns-clause-exact g c = λ start taken.
     let m = c.args.message.now in
     let w = c.loop-set.invariant.so_far start taken in
-    (w.0, sym w.2 ∙ sets_all m.header m.octets.now w.0 m.sets.items c.loop-set.set-index (omega (arith, c.loop-set-test.false, ap length c.deref-set-items.ensures.value)), w.1)
+    (w.0, sym w.2 ∙ sets_all c.args.source m.octets.now w.0 m.sets.items c.loop-set.set-index (omega (arith, c.loop-set-test.false, ap length c.deref-set-items.ensures.value)), w.1)
 
 pub returns-clause-skipped : goal.returns-clause-skipped
 returns-clause-skipped g c =
@@ -103,8 +103,8 @@ returns-in_err-aside-clause-wanted g c =
       behind = drop (suc i) m.sets.items;
       given = w.0;
       whole = three_parts m.sets.items i lt;
-      read = reading_found (templates_of c.args.templates.now) m.header m.octets.now (take i m.sets.items) w.0 (templates_have c.args.templates.now) w.3;
-      wanted = subst (λ (s : SetSpan). IsWantedInSet m.header m.octets.now w.0 s) here (c.in_err-aside.ensures.wanted (ap (λ f. Err f) same) start w.0 w.1);
+      read = reading_found (templates_of c.args.templates.now) c.args.source m.octets.now (take i m.sets.items) w.0 (templates_have c.args.templates.now) w.3;
+      wanted = subst (λ (s : SetSpan). IsWantedInSet c.args.source m.octets.now w.0 s) here (c.in_err-aside.ensures.wanted (ap (λ f. Err f) same) start w.0 w.1);
     })
 
 pub returns-in_err-aside-clause-few : goal.returns-in_err-aside-clause-few

@@ -9,8 +9,8 @@ abbrev pub invariant-loop-set : goal.invariant-loop-set
 invariant-loop-set g l = record {
   so_far : (start : _) → g.T.TakesRecords.took start [] l.fn.taker
       → (given : ReadMessage) × HasCome g.T.TakesRecords.took start l.taker l.templates l.aside given
-      × (sets_on l.message.header l.message.octets.now given (drop l.set-index l.message.sets.items) ≡ read_of (templates_of l.fn.templates) l.message.header l.message.octets.now l.message.sets.items)
-      × (read_of (templates_of l.fn.templates) l.message.header l.message.octets.now (take l.set-index l.message.sets.items) ≡ Ok given);
+      × (sets_on l.source l.message.octets.now given (drop l.set-index l.message.sets.items) ≡ read_of (templates_of l.fn.templates) l.source l.message.octets.now l.message.sets.items)
+      × (read_of (templates_of l.fn.templates) l.source l.message.octets.now (take l.set-index l.message.sets.items) ≡ Ok given);
   few : l.set-index < length l.message.sets.items → l.aside.count ≤ (get_or l.message.sets.items l.set-index blank_set).at;
   bound : l.aside.count ≤ length l.message.octets.now;
   sets : l.set-index ≤ length l.message.sets.items;

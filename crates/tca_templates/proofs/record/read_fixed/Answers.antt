@@ -13,7 +13,7 @@ use Rattle.tca_templates.proofs.record.read_fixed.Goals as goal
 
 pub loop-rest-init : goal.loop-rest-init
 loop-rest-init g c = record {
-  so_far = λ start records at taken. (at, walked_first g.T.TakesRecords.took c.args.header (template_of c.args.template.now) start c.args.taker.now c.args.count at c.args.octets.now records taken);
+  so_far = λ start records at taken. (at, walked_first g.T.TakesRecords.took c.args.source (template_of c.args.template.now) start c.args.taker.now c.args.count at c.args.octets.now records taken);
   few = omega arith;
   size = refl;
 }
@@ -35,7 +35,7 @@ loop-rest-preserved g c =
       so_far = λ start records at taken.
           let w = c.loop-rest.invariant.so_far start records at taken in (
             w.0 + t.shortest,
-            rw c.split_at.ensures.back (walked_more g.T.TakesRecords.took c.args.header (template_of t) start c.loop-rest.taker c.take.new.self c.loop-rest.count w.0 t.shortest rest _ _ _ some w.1 le read
+            rw c.split_at.ensures.back (walked_more g.T.TakesRecords.took c.args.source (template_of t) start c.loop-rest.taker c.take.new.self c.loop-rest.count w.0 t.shortest rest _ _ _ some w.1 le read
                 (c.in_ok-take.ensures start w.1.all w.1.holds)),
           );
       few = rw c.split_at.ensures.back (omega (arith, length-drop t.shortest rest, c.loop-rest.invariant.few, t.some, c.loop-rest-test.true));
@@ -48,7 +48,7 @@ returns-clause-exact g c = λ start records at taken.
     let some : 0 < shortest_of t.specs.items = omega (arith, t.some, t.right) in
     let w = c.loop-rest.invariant.so_far start records at taken in
     let less : length c.loop-rest.rest.now < shortest_of t.specs.items = omega (arith, c.loop-rest-test.false, t.right) in
-    (w.1.all, sym w.1.same ∙ data_ends c.args.header (template_of t) some w.1.all w.0 c.loop-rest.rest.now less, (w.1.holds, w.1.counted))
+    (w.1.all, sym w.1.same ∙ data_ends c.args.source (template_of t) some w.1.all w.0 c.loop-rest.rest.now less, (w.1.holds, w.1.counted))
 
 pub returns-in_err-take-clause-wanted : goal.returns-in_err-take-clause-wanted
 returns-in_err-take-clause-wanted g c =
@@ -58,7 +58,7 @@ returns-in_err-take-clause-wanted g c =
     let p = err_from_is_err_and c.from_residual.result c.from_residual.ensures.1 in
     rw p.1 (λ start records at taken.
     let w = c.loop-rest.invariant.so_far start records at taken in
-    walked_wants g.T.TakesRecords.took c.args.header (template_of t) start c.loop-rest.taker c.loop-rest.count w.0 _ rest _ _ _ w.1 le (size_fixed t.specs.items rest c.requires.laid.fixed le))
+    walked_wants g.T.TakesRecords.took c.args.source (template_of t) start c.loop-rest.taker c.loop-rest.count w.0 _ rest _ _ _ w.1 le (size_fixed t.specs.items rest c.requires.laid.fixed le))
 
 pub returns-in_err-take-clause-exact : goal.returns-in_err-take-clause-exact
 returns-in_err-take-clause-exact g c = grind (arith, common_steps)

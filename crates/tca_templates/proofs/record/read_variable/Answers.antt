@@ -15,7 +15,7 @@ use Rattle.tca_templates.proofs.record.read_variable.Goals as goal
 
 pub loop-rest-init : goal.loop-rest-init
 loop-rest-init g c = record {
-  so_far = λ start records taken. walked_first g.T.TakesRecords.took c.args.header (template_of c.args.template.now) start c.args.taker.now c.args.count c.args.at c.args.octets.now records taken;
+  so_far = λ start records taken. walked_first g.T.TakesRecords.took c.args.source (template_of c.args.template.now) start c.args.taker.now c.args.count c.args.at c.args.octets.now records taken;
   few = omega arith;
   place = refl;
   shortest = refl;
@@ -29,7 +29,7 @@ returns-in_default-clause-exact g c = λ start records taken other.
     let some : 0 < shortest_of t.specs.items = omega (arith, t.some, t.right) in
     let w = c.loop-rest.invariant.so_far start records taken in
     let none = none_located t.specs.items rest (c.in_default.ensures.whole ∙ ap (λ (ss : List FieldSpec). option_map (λ x. x.1) (fields_on [] 0 ss rest)) c.deref.ensures.value) in
-    sym w.same ∙ data_bad c.args.header (template_of t) some w.all c.loop-rest.at rest le none
+    sym w.same ∙ data_bad c.args.source (template_of t) some w.all c.loop-rest.at rest le none
 
 pub returns-in_default-clause-wanted : goal.returns-in_default-clause-wanted
 returns-in_default-clause-wanted g c = λ memory. absurd cc
@@ -83,7 +83,7 @@ loop-rest-preserved g c =
     record {
       so_far = λ start records taken.
           let w = c.loop-rest.invariant.so_far start records taken in
-          rw c.split_at.ensures.back (walked_more g.T.TakesRecords.took c.args.header (template_of t) start c.loop-rest.taker c.take.new.self c.loop-rest.count c.loop-rest.at n rest _ _ _ some w le read
+          rw c.split_at.ensures.back (walked_more g.T.TakesRecords.took c.args.source (template_of t) start c.loop-rest.taker c.take.new.self c.loop-rest.count c.loop-rest.at n rest _ _ _ some w le read
           (c.in_ok-take.ensures start w.all w.holds));
       few = rw c.split_at.ensures.back (omega (arith, length-drop n rest, c.loop-rest.invariant.few, holds.least, holds.within, some));
       place = rw c.split_at.ensures.back (omega (arith, length-drop n rest, c.loop-rest.invariant.place, holds.within));
@@ -96,7 +96,7 @@ returns-clause-exact g c = λ start records taken.
     let some : 0 < shortest_of t.specs.items = omega (arith, t.some, t.right) in
     let w = c.loop-rest.invariant.so_far start records taken in
     let less : length c.loop-rest.rest.now < shortest_of t.specs.items = omega (arith, c.loop-rest-test.false, t.right) in
-    (w.all, sym w.same ∙ data_ends c.args.header (template_of t) some w.all c.loop-rest.at c.loop-rest.rest.now less, (w.holds, w.counted))
+    (w.all, sym w.same ∙ data_ends c.args.source (template_of t) some w.all c.loop-rest.at c.loop-rest.rest.now less, (w.holds, w.counted))
 
 pub returns-in_err-take-clause-wanted : goal.returns-in_err-take-clause-wanted
 returns-in_err-take-clause-wanted g c =
@@ -105,7 +105,7 @@ returns-in_err-take-clause-wanted g c =
     let le : shortest_of t.specs.items ≤ length rest = omega (arith, c.loop-rest-test.true, t.right) in
     let read = size_located t.specs.items rest c.in-Some.size (c.in-Some.ensures.whole ∙ ap (λ (ss : List FieldSpec). option_map (λ x. x.1) (fields_on [] 0 ss rest)) c.deref.ensures.value) in
     λ memory start records taken.
-    walked_wants g.T.TakesRecords.took c.args.header (template_of t) start c.loop-rest.taker c.loop-rest.count c.loop-rest.at _ rest _ _ _ (c.loop-rest.invariant.so_far start records taken) le read
+    walked_wants g.T.TakesRecords.took c.args.source (template_of t) start c.loop-rest.taker c.loop-rest.count c.loop-rest.at _ rest _ _ _ (c.loop-rest.invariant.so_far start records taken) le read
 
 pub returns-in_default-clause-few : goal.returns-in_default-clause-few
 returns-in_default-clause-few g c = grind (arith, common_steps)

@@ -8,7 +8,7 @@ use Rattle.tca_templates.proofs.record.read_variable.Given as goal
 abbrev pub invariant-loop-rest : goal.invariant-loop-rest
 invariant-loop-rest g l = record {
   so_far : (start : _) (records : List PlacedView) → Took g.T.TakesRecords.took start l.fn.taker l.fn.count records
-      → Walked g.T.TakesRecords.took l.header (template_of l.template) start l.taker l.count l.at l.rest records l.fn.at l.octets;
+      → Walked g.T.TakesRecords.took l.source (template_of l.template) start l.taker l.count l.at l.rest records l.fn.at l.octets;
   few : l.count + length l.rest ≤ l.fn.count + length l.octets;
   place : l.at + length l.rest ≡ l.fn.at + length l.octets;
   shortest : l.shortest ≡ l.template.shortest;

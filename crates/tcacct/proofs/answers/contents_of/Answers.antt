@@ -3,6 +3,7 @@ use Rattle.std.proofs.Common.{◌≡◌, ◌∙◌, ◌++◌, ◌∷◌, [], Err
 use Rattle.std.proofs.Math.ListN.{drop_of_length-le}
 use Rattle.std.proofs.lemmas.List.{map-append}
 use Rattle.tca_report.specs.report.Reports.{PacketReport}
+use Rattle.tca_report.specs.input.Inputs.{input_view}
 use Rattle.tcacct.specs.Noted.{IsNoted}
 use Rattle.tcacct.specs.Replicated.{IsInputFault}
 use Rattle.tcacct.specs.Runs.{HoldsReports}
@@ -16,9 +17,9 @@ returns-in_err-noted-clause-refused c =
     let l = c.loop-n in
     let e = c.in_err-noted.field-0.0 in
     let input = c.index-inputs-n.result in
-    let its : c.in_ok-answer.answer.input ≡ input.items = c.in_ok-answer.ensures.same ∙ c.deref.ensures.value in
+    let its : c.in_ok-answer.answer.input ≡ input_view input = c.in_ok-answer.ensures.same in
     let is : c.from_residual-in_err-noted.result ≡ Err e = search rules in
-    rw is (refused_at (λ v. v.items) c.args.inputs.now l.n input e c.loop-n-test.true c.index-inputs-n.is l.invariant.before (subst (λ i. IsInputFault l.n i e) its c.in_err-noted.ensures.refused))
+    rw is (refused_at input_view c.args.inputs.now l.n input e c.loop-n-test.true c.index-inputs-n.is l.invariant.before (subst (λ i. IsInputFault l.n i e) its c.in_err-noted.ensures.refused))
 
 pub loop-n-preserved : goal.loop-n-preserved
 loop-n-preserved c =
@@ -26,18 +27,18 @@ loop-n-preserved c =
     let input = c.index-inputs-n.result in
     let notes = c.in_ok-noted.noted in
     let reports = c.in_ok-noted.reports in
-    let its : c.in_ok-answer.answer.input ≡ input.items = c.in_ok-answer.ensures.same ∙ c.deref.ensures.value in
-    let noted : IsNoted input.items notes = subst (λ i. IsNoted i notes) its c.in_ok-noted.ensures.noted in
-    let holds : HoldsReports input.items reports.items = subst (λ i. HoldsReports i reports.items) its c.in_ok-noted.ensures.holds in
-    let here = cut (λ v. v.items) c.args.inputs.now l.n input c.loop-n-test.true c.index-inputs-n.is in
+    let its : c.in_ok-answer.answer.input ≡ input_view input = c.in_ok-answer.ensures.same in
+    let noted : IsNoted (input_view input) notes = subst (λ i. IsNoted i notes) its c.in_ok-noted.ensures.noted in
+    let holds : HoldsReports (input_view input) reports.items = subst (λ i. HoldsReports i reports.items) its c.in_ok-noted.ensures.holds in
+    let here = cut input_view c.args.inputs.now l.n input c.loop-n-test.true c.index-inputs-n.is in
     let so_far : List (List PacketReport) = map (λ v. v.items) l.lists.items in
     let more_notes : c.push.new.self.items ≡ l.notes.items ++ (notes ∷ []) = search rules in
     let more_lists : c.push-else-is_err.new.self.items ≡ l.lists.items ++ (reports ∷ []) = search rules in
     let more : map (λ v. v.items) c.push-else-is_err.new.self.items ≡ so_far ++ (reports.items ∷ []) = ap (map (λ v. v.items)) more_lists ∙ map-append (λ v. v.items) l.lists.items (reports ∷ []) in
     record {
-      noted = rw more_notes (one_noted _ _ input.items l.notes.items notes noted (rw here at l.invariant.noted));
-      hold = rw more (one_held _ _ input.items so_far reports.items holds (rw here at l.invariant.hold));
-      before = one_sound (λ v. v.items) c.args.inputs.now l.n input c.loop-n-test.true c.index-inputs-n.is l.invariant.before (sound_of input.items notes noted);
+      noted = rw more_notes (one_noted _ _ (input_view input) l.notes.items notes noted (rw here at l.invariant.noted));
+      hold = rw more (one_held _ _ (input_view input) so_far reports.items holds (rw here at l.invariant.hold));
+      before = one_sound input_view c.args.inputs.now l.n input c.loop-n-test.true c.index-inputs-n.is l.invariant.before (sound_of (input_view input) notes noted);
     }
 
 pub returns-clause-read : goal.returns-clause-read

@@ -5,8 +5,10 @@ use Rattle.std.specs.Prelude.{slice_set}
 use Rattle.std.specs.List.{remove}
 use Rattle.std.proofs.Math.ListN.{drop_of_length-le}
 use Rattle.std.proofs.lemmas.List.{get_or_default}
-use Rattle.tca_ingest.specs.Works.{AreSliceResults, IsResult}
+use Rattle.tca_ingest.specs.Works.{AreLentResults, IsResult}
 use Rattle.tca_ingest.specs.declared.job.Done.{Done}
+use Rattle.tca_report.specs.input.Inputs.{input_view}
+use Rattle.tca_report.specs.declared.input.Input.{Input}
 use Rattle.tcacct.specs.Replicated.{ArePut, answers_of}
 use Rattle.tcacct.proofs.ShareLaws.{are_put, few_answers, next_place, next_result, one_more_inside, one_more_put, no_answer, none_put, put_from, same_place}
 use Rattle.tcacct.proofs.answers.put_answers.Goals as goal
@@ -14,7 +16,7 @@ use Rattle.tcacct.proofs.answers.put_answers.Goals as goal
 pub remove-result-requires : goal.remove-result-requires
 remove-result-requires c =
     let l = c.loop-input in
-    let next = next_result (λ (input : Bor (List ℕ)) (d : Done). IsResult input.now d.result) c.args.share.now l.left.items l.input-index c.loop-input-test.true l.invariant.results in
+    let next = next_result (λ (input : Bor Input) (d : Done). IsResult (input_view input.now) d.result) c.args.share.now l.left.items l.input-index c.loop-input-test.true l.invariant.results in
     let some : length l.left.items ≡ suc (length next.more) = ap length next.first in
     search (arith, rules)
 
@@ -31,7 +33,7 @@ loop-input-preserved c =
     let l = c.loop-input in
     let share = c.args.share.now in
     let place = c.args.first + l.input-index * c.args.step in
-    let next = next_result (λ (input : Bor (List ℕ)) (d : Done). IsResult input.now d.result) share l.left.items l.input-index c.loop-input-test.true l.invariant.results in
+    let next = next_result (λ (input : Bor Input) (d : Done). IsResult (input_view input.now) d.result) share l.left.items l.input-index c.loop-input-test.true l.invariant.results in
     let input = next.input in
     let d = next.result in
     let more : c.remove-result.new.self.items ≡ next.more = c.remove-result.ensures.items ∙ ap (λ (ds : List Done). remove ds 0) next.first in
@@ -39,16 +41,17 @@ loop-input-preserved c =
     let few : length l.places.items ≤ 18446744073709551615 = search (arith, rules) in
     let at : l.at ≡ place = same_place l.at place 18446744073709551615 (length l.places.items) l.invariant.at inside few in
     let done : c.remove-result.result ≡ d = c.remove-result.ensures.value ∙ ap (λ (ds : List Done). get_or ds 0 c.remove-result.result) next.first in
-    let same : get_or share l.input-index (record { ref_ptr = (0, 0); now = [] }) ≡ input = get_or_default share l.input-index (record { ref_ptr = (0, 0); now = [] }) input c.loop-input-test.true ∙ sym next.at in
-    let put : c.put_answer.new.places.items ≡ slice_set l.places.items place (Some (record { input = input.now; result = d.result })) =
+    let item = c.input-item.result in
+    let same : item ≡ input = c.input-item.is ∙ get_or_default share l.input-index item input c.loop-input-test.true ∙ sym next.at in
+    let put : c.put_answer.new.places.items ≡ slice_set l.places.items place (Some (record { input = input_view input.now; result = d.result })) =
     c.in_ok-put_answer.ensures.put
-    ∙ ap (λ n. slice_set l.places.items n (Some (record { input = (get_or share l.input-index (record { ref_ptr = (0, 0); now = [] })).now; result = c.remove-result.result.result }))) at
-    ∙ ap₂ (λ (i : Bor (List ℕ)) (d : Done). slice_set l.places.items place (Some (record { input = i.now; result = d.result }))) same done in
+    ∙ ap (λ n. slice_set l.places.items n (Some (record { input = input_view item.now; result = c.remove-result.result.result }))) at
+    ∙ ap₂ (λ (i : Bor Input) (d : Done). slice_set l.places.items place (Some (record { input = input_view i.now; result = d.result }))) same done in
     record {
-      results = subst (AreSliceResults (drop (l.input-index + 1) share)) (sym more) next.zip;
+      results = subst (AreLentResults (drop (l.input-index + 1) share)) (sym more) next.zip;
       at = c.saturating_add-at.ensures ∙ next_place l.at c.args.first l.input-index c.args.step 18446744073709551615 l.invariant.at;
       inside = one_more_inside c.args.first c.args.step l.input-index (length c.args.places.now.items) l.invariant.inside (subst (λ n. place < n) l.invariant.many (subst (λ n. n < length l.places.items) at inside));
-      many = ap length put ∙ length-set l.places.items place (Some (record { input = input.now; result = d.result })) ∙ l.invariant.many;
+      many = ap length put ∙ length-set l.places.items place (Some (record { input = input_view input.now; result = d.result })) ∙ l.invariant.many;
       whole =
           ap (λ (ds : List Done). put_from (c.args.first + (l.input-index + 1) * c.args.step) c.args.step c.put_answer.new.places.items (answers_of (drop (l.input-index + 1) share) ds)) more
           ∙ one_more_put share l.input-index place (c.args.first + (l.input-index + 1) * c.args.step) c.args.step l.places.items c.put_answer.new.places.items l.left.items next.more input d next.here next.first (omega arith) put

@@ -1,5 +1,5 @@
 use Rattle.std.proofs.Common.{◌≡◌, ◌<◌, ◌+◌, ◌*◌, ℕ, length, min, drop}
-use Rattle.tca_ingest.specs.Works.{AreSliceResults}
+use Rattle.tca_ingest.specs.Works.{AreLentResults}
 use Rattle.tcacct.specs.Replicated.{answers_of}
 use Rattle.tcacct.proofs.ShareLaws.{put_from}
 use Rattle.tcacct.proofs.answers.put_answers.Given as goal
@@ -7,7 +7,7 @@ use Rattle.tcacct.proofs.answers.put_answers.Given as goal
 -- those left are the results of the inputs that are left, and put from here on they complete the places; there was a place for each so far
 abbrev pub invariant-loop-input : goal.invariant-loop-input
 invariant-loop-input l = record {
-  results : AreSliceResults (drop l.input-index l.share) l.left.items;
+  results : AreLentResults (drop l.input-index l.share) l.left.items;
   at : l.at ≡ min (l.first + l.input-index * l.step) 18446744073709551615;
   many : length l.places.items ≡ length l.initial.places.items;
   inside : (k : ℕ) → k < l.input-index → l.first + k * l.step < length l.initial.places.items;

@@ -3,7 +3,7 @@ use Rattle.std.proofs.Common.{◌≡◌, None, Ok, Err, rules, subst, inl, inr, 
 use Rattle.tca_ingest.specs.EntryViews.{entry_view}
 use Rattle.tca_ingest.specs.Entries.{Took}
 use Rattle.tca_ingest.specs.Works.{IsResult}
-use Rattle.tca_ingest.specs.declared.job.JobFault.TheVariants.{Input, Share}
+use Rattle.tca_ingest.specs.declared.job.JobFault.TheVariants as job
 use Rattle.tcacct.specs.Replicated.{AnswerView}
 use Rattle.tcacct.specs.Runs.{HoldsReports}
 use Rattle.tcacct.proofs.ReadLaws.{holds_if_taken, noted_if_taken, own_fault, read_of}
@@ -12,7 +12,7 @@ use Rattle.tcacct.proofs.answers.read_answer.Goals as goal
 pub returns-in-Err-Input-clause-refused : goal.returns-in-Err-Input-clause-refused
 returns-in-Err-Input-clause-refused c =
     let fault = c.in-Err-Input.fault in
-    let result : c.args.answer.result ≡ Err (Input fault) = search rules in
+    let result : c.args.answer.result ≡ Err (job.Input fault) = search rules in
     let is : IsResult c.args.answer.input c.args.answer.result = subst (λ (v : AnswerView). IsResult v.input v.result) c.answer.view_is c.answer.invariant in
     inl (own_fault c.args.n c.args.answer.input fault c.input.result c.input.ensures.fault (subst (IsResult c.args.answer.input) result is))
 
@@ -20,7 +20,7 @@ pub returns-in-Err-Share-clause-refused : goal.returns-in-Err-Share-clause-refus
 returns-in-Err-Share-clause-refused c =
     let fault = c.in-Err-Share.fault in
     let input = c.args.answer.input in
-    let result : c.args.answer.result ≡ Err (Share fault) = search rules in
+    let result : c.args.answer.result ≡ Err (job.Share fault) = search rules in
     let is : IsResult input c.args.answer.result = subst (λ (v : AnswerView). IsResult v.input v.result) c.answer.view_is c.answer.invariant in
     let read = subst (IsResult input) result is in
     inr (read_of input read.1.0 read.1.1 read.1.2, inr (fault, read.0, c.share.ensures))

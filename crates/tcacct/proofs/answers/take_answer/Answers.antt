@@ -1,20 +1,22 @@
 use Rattle.std.proofs.lemmas.Grind.{common_steps}
-use Rattle.std.proofs.Common.{◌≡◌, ◌∙◌, ◌<◌, length, Some, ap, sym, rules, arith}
+use Rattle.std.proofs.Common.{◌≡◌, ◌∙◌, ◌<◌, length, Some, false, ap, sym, rules, arith}
 use Rattle.std.specs.Prelude.{slice_get}
 use Rattle.std.proofs.lemmas.Option.{slice_get-get_or}
+use Rattle.tca_report.specs.input.Inputs.{input_view}
 use Rattle.tcacct.specs.Replicated.{AnswerView}
 use Rattle.tcacct.proofs.answers.take_answer.Goals as goal
 
-pub returns-then-ne-clause-stranger : goal.returns-then-ne-clause-stranger
-returns-then-ne-clause-stranger c = λ a here same.
+pub returns-then-not-is_same-clause-stranger : goal.returns-then-not-is_same-clause-stranger
+returns-then-not-is_same-clause-stranger c = λ a here same.
     let places = c.args.places.now.items in
     let inside : c.args.n < length places = search (arith, rules) in
     let was : c.index_mut.result.now ≡ Some c.in-Some.answer = search rules in
     let got : slice_get places c.args.n ≡ Some (Some c.in-Some.answer) = slice_get-get_or places c.args.n c.index_mut.result.now inside ∙ ap Some (sym c.index_mut.ensures.value ∙ was) in
     let is : Some (Some a) ≡ Some (Some c.in-Some.answer) = sym here ∙ got in
     let one : a ≡ c.in-Some.answer = cc in
-    let input : c.in-Some.answer.input ≡ c.args.input.now = sym (ap (λ (v : AnswerView). v.input) one) ∙ same in
-    search rules
+    let input : c.in-Some.answer.input ≡ input_view c.args.input.now = sym (ap (λ (v : AnswerView). v.input) one) ∙ same in
+    let no : c.is_same.result ≡ false = search rules in
+    c.is_same.ensures.other no ((search rules) ∙ input)
 
 pub returns-clause-taken : goal.returns-clause-taken
 returns-clause-taken c =
@@ -32,8 +34,8 @@ index_mut-requires c = grind (arith, common_steps)
 pub returns-in_default-clause-refused : goal.returns-in_default-clause-refused
 returns-in_default-clause-refused c = grind (arith, common_steps)
 
-pub returns-then-ne-clause-refused : goal.returns-then-ne-clause-refused
-returns-then-ne-clause-refused c = grind (arith, common_steps)
+pub returns-then-not-is_same-clause-refused : goal.returns-then-not-is_same-clause-refused
+returns-then-not-is_same-clause-refused c = grind (arith, common_steps)
 
 pub same-answer : goal.same-answer
 same-answer c = grind (arith, common_steps)

@@ -2,7 +2,7 @@ use Rattle.std.proofs.lemmas.Grind.{common_steps}
 use Rattle.std.proofs.Common.{◌≡◌, ◌∙◌, ◌++◌, ◌≤◌, Ok, Err, length, sym, ap, le-ltb, arith}
 use Rattle.tca_join.specs.Sets.{in_order}
 use Rattle.tca_report.specs.report.Reports.{report_cmp}
-use Rattle.tca_report.specs.input.Inputs.{input_of}
+use Rattle.tca_report.specs.input.Inputs.{input_view, read_input}
 use Rattle.tcacct.specs.Runs.{with_input, with_reports}
 use Rattle.tcacct.proofs.InputLaws.{memory_of_gather, refused_as, gathered_ok}
 use Rattle.tcacct.proofs.inputs.add_input.Goals as goal
@@ -13,12 +13,12 @@ returns-in-Ok-add_all-clause-exact c =
     let all = in_order report_cmp (c.args.log.now ++ reports) in
     let is : c.add_all.new.self ≡ all = c.in-Ok-add_all.ensures.ok in
     let few : length all ≤ 4194304 = rw is at c.reports-reports.ensures.limit in
-    let so_far = gathered_ok _ _ c.in-Ok.ensures.exact in
+    let so_far = gathered_ok _ _ (rw c.deref.ensures.value at c.in-Ok.ensures.exact) in
     ap (with_input c.args.n c.args.log.now) so_far.1 ∙ ap (with_reports c.args.n c.args.log.now) (sym so_far.2) ∙ rw (le-ltb 4194304 (length all) few) (ap Ok (sym is))
 
 pub returns-in-Ok-add_all-clause-found : goal.returns-in-Ok-add_all-clause-found
 returns-in-Ok-add_all-clause-found c =
-    let so_far = gathered_ok _ _ c.in-Ok.ensures.exact in (
+    let so_far = gathered_ok _ _ (rw c.deref.ensures.value at c.in-Ok.ensures.exact) in (
       c.in-Ok.gathered.reports.items,
       record { so_far = so_far.0; read = so_far.1; reports = so_far.2 },
       c.in-Ok-add_all.ensures.ok,
@@ -26,16 +26,16 @@ returns-in-Ok-add_all-clause-found c =
 
 pub returns-in-Ok-add_all-clause-noted : goal.returns-in-Ok-add_all-clause-noted
 returns-in-Ok-add_all-clause-noted c =
-    let so_far = gathered_ok _ _ c.in-Ok.ensures.exact in
+    let so_far = gathered_ok _ _ (rw c.deref.ensures.value at c.in-Ok.ensures.exact) in
     record { so_far = so_far.0; read = so_far.1; notes_are = so_far.3 }
 
 pub returns-in-Err-clause-exact : goal.returns-in-Err-clause-exact
 returns-in-Err-clause-exact c =
-    refused_as c.args.n c.args.log.now (input_of c.args.octets.now) c.in-Err.fault c.input.result c.input.ensures.fault c.in-Err.ensures.exact
+    refused_as c.args.n c.args.log.now (read_input (input_view c.args.input.now)) c.in-Err.fault c.input.result c.input.ensures.fault (rw c.deref.ensures.value at c.in-Err.ensures.exact)
 
 pub returns-in-Err-clause-memory_last : goal.returns-in-Err-clause-memory_last
 returns-in-Err-clause-memory_last c =
-    memory_of_gather c.args.n c.args.octets.now c.in-Err.fault c.input.result c.input.ensures.fault (λ m. c.in-Err.ensures.memory_last (ap Err m))
+    memory_of_gather c.args.n (input_view c.args.input.now) c.in-Err.fault c.input.result c.input.ensures.fault (λ m. rw c.deref.ensures.value at (c.in-Err.ensures.memory_wanted (ap Err m)))
 
 pub returns-in-Err-clause-named : goal.returns-in-Err-clause-named
 returns-in-Err-clause-named c = grind (arith, common_steps)

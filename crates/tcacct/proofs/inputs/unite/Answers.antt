@@ -1,7 +1,8 @@
 use Rattle.std.proofs.lemmas.Grind.{common_steps}
 use Rattle.std.proofs.Common.{◌≡◌, ◌∷◌, ◌++◌, [], refl, sym, subst, rules, true≢false, arith}
 use Rattle.std.proofs.Math.ListN.{drop_of_length-le}
-use Rattle.tcacct.proofs.InputLaws.{sound_if_read}
+use Rattle.tca_report.specs.input.Inputs.{input_view}
+use Rattle.tcacct.proofs.InputLaws.{may_lack_if_read}
 use Rattle.tcacct.proofs.Uniting.{all_in, cut_here, goes_on, in_turn, none_taken, one_taken, refused}
 use Rattle.tcacct.proofs.UnionLaws.{IsUnionWith, in_front, no_input, as_union}
 use Rattle.tcacct.proofs.NotedLaws.{all_noted, one_noted}
@@ -12,8 +13,8 @@ loop-n-init c = rw (c.new-log.ensures, c.new-all.ensures.items) (record { exact 
 
 pub returns-in-Err-clause-refused : goal.returns-in-Err-clause-refused
 returns-in-Err-clause-refused c = record {
-  due = refused (λ v. v.items) c.args.inputs.now c.loop-n.n c.loop-n.log _ c.loop-n.invariant.exact c.index-inputs-n.result c.in-Err.fault c.loop-n-test.true c.index-inputs-n.is (rw c.deref.ensures.value at c.in-Err.ensures.exact);
-  turn = in_turn (λ v. v.items) c.args.inputs.now c.loop-n.n c.loop-n.log c.loop-n-test.true c.loop-n.invariant.taken c.index-inputs-n.result c.in-Err.fault c.index-inputs-n.is c.in-Err.ensures.named (rw c.deref.ensures.value at c.in-Err.ensures.log_memory) (rw c.deref.ensures.value at c.in-Err.ensures.memory_last);
+  due = refused input_view c.args.inputs.now c.loop-n.n c.loop-n.log _ c.loop-n.invariant.exact c.index-inputs-n.result c.in-Err.fault c.loop-n-test.true c.index-inputs-n.is (c.in-Err.ensures.exact);
+  turn = in_turn input_view c.args.inputs.now c.loop-n.n c.loop-n.log c.loop-n-test.true c.loop-n.invariant.taken c.index-inputs-n.result c.in-Err.fault c.index-inputs-n.is c.in-Err.ensures.named (c.in-Err.ensures.log_memory) (c.in-Err.ensures.memory_last);
   no_write = c.in-Err.ensures.no_write;
 }
 
@@ -21,14 +22,14 @@ pub loop-n-preserved : goal.loop-n-preserved
 loop-n-preserved c =
     let l = c.loop-n in
     let input = c.index-inputs-n.result in
-    let found = rw c.deref.ensures.value at c.in-Ok.ensures.found in
-    let cut = cut_here (λ v. v.items) c.args.inputs.now l.n l.log _ l.invariant.exact input c.loop-n-test.true c.index-inputs-n.is in
+    let found = c.in-Ok.ensures.found in
+    let cut = cut_here input_view c.args.inputs.now l.n l.log _ l.invariant.exact input c.loop-n-test.true c.index-inputs-n.is in
     let pushed : c.push.new.self.items ≡ l.all.items ++ (c.in-Ok.notes ∷ []) = search rules in
     record {
-      exact = goes_on (λ v. v.items) c.args.inputs.now l.n l.log _ l.invariant.exact input c.add_input.new.log c.loop-n-test.true c.index-inputs-n.is (rw c.deref.ensures.value at c.in-Ok.ensures.exact);
-      taken = one_taken (λ v. v.items) c.args.inputs.now l.n l.log c.loop-n-test.true l.invariant.taken input c.add_input.new.log c.index-inputs-n.is (rw c.deref.ensures.value at c.in-Ok.ensures.exact);
-      union = λ rs all. l.invariant.union rs (subst (λ z. IsUnionWith l.log z rs) (sym cut) (in_front l.log found.0 c.add_input.new.log rs input.items _ found.1 found.2 all));
-      noted = rw pushed (one_noted _ _ input.items l.all.items c.in-Ok.notes (rw c.deref.ensures.value at c.in-Ok.ensures.noted) (rw cut at l.invariant.noted));
+      exact = goes_on input_view c.args.inputs.now l.n l.log _ l.invariant.exact input c.add_input.new.log c.loop-n-test.true c.index-inputs-n.is (c.in-Ok.ensures.exact);
+      taken = one_taken input_view c.args.inputs.now l.n l.log c.loop-n-test.true l.invariant.taken input c.add_input.new.log c.index-inputs-n.is (c.in-Ok.ensures.exact);
+      union = λ rs all. l.invariant.union rs (subst (λ z. IsUnionWith l.log z rs) (sym cut) (in_front l.log found.0 c.add_input.new.log rs (input_view input) _ found.1 found.2 all));
+      noted = rw pushed (one_noted _ _ (input_view input) l.all.items c.in-Ok.notes (c.in-Ok.ensures.noted) (rw cut at l.invariant.noted));
       rises = c.in-Ok.ensures.rises;
     }
 
@@ -37,16 +38,16 @@ returns-clause-united c =
     let l = c.loop-n in
     record {
       union = as_union _ _ (l.invariant.union l.log (rw (drop_of_length-le c.args.inputs.now c.loop-n-test.false) (no_input l.log l.invariant.rises)));
-      taken = all_in (λ v. v.items) c.args.inputs.now l.n l.log _ l.invariant.exact c.loop-n-test.false;
+      taken = all_in input_view c.args.inputs.now l.n l.log _ l.invariant.exact c.loop-n-test.false;
       noted = all_noted _ l.all.items (rw (drop_of_length-le c.args.inputs.now c.loop-n-test.false) at l.invariant.noted);
     }
 
 pub returns-then-is_err-clause-refused : goal.returns-then-is_err-clause-refused
 returns-then-is_err-clause-refused c =
-    let noted = rw c.deref.ensures.value at c.in-Ok.ensures.noted in
+    let noted = c.in-Ok.ensures.noted in
     rw c.input.ensures.fault (record {
       due = λ other. absurd (true≢false other);
-      turn = in_turn (λ v. v.items) c.args.inputs.now c.loop-n.n c.loop-n.log c.loop-n-test.true c.loop-n.invariant.taken c.index-inputs-n.result _ c.index-inputs-n.is refl (λ short. absurd (true≢false (sym short))) (λ short. sound_if_read _ noted.so_far noted.read);
+      turn = in_turn input_view c.args.inputs.now c.loop-n.n c.loop-n.log c.loop-n-test.true c.loop-n.invariant.taken c.index-inputs-n.result _ c.index-inputs-n.is refl (λ short. absurd (true≢false (sym short))) (λ short. may_lack_if_read _ noted.so_far noted.read);
       no_write = refl;
     })
 

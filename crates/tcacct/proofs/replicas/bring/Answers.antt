@@ -32,11 +32,11 @@ unreachable-requires-in_default-entry g c = grind (arith, common_steps)
 pub unreachable-unreachable-in_default-entry : goal.unreachable-unreachable-in_default-entry
 unreachable-unreachable-in_default-entry g c = grind (arith, common_steps)
 
-pub returns-in_err-result-clause-absorbs : goal.returns-in_err-result-clause-absorbs
-returns-in_err-result-clause-absorbs g c = grind (arith, common_steps)
+pub returns-in_err-of_absorb-clause-absorbs : goal.returns-in_err-of_absorb-clause-absorbs
+returns-in_err-of_absorb-clause-absorbs g c = grind (arith, common_steps)
 
-pub returns-in_err-result-clause-refused : goal.returns-in_err-result-clause-refused
-returns-in_err-result-clause-refused g c = grind (arith, common_steps)
+pub returns-in_err-of_absorb-clause-refused : goal.returns-in_err-of_absorb-clause-refused
+returns-in_err-of_absorb-clause-refused g c = grind (arith, common_steps)
 
 pub returns-clause-absorbs : goal.returns-clause-absorbs
 returns-clause-absorbs g c = grind (arith, common_steps)

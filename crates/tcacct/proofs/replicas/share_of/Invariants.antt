@@ -1,5 +1,6 @@
 use Rattle.std.proofs.Common.{◌≡◌, ◌≤◌, ◌++◌, length, map, drop}
-use Rattle.tcacct.specs.Runs.{octets_of}
+use Rattle.tca_report.specs.input.Inputs.{input_view}
+use Rattle.tcacct.specs.Runs.{views_of}
 use Rattle.tcacct.proofs.ShareLaws.{share_from}
 use Rattle.tcacct.proofs.replicas.share_of.Given as goal
 
@@ -7,5 +8,5 @@ use Rattle.tcacct.proofs.replicas.share_of.Given as goal
 abbrev pub invariant-loop-n : goal.invariant-loop-n
 invariant-loop-n l = record {
   within : length l.share.items ≤ l.n;
-  whole : map (λ s. s.now) l.share.items ++ share_from l.n l.remainder l.divisor (octets_of (drop l.n l.inputs)) ≡ share_from 0 l.remainder l.divisor (octets_of l.inputs);
+  whole : map (λ s. input_view s.now) l.share.items ++ share_from l.n l.remainder l.divisor (views_of (drop l.n l.inputs)) ≡ share_from 0 l.remainder l.divisor (views_of l.inputs);
 }

@@ -11,10 +11,11 @@ returns-clause-told c =
     let into = c.args.into.now in
     let from = c.args.from.now in
     let delta = c.in_ok-delta.delta in
+    let ok = c.in_ok-of_absorb.ensures.absorbed in
     let lacking : delta ≡ delta_of (summary_count (counts_of into.chains)) from.chains =
     c.in_ok-delta.ensures ∙ ap (λ (counts : List (ℕ × ℕ)). delta_of (summary_count counts) from.chains) c.in_ok-summary.ensures.exact in
-    c.in_ok-absorb.ensures.state
-    ∙ ap (λ n. appended into (take n (rests (chain_of into) delta))) c.in_ok-absorb.ensures.outcome.1
+    (rw ok at c.absorb.ensures.state)
+    ∙ ap (λ n. appended into (take n (rests (chain_of into) delta))) (rw ok at c.absorb.ensures.outcome).1
     ∙ ap (appended into) (take-length (rests (chain_of into) delta))
     ∙ ap (λ (runs : List RunView). appended into (rests (chain_of into) runs)) lacking
 
@@ -30,8 +31,8 @@ returns-in_err-delta-clause-told c = grind (arith, common_steps)
 pub returns-in_err-delta-clause-refused : goal.returns-in_err-delta-clause-refused
 returns-in_err-delta-clause-refused c = grind (arith, common_steps)
 
-pub returns-in_err-absorb-clause-told : goal.returns-in_err-absorb-clause-told
-returns-in_err-absorb-clause-told c = grind (arith, common_steps)
+pub returns-in_err-of_absorb-clause-told : goal.returns-in_err-of_absorb-clause-told
+returns-in_err-of_absorb-clause-told c = grind (arith, common_steps)
 
-pub returns-in_err-absorb-clause-refused : goal.returns-in_err-absorb-clause-refused
-returns-in_err-absorb-clause-refused c = grind (arith, common_steps)
+pub returns-in_err-of_absorb-clause-refused : goal.returns-in_err-of_absorb-clause-refused
+returns-in_err-of_absorb-clause-refused c = grind (arith, common_steps)

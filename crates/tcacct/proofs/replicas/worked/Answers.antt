@@ -20,8 +20,8 @@ put_answers-requires-clause-results g c = grind (arith, common_steps)
 pub put_answers-requires-clause-apart : goal.put_answers-requires-clause-apart
 put_answers-requires-clause-apart g c = grind (arith, common_steps)
 
-pub returns-in_err-put_answers-in-Ok : goal.returns-in_err-put_answers-in-Ok
-returns-in_err-put_answers-in-Ok g c = grind (arith, common_steps)
+pub returns-in_err-put_answers : goal.returns-in_err-put_answers
+returns-in_err-put_answers g c = grind (arith, common_steps)
 
 pub returns : goal.returns
 returns g c = grind (arith, common_steps)

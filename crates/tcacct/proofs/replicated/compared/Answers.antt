@@ -1,16 +1,26 @@
 use Rattle.std.proofs.lemmas.Grind.{common_steps}
+use Rattle.std.proofs.lemmas.Result.{IfOk-weaker}
 use Rattle.std.proofs.Common.{◌≡◌, ◌≤◌, ◌∙◌, List, length, subst, sym, arith}
-use Rattle.tca_report.specs.report.Reports.{PacketReport}
+use Rattle.std.specs.List.Sorted.{IsStrictlySortedBy}
+use Rattle.tca_join.proofs.Sets.{rises_in_order}
+use Rattle.tca_report.specs.report.Reports.{PacketReport, report_cmp}
 use Rattle.tca_report.specs.export.Spelling.{most_reports}
+use Rattle.tca_report.proofs.lemmas.report.Order.{report_total}
 use Rattle.tcacct.proofs.replicated.compared.Goals as goal
 
+pub returns-clause-whole : goal.returns-clause-whole
+returns-clause-whole c = IfOk-weaker c.held_by.result _ _ (λ x h. h.0 ∙ c.in_ok-reports.ensures) c.held_by.ensures.held
+
 pub returns-clause-held : goal.returns-clause-held
-returns-clause-held c = sym c.deref.ensures.value ∙ c.are_all_of.ensures.same.0 c.if-not-are_all_of.false ∙ c.log.ensures.log
+returns-clause-held c = IfOk-weaker c.held_by.result _ _ (λ x h. h.1 ∙ c.log.ensures.log) c.held_by.ensures.held
+
+pub returns-clause-rises : goal.returns-clause-rises
+returns-clause-rises c =
+    IfOk-weaker c.held_by.result _ _ (λ x h. subst (λ (rs : List PacketReport). IsStrictlySortedBy report_cmp rs) (sym (h.0 ∙ c.in_ok-reports.ensures)) (rises_in_order report_cmp report_total _)) c.held_by.ensures.held
 
 pub returns-clause-limit : goal.returns-clause-limit
 returns-clause-limit c =
-    let same : c.in_ok-reports.reports.items ≡ c.log.result.now = sym c.deref.ensures.value ∙ c.are_all_of.ensures.same.0 c.if-not-are_all_of.false in
-    subst (λ (rs : List PacketReport). length rs ≤ most_reports) (sym same) c.are_all_of.ensures.limit
+    IfOk-weaker c.held_by.result _ _ (λ x h. subst (λ (rs : List PacketReport). length rs ≤ most_reports) (sym h.1) c.held_by.ensures.limit) c.held_by.ensures.held
 
 pub returns-in_err-reports-clause-whole : goal.returns-in_err-reports-clause-whole
 returns-in_err-reports-clause-whole c = grind (arith, common_steps)
@@ -29,15 +39,3 @@ returns-in_err-reports-clause-differs c = grind (arith, common_steps)
 
 pub returns-in_err-reports-clause-refused : goal.returns-in_err-reports-clause-refused
 returns-in_err-reports-clause-refused c = grind (arith, common_steps)
-
-pub returns-then-not-are_all_of-clause-differs : goal.returns-then-not-are_all_of-clause-differs
-returns-then-not-are_all_of-clause-differs c = grind (arith, common_steps)
-
-pub returns-then-not-are_all_of-clause-refused : goal.returns-then-not-are_all_of-clause-refused
-returns-then-not-are_all_of-clause-refused c = grind (arith, common_steps)
-
-pub returns-clause-whole : goal.returns-clause-whole
-returns-clause-whole c = grind (arith, common_steps)
-
-pub returns-clause-rises : goal.returns-clause-rises
-returns-clause-rises c = grind (arith, common_steps)

@@ -11,8 +11,8 @@ create-requires-text-path g c κs within = grind (arith, common_steps)
 pub run_combine-requires : goal.run_combine-requires
 run_combine-requires g c = grind (arith, common_steps)
 
-pub billed-requires-text-plan : goal.billed-requires-text-plan
-billed-requires-text-plan g c κs within = grind (arith, common_steps)
+pub read_plan-requires-text-path : goal.read_plan-requires-text-path
+read_plan-requires-text-path g c κs within = grind (arith, common_steps)
 
 pub billed-requires-after_bounds : goal.billed-requires-after_bounds
 billed-requires-after_bounds g c κs within = grind (arith, common_steps)

@@ -4,6 +4,7 @@ ghost use Rattle.std.specs.Prelude.{◌≡◌, ◌≤◌, IfSome, length};
 
 use super::jobs::exports;
 use super::{FIRST, PARTS, SECOND, THIRD, lengths, plan};
+use crate::tests::commands::plain;
 use crate::tests::meeting::{Meeting, reaches};
 use std::alloc::Global;
 use std::marker::Brand;
@@ -15,13 +16,14 @@ use std::thread::Threads;
 use std::time::Clock;
 use tca_accounts::Plan;
 use tca_ingest::{Gate, Shared, Side, work};
+use tca_report::Input;
 
 // The counts of results, entries and reports after workers took inputs, where the replica closes.
 fn taken<L: Side + Send + Sync, R: Threads + Wait + Sync, G: Gate>(
     rt: &R,
     alloc: Global,
     shared: Shared<L>,
-    inputs: &[Vec<u8>],
+    inputs: &[Input],
     gate: &G,
     workers: u32,
 ) -> Option<(usize, usize, u32)>
@@ -106,12 +108,12 @@ impl<'a, R: Clock + Sync> Gate for Rounds<'a, R> {
 }
 
 // 192 inputs without octets.
-fn empty_inputs(alloc: Global) -> Option<Vec<Vec<u8>>>
+fn empty_inputs(alloc: Global) -> Option<Vec<Input>>
     ensures { IfSome result (λ all. length all.items ≤ 192) }
 {
     let mut all = Vec::new(alloc);
     for _ in 0..192 {
-        if all.push(Vec::new(alloc)).is_err() {
+        if all.push(plain(Vec::new(alloc))).is_err() {
             return None;
         }
     }
@@ -219,7 +221,7 @@ fn works<L: Side + Send + Sync, R: Threads + Wait + Clock + Sync>(
     rt: &R,
     alloc: Global,
     shared: &Shared<L>,
-    inputs: &[Vec<u8>],
+    inputs: &[Input],
     gate: &Holding<'_, R>,
 ) -> bool {
     if inputs.len() > 2 {

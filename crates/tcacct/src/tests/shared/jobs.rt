@@ -4,6 +4,7 @@ ghost use Rattle.std.specs.Prelude.{◌≡◌, ◌≤◌, IfSome, length};
 use super::exchanges::{are_of_three, both, ends, is_gap, tells};
 use super::limits::makes;
 use super::{FIRST, PARTS, SECOND, START, THIRD, closed_with, lengths, plan, with_one_more};
+use crate::tests::commands::plain;
 use std::alloc::{AllocError, Global};
 use std::marker::Brand;
 use std::process::Abort;
@@ -12,37 +13,37 @@ use std::sync::ledger::Blank;
 use std::thread::Threads;
 use tca_accounts::Plan;
 use tca_ingest::{Done, Entry, JobFault, NoGate, Pass, Shared, Side, WorkFault, work};
-use tca_report::{InputFault, Notes};
+use tca_report::{Input, InputFault, Notes};
 
 // The octets of the log export of one report, spelled here by hand.
-fn octets_of(row: (u32, u32, u32)) -> [u8; 35] {
+fn octets_of(row: (u32, u32, u32)) -> [u8; 39] {
     let (place, late, octets) = row;
     let [a, b, c, d, e, f, g, h] = START.wrapping_add(late as u64).to_be_bytes();
     let [i, j, k, l] = place.to_be_bytes();
     let [m, n, o, p] = octets.to_be_bytes();
     [
-        b'T', b'C', b'A', b'X', 0, 1, 0, 0, 0, 1, a, b, c, d, e, f, g, h, 0, 0, 0, 7, i, j, k, l,
-        m, n, o, p, 0, 0, 0, 0, 1,
+        b'T', b'C', b'A', b'X', 0, 2, 0, 0, 0, 1, a, b, c, d, e, f, g, h, 0, 0, 0, 7, 0, 0, 0, 0,
+        i, j, k, l, m, n, o, p, 0, 0, 0, 0, 1,
     ]
 }
 
-// The log export of one report.
-pub(super) fn export(alloc: Global, row: (u32, u32, u32)) -> Result<Vec<u8>, AllocError> {
-    Vec::from_slice(alloc, &octets_of(row))
+// The log export of one report, as an input.
+pub(super) fn export(alloc: Global, row: (u32, u32, u32)) -> Result<Input, AllocError> {
+    Ok(plain(Vec::from_slice(alloc, &octets_of(row))?))
 }
 
 // The exports of at most three reports, one each.
-pub(super) fn exports(alloc: Global, rows: &[(u32, u32, u32)]) -> Option<Vec<Vec<u8>>>
+pub(super) fn exports(alloc: Global, rows: &[(u32, u32, u32)]) -> Option<Vec<Input>>
     ensures { IfSome result (λ all. length all.items ≤ 3) }
 {
     let Ok(mut all) = Vec::with_capacity(alloc, rows.len()) else {
         return None;
     };
     for row in rows {
-        let Ok(octets) = export(alloc, *row) else {
+        let Ok(input) = export(alloc, *row) else {
             return None;
         };
-        if all.push(octets).is_err() {
+        if all.push(input).is_err() {
             return None;
         }
     }
@@ -53,16 +54,16 @@ pub(super) fn exports(alloc: Global, rows: &[(u32, u32, u32)]) -> Option<Vec<Vec
 }
 
 // Two exports, and between them the octets of one that is cut, as a list.
-fn cut_between(alloc: Global) -> Result<Vec<Vec<u8>>, AllocError> {
+fn cut_between(alloc: Global) -> Result<Vec<Input>, AllocError> {
     let mut all = Vec::with_capacity(alloc, 3)?;
     all.push(export(alloc, FIRST)?)?;
-    all.push(Vec::from_slice(alloc, b"TCAX\x00\x01\x00\x00\x00")?)?;
+    all.push(plain(Vec::from_slice(alloc, b"TCAX\x00\x02\x00\x00\x00")?))?;
     all.push(export(alloc, THIRD)?)?;
     Ok(all)
 }
 
 // The same, where there are at most three.
-fn with_a_cut(alloc: Global) -> Option<Vec<Vec<u8>>>
+fn with_a_cut(alloc: Global) -> Option<Vec<Input>>
     ensures { IfSome result (λ all. length all.items ≤ 3) }
 {
     let Ok(all) = cut_between(alloc) else {
@@ -262,7 +263,7 @@ fn take_the_others<L: Side + Send + Sync, R: Threads + Wait + Sync>(
     rt: &R,
     alloc: Global,
     shared: Shared<L>,
-    inputs: &[Vec<u8>],
+    inputs: &[Input],
 ) -> bool
     requires { length inputs.now ≤ 3 }
 {
@@ -310,7 +311,7 @@ fn lack_a_pass<L: Side + Send + Sync, R: Threads + Wait + Sync>(
     rt: &R,
     alloc: Global,
     shared: Shared<L>,
-    inputs: &[Vec<u8>],
+    inputs: &[Input],
 ) -> bool
     requires { length inputs.now ≤ 3 }
 {

@@ -16,7 +16,7 @@ use tca_ingest::{
     Worked, work,
 };
 use tca_log::{Log, LogFault};
-use tca_report::{InputFault, Report};
+use tca_report::{Input, InputFault, Report};
 
 // Whether a job was done, or was refused for memory.
 fn is_done(done: &Done) -> bool {
@@ -73,7 +73,7 @@ fn passes_of<L: Side + Send + Sync, R: Threads + Wait + Sync>(
     rt: &R,
     alloc: Global,
     shared: &Shared<L>,
-    inputs: &[Vec<u8>],
+    inputs: &[Input],
 ) -> Option<Vec<Pass<L>>>
     requires { length inputs.now ≤ 3 }
 {

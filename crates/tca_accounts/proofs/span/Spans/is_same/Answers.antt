@@ -1,7 +1,6 @@
-use Rattle.std.proofs.Common.{◌≡◌, subst}
+use Rattle.std.proofs.Common.{◌≡◌}
 use Rattle.std.specs.Bool.{Decides}
 use Rattle.std.proofs.lemmas.Slice.Eq.{slice_eq-Decides}
-use Rattle.tca_accounts.specs.contracts.span.SpanPartialEq.TheImpl as span_eq
 use Rattle.tca_accounts.proofs.Equal.{span_decides}
 use Rattle.tca_accounts.proofs.span.Spans.is_same.Goals as goal
 

@@ -1,4 +1,4 @@
-use Rattle.std.proofs.Common.{◌≡◌, take, length}
+use Rattle.std.proofs.Common.{◌≡◌, take}
 use Rattle.tca_accounts.proofs.tally.Tallies.is_same.Given as goal
 
 abbrev pub invariant-loop-i : goal.invariant-loop-i

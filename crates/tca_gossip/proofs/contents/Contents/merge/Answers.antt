@@ -1,7 +1,7 @@
 use Rattle.std.proofs.lemmas.Grind.{common_steps}
 use Rattle.std.proofs.Common.{◌≡◌, ◌∙◌, ◌++◌, Some, None, false, cond, nat_lt, length, sym, ap, rules, arith}
 use Rattle.tca_report.specs.report.Reports.{report_cmp}
-use Rattle.tca_report.specs.contracts.report.ReportPartialEq.TheImpl as report_eq
+use Rattle.tca_report.proofs.lemmas.report.Order.{report_eq}
 use Rattle.tca_join.specs.Sets.{in_order}
 use Rattle.tca_join.specs.Chains.{chain_clash, chain_full, chain_joined, differ_at, longer}
 use Rattle.tca_join.specs.Faults.{IsJoinFault}
@@ -24,11 +24,11 @@ returns-in-Err-clause-fault c =
     let fs = c.other.inside.chains in
     let v : ReplicaView = replica_of c.self.inside.name c.self.inside.billing.plan c.self.inside.log es in
     let w : ReplicaView = replica_of c.other.inside.name c.other.inside.billing.plan c.other.inside.log fs in
-    let none : merge_clash report_eq.ghosts.eq v w ≡ None = rw (← c.self.view_is, ← c.other.view_is) at (sym c.clash.ensures ∙ c.in_default.is) in
+    let none : merge_clash report_eq v w ≡ None = rw (← c.self.view_is, ← c.other.view_is) at (sym c.clash.ensures ∙ c.in_default.is) in
     let within : log_full c.self.inside.log c.other.inside.log ≡ false = within_limit (log_full c.self.inside.log c.other.inside.log) (sym c.refusal.ensures ∙ c.in_default-refusal.is) in
-    let fault : IsJoinFault (clash_key (chain_clash report_eq.ghosts.eq) es fs) (map_full chain_full es fs) c.in-Err.fault = rw c.in_ok-chains.ensures at c.in-Err.ensures.fault in
-    let no_chain = (neither (clash_key (differ_at report_eq.ghosts.eq) v.chains w.chains) (cond (nat_lt (length (chain_of v v.name)) (length (chain_of w v.name))) (Some v.name) None) none).0 in
-    let memory = memory_alone report_eq.ghosts.eq es fs c.self.invariant.rises c.in-Err.fault fault no_chain in
+    let fault : IsJoinFault (clash_key (chain_clash report_eq) es fs) (map_full chain_full es fs) c.in-Err.fault = rw c.in_ok-chains.ensures at c.in-Err.ensures.fault in
+    let no_chain = (neither (clash_key (differ_at report_eq) v.chains w.chains) (cond (nat_lt (length (chain_of v v.name)) (length (chain_of w v.name))) (Some v.name) None) none).0 in
+    let memory = memory_alone report_eq es fs c.self.invariant.rises c.in-Err.fault fault no_chain in
     rw (memory, ← c.self.view_is, ← c.other.view_is) (none, within)
 
 pub invariant_of-self : goal.invariant_of-self
@@ -37,10 +37,10 @@ invariant_of-self c =
     let fs = c.other.inside.chains in
     let v : ReplicaView = replica_of c.self.inside.name c.self.inside.billing.plan c.self.inside.log es in
     let w : ReplicaView = replica_of c.other.inside.name c.other.inside.billing.plan c.other.inside.log fs in
-    let none : merge_clash report_eq.ghosts.eq v w ≡ None = rw (← c.self.view_is, ← c.other.view_is) at (sym c.clash.ensures ∙ c.in_default.is) in
+    let none : merge_clash report_eq v w ≡ None = rw (← c.self.view_is, ← c.other.view_is) at (sym c.clash.ensures ∙ c.in_default.is) in
     let chains : c.join_from.new.self ≡ merged chain_joined es fs = rw c.in_ok-chains.ensures at c.in_default-join_from.ensures.ok in
     let log : c.join_from-2.new.self ≡ in_order report_cmp (c.self.inside.log ++ c.other.inside.log) = rw c.in_ok-log.ensures at c.in_default-join_from-2.ensures.ok in
-    rw (chains, log) (merged_agrees report_eq.ghosts.eq exact_report c.self.inside.name c.other.inside.name c.self.inside.log c.other.inside.log es fs c.self.inside.billing c.other.inside.billing c.release.new.self c.self.invariant c.other.invariant none c.release.ensures.plan (without_book _ c.release.new.self c.release.ensures.kept))
+    rw (chains, log) (merged_agrees report_eq exact_report c.self.inside.name c.other.inside.name c.self.inside.log c.other.inside.log es fs c.self.inside.billing c.other.inside.billing c.release.new.self c.self.invariant c.other.invariant none c.release.ensures.plan (without_book _ c.release.new.self c.release.ensures.kept))
 
 pub returns-clause-ok : goal.returns-clause-ok
 returns-clause-ok c =

@@ -1,5 +1,5 @@
 use Rattle.std.proofs.Common.{arith, length, ap}
-use Rattle.tca_meters.specs.declared.any_meter.AnyMeter.{AnyMeter}
+use Rattle.tca_meters.specs.Termed.{TermedMeter}
 use Rattle.std.proofs.Common.{List}
 use Rattle.tca_log.specs.Disputes.{disputed}
 use Rattle.tca_replay.specs.Lanes.{LaneView}
@@ -25,7 +25,7 @@ pub returns-clause-settled : goal.returns-clause-settled
 returns-clause-settled g c = rw c.resume_all-steps.ensures.lanes (settled_all c.in_ok-lanes.lanes.items)
 
 pub returns-clause-steps : goal.returns-clause-steps
-returns-clause-steps g c = omega (arith, c.resume_all-steps.ensures.steps, resumed_steps c.in_ok-lanes.lanes.items, ap (λ (ls : List (LaneView AnyMeter)). all_steps ls) c.resume_all-steps.ensures.lanes)
+returns-clause-steps g c = omega (arith, c.resume_all-steps.ensures.steps, resumed_steps c.in_ok-lanes.lanes.items, ap (λ (ls : List (LaneView TermedMeter)). all_steps ls) c.resume_all-steps.ensures.lanes)
 
 pub invariant_of-self : goal.invariant_of-self
 invariant_of-self g c = record {
@@ -35,4 +35,4 @@ invariant_of-self g c = record {
 }
 
 pub returns-clause-all : goal.returns-clause-all
-returns-clause-all g c = omega (arith, c.resume_all-steps.ensures.all, row_counts c.in_ok-lanes.lanes.items c.in_ok-lanes.ensures.changed, ap (λ (ls : List (LaneView AnyMeter)). row_count ls) c.resume_all-steps.ensures.lanes)
+returns-clause-all g c = omega (arith, c.resume_all-steps.ensures.all, row_counts c.in_ok-lanes.lanes.items c.in_ok-lanes.ensures.changed, ap (λ (ls : List (LaneView TermedMeter)). row_count ls) c.resume_all-steps.ensures.lanes)

@@ -2,11 +2,11 @@ use Rattle.std.proofs.Common.{arith}
 use Rattle.std.proofs.lemmas.Grind.{common_steps}
 use Rattle.tca_report.proofs.export.reading.read_whole.Goals as goal
 
-pub returns-in_err-count-clause-exact : goal.returns-in_err-count-clause-exact
-returns-in_err-count-clause-exact c = grind (arith, common_steps)
+pub returns-in_err-format-clause-exact : goal.returns-in_err-format-clause-exact
+returns-in_err-format-clause-exact c = grind (arith, common_steps)
 
-pub returns-in_err-count-clause-memory : goal.returns-in_err-count-clause-memory
-returns-in_err-count-clause-memory c = grind (arith, common_steps)
+pub returns-in_err-format-clause-memory : goal.returns-in_err-format-clause-memory
+returns-in_err-format-clause-memory c = grind (arith, common_steps)
 
 pub returns-in_default-clause-exact : goal.returns-in_default-clause-exact
 returns-in_default-clause-exact c = grind (arith, common_steps)

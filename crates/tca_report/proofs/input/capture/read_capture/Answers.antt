@@ -1,5 +1,5 @@
 use Rattle.std.proofs.lemmas.Grind.{common_steps}
-use Rattle.std.proofs.Common.{rules, ◌≡◌, ◌<◌, ◌++◌, ◌∙◌, ap, ap₂, sym, subst, true, false, arith, append_assoc, length, length-append, take, drop, List, ℕ}
+use Rattle.std.proofs.Common.{◌≡◌, ◌<◌, ◌++◌, ◌∙◌, ap, ap₂, sym, subst, true, false, arith, append_assoc, length, length-append, take, drop, List, ℕ}
 use Rattle.std.specs.Prelude.{Ok, Err, ◌==◌}
 use Rattle.tca_report.specs.report.Reports.{PacketReport}
 use Rattle.tca_report.specs.declared.input.Notes.{Notes}
@@ -36,24 +36,24 @@ returns-in_err-reader c =
     let behind = c.split_at.result.1.now in
     let whole = cut c.args.octets.now s.0 c.loop-rest.rest.now piece behind c.min.result s.2 c.split_at.ensures.front c.split_at.ensures.back in
     let p = err_from_is_err_and c.from_residual.result c.from_residual.ensures.1 in
-    let brings : Brings s.0 piece c.loop-rest.reader c.in-Ok.lent c.lend.new.self = record {
+    let brings : Brings c.args.session s.0 piece c.loop-rest.reader c.in-Ok.lent c.lend.new.self = record {
       framer = c.loop-rest.framer;
       read = s.1;
       feeds = c.in-Ok.ensures.stream;
       fault = c.in-Ok.ensures.fault;
     } in
     record {
-      exact = rw (p.1, p.2) (λ ne. ap (λ z. gathered_of (capture_of z)) whole ∙ ap gathered_of (c.in_err-reader.ensures.err s.0 piece behind c.lend.new.self brings ne));
+      exact = rw (p.1, p.2) (λ ne. ap (λ z. gathered_of (capture_of c.args.session z)) whole ∙ ap gathered_of (c.in_err-reader.ensures.err c.args.session s.0 piece behind c.lend.new.self brings ne));
       memory = λ _. some_left c.args.octets.now s.0 c.loop-rest.rest.now s.2 (sym c.is_empty.ensures ∙ c.loop-rest-test.true);
       wanted = rw (p.1, p.2) (λ e.
           let is : c.in_err-reader.field-0.0 ≡ faults.Memory = cc in
-          subst (λ z. IsWantedInCapture z) (sym whole) (c.in_err-reader.ensures.wanted s.0 piece behind c.lend.new.self brings (ap (λ (f : InputFault). Err f) is)));
+          subst (λ z. IsWantedInCapture c.args.session z) (sym whole) (c.in_err-reader.ensures.wanted c.args.session s.0 piece behind c.lend.new.self brings (ap (λ (f : InputFault). Err f) is)));
     }
 
 pub read_in_place-requires : goal.read_in_place-requires
 read_in_place-requires c =
     let s = c.loop-rest.invariant.so_far in
-    stands c.args.octets.now s.0 c.loop-rest.rest.now c.loop-rest.framer c.loop-rest.reader s.1 s.2
+    (c.args.session, stands c.args.session c.args.octets.now s.0 c.loop-rest.rest.now c.loop-rest.framer c.loop-rest.reader s.1 s.2)
 
 pub loop-rest-preserved : goal.loop-rest-preserved
 loop-rest-preserved c =
@@ -61,13 +61,13 @@ loop-rest-preserved c =
     let piece = c.split_at.result.0.now in
     let behind = c.split_at.result.1.now in
     let whole = cut c.args.octets.now s.0 c.loop-rest.rest.now piece behind c.min.result s.2 c.split_at.ensures.front c.split_at.ensures.back in
-    let brings : Brings s.0 piece c.loop-rest.reader c.in-Ok.lent c.lend.new.self = record {
+    let brings : Brings c.args.session s.0 piece c.loop-rest.reader c.in-Ok.lent c.lend.new.self = record {
       framer = c.loop-rest.framer;
       read = s.1;
       feeds = c.in-Ok.ensures.stream;
       fault = c.in-Ok.ensures.fault;
     } in
-    record { so_far = (s.0 ++ piece, c.in_ok-reader.ensures.ok s.0 piece c.lend.new.self brings, whole) }
+    record { so_far = (s.0 ++ piece, c.in_ok-reader.ensures.ok c.args.session s.0 piece c.lend.new.self brings, whole) }
 
 -- nothing is left
 whole_read : (octets done rest : List ℕ) → octets ≡ done ++ rest → (length rest == 0) ≡ true → octets ≡ done
@@ -78,7 +78,7 @@ returns-in-Ok-finish c =
     let s = c.loop-rest.invariant.so_far in
     let whole = whole_read c.args.octets.now s.0 c.loop-rest.rest.now s.2 (sym c.is_empty.ensures ∙ c.loop-rest-test.false) in
     record {
-      exact = ap (λ z. gathered_of (capture_of z)) whole ∙ all_gathered s.0 c.loop-rest.framer c.loop-rest.reader s.1 (sym c.in-Ok-finish.ensures)
+      exact = ap (λ z. gathered_of (capture_of c.args.session z)) whole ∙ all_gathered c.args.session s.0 c.loop-rest.framer c.loop-rest.reader s.1 (sym c.in-Ok-finish.ensures)
           ∙ ap₂ (λ (reports : List PacketReport) (notes : Notes). Ok (reports, notes)) (sym c.gathered.ensures.reports) (sym c.gathered.ensures.notes);
       memory = λ m. absurd cc;
       wanted = λ m. absurd cc;
@@ -87,22 +87,26 @@ returns-in-Ok-finish c =
 pub returns-in-Err : goal.returns-in-Err
 returns-in-Err c =
     let s = c.loop-rest.invariant.so_far in
-    let never = no_memory_at_end s.0 c.loop-rest.framer c.loop-rest.reader c.in-Err.fault s.1 (sym c.in-Err.ensures) in
+    let never = no_memory_at_end c.args.session s.0 c.loop-rest.framer c.loop-rest.reader c.in-Err.fault s.1 (sym c.in-Err.ensures) in
     let whole = whole_read c.args.octets.now s.0 c.loop-rest.rest.now s.2 (sym c.is_empty.ensures ∙ c.loop-rest-test.false) in
     record {
       exact = λ ne.
-          ap (λ z. gathered_of (capture_of z)) whole
-          ∙ ap gathered_of (cut_at s.0 c.loop-rest.framer c.loop-rest.reader c.in-Err.fault s.1 (sym c.in-Err.ensures))
+          ap (λ z. gathered_of (capture_of c.args.session z)) whole
+          ∙ ap gathered_of (cut_at c.args.session s.0 c.loop-rest.framer c.loop-rest.reader c.in-Err.fault s.1 (sym c.in-Err.ensures))
           ∙ ap (λ (e : InputFault). gathered_of (Err e)) (sym (c.wire_fault.ensures.fault ne).1);
       memory = λ m. absurd (never (c.wire_fault.ensures.memory cc));
       wanted = λ m. absurd (never (c.wire_fault.ensures.memory cc));
     }
 
 pub returns-in_default-clause-wanted : goal.returns-in_default-clause-wanted
-returns-in_default-clause-wanted c = search rules
+returns-in_default-clause-wanted c =
+    let s = c.loop-rest.invariant.so_far in
+    c.read_in_place.ensures.wanted c.args.session (stands c.args.session c.args.octets.now s.0 c.loop-rest.rest.now c.loop-rest.framer c.loop-rest.reader s.1 s.2)
 
 pub returns-in_default-clause-exact : goal.returns-in_default-clause-exact
-returns-in_default-clause-exact c = grind (arith, common_steps)
+returns-in_default-clause-exact c =
+    let s = c.loop-rest.invariant.so_far in
+    c.read_in_place.ensures.exact c.args.session (stands c.args.session c.args.octets.now s.0 c.loop-rest.rest.now c.loop-rest.framer c.loop-rest.reader s.1 s.2)
 
 pub returns-in_default-clause-memory : goal.returns-in_default-clause-memory
 returns-in_default-clause-memory c = grind (arith, common_steps)

@@ -1,5 +1,5 @@
 use Rattle.std.proofs.lemmas.Grind.{common_steps}
-use Rattle.std.proofs.Common.{arith}
+use Rattle.std.proofs.Common.{refl, arith}
 use Rattle.std.proofs.lemmas.Result.{err_from_is_err_and}
 use Rattle.tca_templates.proofs.SessionLaws.{templates_have, reading_found}
 use Rattle.tca_templates.proofs.FirstFaults.{reading_fault}
@@ -8,22 +8,22 @@ use Rattle.tca_templates.proofs.decoder.Decoder.hand_records.Goals as goal
 pub returns-in_err-aside-clause-first : goal.returns-in_err-aside-clause-first
 returns-in_err-aside-clause-first g c =
     let p = err_from_is_err_and c.from_residual.result c.from_residual.ensures.1 in
-    rw (p.1, p.2, ← c.self.view_is) (λ start taken other. reading_fault _ _ _ _ _ (templates_have c.self.inside.templates) (c.in_err-aside.ensures.exact start taken other))
+    rw (p.1, p.2, ← c.self.view_is, ← c.of-source.ensures) (λ start taken other. reading_fault _ _ _ _ _ (templates_have c.self.inside.templates) (c.in_err-aside.ensures.exact start taken other))
 
 pub returns-clause-found : goal.returns-clause-found
-returns-clause-found g c = rw (← c.self.view_is) (λ start taken.
+returns-clause-found g c = rw (← c.self.view_is, ← c.of-source.ensures) (λ start taken.
     let come = c.in_ok-aside.ensures.exact start taken in (
       come.0,
       reading_found _ _ _ _ come.0 (templates_have c.self.inside.templates) come.1,
-      record { templates = come.2.templates; records = come.2.records; unplaced = come.2.unplaced; skipped = come.2.skipped; few = omega (arith, come.2.count, c.in_ok-aside.ensures.few) },
+      record { number = refl; templates = come.2.templates; records = come.2.records; unplaced = come.2.unplaced; skipped = come.2.skipped; few = omega (arith, come.2.count, c.in_ok-aside.ensures.few) },
     ))
 
 pub returns-clause-exact : goal.returns-clause-exact
-returns-clause-exact g c = rw (← c.self.view_is) (λ start taken.
+returns-clause-exact g c = rw (← c.self.view_is, ← c.of-source.ensures) (λ start taken.
     let come = c.in_ok-aside.ensures.exact start taken in (
       come.0,
       come.1,
-      record { templates = come.2.templates; records = come.2.records; unplaced = come.2.unplaced; skipped = come.2.skipped; few = omega (arith, come.2.count, c.in_ok-aside.ensures.few) },
+      record { number = refl; templates = come.2.templates; records = come.2.records; unplaced = come.2.unplaced; skipped = come.2.skipped; few = omega (arith, come.2.count, c.in_ok-aside.ensures.few) },
     ))
 
 pub returns-in_err-aside-clause-found : goal.returns-in_err-aside-clause-found

@@ -1,10 +1,11 @@
-use Rattle.std.proofs.Common.{◌-◌, length}
+use Rattle.std.proofs.Common.{ℕ, ◌-◌, length}
 use Rattle.tca_report.specs.input.CaptureReaders.{StandsIn}
 use Rattle.tca_report.proofs.input.capture.CaptureReader.read_in_place.Given as goal
 
 abbrev pub invariant-loop-reader : goal.invariant-loop-reader
 invariant-loop-reader l = record {
-  so_far : StandsIn l.octets l.reader;
+  held : (session : ℕ) × StandsIn session l.octets l.reader;
+  so_far : (session : ℕ) → StandsIn session l.octets l.fn.self → StandsIn session l.octets l.reader;
 }
 
 abbrev pub decreases-loop-reader : goal.decreases-loop-reader

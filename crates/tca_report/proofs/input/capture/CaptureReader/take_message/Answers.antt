@@ -7,6 +7,7 @@ use Rattle.tca_wire.specs.declared.message.Header.{Header}
 use Rattle.tca_wire.specs.declared.fault.WireFault.{WireFault}
 use Rattle.tca_wire.specs.declared.fault.WireFault.TheVariants as wire
 use Rattle.tca_templates.specs.Templates.{Templates}
+use Rattle.tca_templates.specs.Records.{source_of}
 use Rattle.tca_templates.specs.Wants.{WantsMemory}
 use Rattle.tca_templates.specs.declared.fault.DecodeFault.{DecodeFault}
 use Rattle.tca_templates.specs.declared.fault.DecodeFault.TheVariants as decode
@@ -38,15 +39,17 @@ returns-in-Err-hand_records-clause-wanted c = λ e so_far k.
     let m = c.in-Ok.message in
     let is : c.in-Err-hand_records.fault ≡ decode.Memory = c.decode_fault.ensures.memory cc in
     let wanted = c.in-Err-hand_records.ensures.wanted (ap (λ (f : DecodeFault). Err f) is) old.taken (taken_none old.taken) in
-    let own = subst (λ (o : List ℕ). WantsMemory old.decoder m.header o m.sets.items) c.in-Ok.ensures.octets wanted in
-    ARecord m.header m.sets.items c.in-Ok.ensures.found (subst (λ (ts : Templates). WantsMemory ts m.header (take m.header.length octets) m.sets.items) k.templates own)
+    let own = subst (λ (o : List ℕ). WantsMemory old.decoder.templates (source_of old.decoder.number m.header) o m.sets.items) c.in-Ok.ensures.octets wanted in
+    ARecord m.header m.sets.items c.in-Ok.ensures.found
+    (subst (λ (n : ℕ). WantsMemory so_far.templates (source_of n m.header) (take m.header.length octets) m.sets.items) k.session
+    (subst (λ (ts : Templates). WantsMemory ts (source_of old.decoder.number m.header) (take m.header.length octets) m.sets.items) k.templates own))
 
 pub returns-in-Err-hand_records-clause-exact : goal.returns-in-Err-hand_records-clause-exact
 returns-in-Err-hand_records-clause-exact c = λ so_far k other.
     let old = c.args.self in
     let m = c.in-Ok.message in
     let fault = c.decode_fault.ensures.fault other in
-    with_is old.at so_far c.args.octets.now m.octets.now old.decoder m.header m.sets.items _ c.in-Ok.ensures.exact k.templates c.in-Ok.ensures.octets
+    with_is old.at so_far c.args.octets.now m.octets.now old.decoder.number old.decoder.templates m.header m.sets.items _ c.in-Ok.ensures.exact k.session k.templates c.in-Ok.ensures.octets
     (c.in-Err-hand_records.ensures.exact old.taken (taken_none old.taken) fault.0)
     ∙ ap (λ (e : InputFault). Err e) (sym fault.1)
 
@@ -66,8 +69,9 @@ returns-clause-exact c = λ so_far k.
       at = old.at + c.from-3.result;
     } in (
       with_message so_far come.0,
-      with_is old.at so_far octets m.octets.now old.decoder m.header m.sets.items (Ok come.0) c.in-Ok.ensures.exact k.templates c.in-Ok.ensures.octets come.1,
+      with_is old.at so_far octets m.octets.now old.decoder.number old.decoder.templates m.header m.sets.items (Ok come.0) c.in-Ok.ensures.exact k.session k.templates c.in-Ok.ensures.octets come.1,
       agrees_more old new so_far come.0 m.header.length k (record {
+        session = come.2.number;
         templates = sym come.2.templates;
         reports = come.2.records.0;
         not_reports = come.2.records.1;

@@ -1,7 +1,0 @@
-use Rattle.std.proofs.Common.{◌≤◌, ◌∙◌, arith, ap, length, map, take_all}
-use Rattle.tca_ingest.proofs.workers.slices_of.Goals as goal
-
-pub returns : goal.returns
-returns c =
-    let past : length c.args.inputs.now ≤ c.loop-input.input-index = omega (arith, c.loop-input-test.false) in
-    c.loop-input.invariant ∙ ap (map (λ v. v.items)) (take_all _ c.args.inputs.now past)
