@@ -1,0 +1,110 @@
+"""Files and devices: large ones, pipes, folders, files without the right to read, full devices, OUT that is an input."""
+import os
+import shutil
+import subprocess
+import threading
+import unittest
+
+from model import capture, export, statement
+from program import PROGRAM, SECONDS, ProgramTest
+from rows import FIRST, ONE, PLAN, SECOND, STATEMENT, THIRD, THREE_2, TIME
+
+
+class Files(ProgramTest):
+    def setUp(self):
+        super().setUp()
+        self.write("plan", PLAN.toml())
+        self.write("three", THREE_2)
+
+    def test_a_file_of_70_mb(self):
+        """Longer than what one read gives, and than a buffer's size."""
+        rows = [(TIME + n // 8, 1500, 0, 1) for n in range(1000)]
+        message = capture(7, 0, rows)
+        count = 70_000_000 // len(message) + 1
+        with open(self.folder / "long", "wb") as file:
+            for n in range(count):
+                file.write(message[:8] + (1000 * n).to_bytes(4, "big") + message[12:])
+        run = self.run_program("combine", "out", "long")
+        self.assert_done(run, f"reports {1000 * count}\n".encode())
+        self.assertEqual(os.path.getsize(self.folder / "out"), 10 + 29 * 1000 * count)
+
+    def test_a_pipe(self):
+        os.mkfifo(self.folder / "pipe")
+
+        def feed():
+            with open(self.folder / "pipe", "wb") as pipe:
+                for at in range(0, len(THREE_2), 7):
+                    pipe.write(THREE_2[at : at + 7])
+                    pipe.flush()
+
+        feeder = threading.Thread(target=feed)
+        feeder.start()
+        run = self.run_program("bill", "plan", "pipe")
+        feeder.join()
+        self.assert_done(run, STATEMENT)
+
+    def test_a_folder(self):
+        (self.folder / "folder").mkdir()
+        self.assert_refused(self.run_program("bill", "plan", "folder"), "folder", "read", 1)
+        self.assert_refused(self.run_program("combine", "folder", "three"), "combine", "write", 1)
+        self.assert_refused(self.run_program("combine", "missing/out", "three"), "combine", "write", 1)
+
+    @unittest.skipUnless(os.geteuid() == 0, "needs another user to be")
+    def test_a_file_without_the_right_to_read(self):
+        os.chmod(self.folder / "three", 0o600)
+        # Another user may not come to the repository, so the program is copied.
+        program = shutil.copy(PROGRAM, self.folder / "program")
+        run = self.run_program("bill", "plan", "three", program=program, user=65534, group=65534)
+        self.assert_refused(run, "three", "read", 1)
+
+    def test_a_full_device(self):
+        self.assert_refused(self.run_program("combine", "/dev/full", "three"), "combine", "write", 1)
+        with open("/dev/full", "wb") as full:
+            run = self.run_program("bill", "plan", "three", stdout=full)
+        self.assertEqual((run.status, run.err), (1, b"tcacct: bill: write 1\n"))
+        with open("/dev/full", "wb") as full:
+            run = self.run_program("bill", "plan", "missing", stderr=full)
+        self.assertEqual((run.status, run.out), (1, b""))
+        with open("/dev/full", "wb") as full:
+            run = self.run_program("--help", stdout=full)
+        self.assertEqual(run.status, 0)
+
+    def test_a_reader_that_leaves(self):
+        """Standard output is a pipe that nobody reads."""
+        reading, writing = os.pipe()
+        os.close(reading)
+        with os.fdopen(writing, "wb") as out:
+            run = self.run_program("bill", "plan", "three", stdout=out)
+        self.assertEqual((run.status, run.err), (1, b"tcacct: bill: write 1\n"))
+
+    def test_out_that_is_an_input(self):
+        self.write("x", export([FIRST, SECOND]))
+        self.write("y", export([SECOND, THIRD]))
+        self.assert_done(self.run_program("combine", "x", "x", "y"), b"reports 3\n")
+        self.assertEqual(self.read("x"), THREE_2)
+        self.assert_done(self.run_program("bill", "--export", "y", "plan", "y", "x"), STATEMENT)
+        self.assertEqual(self.read("y"), THREE_2)
+
+    def test_out_where_the_run_is_refused(self):
+        """Untouched where a file can't be read, and empty where an input or the plan is refused."""
+        self.write("out", b"before")
+        self.assert_refused(self.run_program("combine", "out", "three", "missing"), "missing", "read", 1)
+        self.assertEqual(self.read("out"), b"before")
+        self.write("cut", ONE[:64])
+        self.assert_refused(self.run_program("combine", "out", "three", "cut"), "cut", "wire", 1)
+        self.assertEqual(self.read("out"), b"")
+        self.write("out", b"before")
+        self.write("zero", b"period = 0\n")
+        self.assert_refused(self.run_program("bill", "--export", "out", "zero", "three"), "zero", "plan", 3)
+        self.assertEqual(self.read("out"), b"")
+
+    def test_a_word_that_is_no_text(self):
+        done = subprocess.run([str(PROGRAM), b"bill", b"plan", b"\xff"], cwd=self.folder, capture_output=True, timeout=SECONDS)
+        self.assertEqual((done.returncode, done.stdout), (2, b""))
+        self.assertIn(b"UTF-8", done.stderr)
+
+    def test_many_reports_out_of_order(self):
+        rows = [(TIME + (n * 7919) % 50000, 7, 0, n, 40 + n % 1460, (0, 10, 12, 14)[n % 4], 1 + n % 2) for n in range(50000)]
+        self.write("half", export(rows[:25000]))
+        self.write("other", export(rows[20000:]))
+        self.assert_done(self.run_program("bill", "plan", "half", "other"), statement(PLAN, rows))

@@ -1,0 +1,112 @@
+"""Each growth of memory refused in turn: the tests that are made for it, and the program itself.
+
+A small library before the C library refuses the n-th growth, n = 1, 2, 3 and so on, until a run meets no refusal.
+"""
+import os
+import shutil
+import subprocess
+import tempfile
+from pathlib import Path
+
+from model import capture
+from program import PROGRAM, SECONDS, TESTS, ProgramTest
+from rows import PLAN, STATEMENT, THREE, THREE_2, TIME
+
+MOST_GROWTHS = 2000
+FAMILIES = (b"memory 1", b"plan 8", b"log 2", b"share 3", b"work 5", b"work 3", b"read 3", b"absorb 4")
+
+# Tests that hold whether one growth is refused or not.
+HOLDS = {
+    "tca_audit": (
+        "tests::gossip::memory::a_take_that_was_refused_is_completed",
+        "tests::gossip::memory::an_absorb_that_was_refused_is_completed",
+        "tests::gossip::memory::a_merge_that_was_refused_is_completed",
+        "tests::statements::issues_what_has_changed",
+    ),
+    "tcacct": (
+        "tests::shared::memory::a_take_that_was_refused_is_completed",
+        "tests::shared::jobs_memory::workers_that_were_refused_close",
+        "tests::replicated::writes_nothing_where_it_is_refused",
+    ),
+}
+
+
+class Growths(ProgramTest):
+    @classmethod
+    def setUpClass(cls):
+        cls.tools = Path(tempfile.mkdtemp(prefix="refuse-"))
+        cls.addClassCleanup(shutil.rmtree, cls.tools, ignore_errors=True)
+        cls.library = cls.tools / "refuse.so"
+        source = Path(__file__).resolve().parent / "refuse.c"
+        subprocess.run(["cc", "-shared", "-fPIC", "-O1", "-o", cls.library, source], check=True)
+
+    def run_refused(self, number, words, all_after=False):
+        """What came of a run, and whether a growth was refused in it."""
+        mark = self.folder / "refused"
+        mark.unlink(missing_ok=True)
+        settings = {**os.environ, "LD_PRELOAD": str(self.library), "REFUSE": str(number), "REFUSED": str(mark)}
+        if all_after:
+            settings["REFUSE_ALL"] = "1"
+        done = subprocess.run(words, cwd=self.folder, env=settings, capture_output=True, stdin=subprocess.DEVNULL, timeout=SECONDS)
+        return done, mark.exists()
+
+    def test_of_the_crates(self):
+        """A growth of the test's own preparation ends it with an error; where the call's own is refused it holds."""
+        for crate, names in HOLDS.items():
+            for name in names:
+                with self.subTest(name):
+                    held = 0
+                    for number in range(1, MOST_GROWTHS):
+                        done, refused = self.run_refused(number, [TESTS[crate], name])
+                        if not refused:
+                            break
+                        if done.returncode == 0:
+                            held += 1
+                        else:
+                            # An assertion that fails ends the test by a signal.
+                            said = (done.stdout + done.stderr).decode(errors="replace")
+                            self.assertEqual((done.returncode, said[:7]), (101, "error: "), f"growth {number}: {said}")
+                    else:
+                        self.fail("each run met a refusal")
+                    self.assertEqual(done.returncode, 0, done)
+                    self.assertGreater(held, 0)
+
+    def check_run(self, words, out, files, all_after):
+        """Each growth of this run refused: it writes what it writes, or says that it lacks memory and has written nothing."""
+        for number in range(1, MOST_GROWTHS):
+            for name in files:
+                (self.folder / name).unlink(missing_ok=True)
+            done, refused = self.run_refused(number, [str(PROGRAM), *words], all_after)
+            if not refused:
+                self.assertEqual((done.returncode, done.stdout, done.stderr), (0, out, b""))
+                break
+            self.assertIn(done.returncode, (0, 1), (number, done))
+            if done.returncode == 0:
+                self.assertEqual((done.stdout, done.stderr), (out, b""))
+                self.assertEqual({name: self.read(name) for name in files}, files)
+            else:
+                self.assertEqual(done.stdout, b"", number)
+                self.assertTrue(not done.stderr or done.stderr.rstrip().endswith(FAMILIES), done.stderr)
+                for name in files:
+                    self.assertIn(self.read(name) if self.has(name) else b"", (b"",), number)
+        else:
+            self.fail("each run met a refusal")
+        self.assertGreater(number, 10)
+
+    def test_of_the_program(self):
+        self.write("plan", PLAN.toml())
+        for n, row in enumerate(THREE):
+            self.write(f"n{n}", capture(7, n, [(row[0], row[4], row[5], row[6])]))
+        self.write("statement", STATEMENT)
+        self.write("reports", THREE_2)
+        names = ["n0", "n1", "n2"]
+        for all_after in (False, True):
+            for words, out, files in (
+                (["bill", "plan", *names], STATEMENT, {}),
+                (["bill", "--replicas", "3", "--export", "out", "plan", *names], STATEMENT, {"out": THREE_2}),
+                (["combine", "out", *names], b"reports 3\n", {"out": THREE_2}),
+                (["meter", "rfc2697:1000:2000:1000:blind", "n0", "n1"], b"green 1500 1\nyellow 1000 1\nred 0 0\n", {}),
+                (["audit", "plan", "reports", "statement"], b"agrees\n", {}),
+            ):
+                with self.subTest(words=words, all_after=all_after):
+                    self.check_run(words, out, files, all_after)
