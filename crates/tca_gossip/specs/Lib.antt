@@ -7,3 +7,4 @@ pub mod Kept
 pub mod Answers
 pub mod Holding
 pub mod Worlds
+pub mod WorldSteps

@@ -1,5 +1,5 @@
 //! Runs that come to a replica: why they are refused, and what is new in them.
-ghost use Rattle.std.specs.Prelude.{◌≡◌, ◌+◌, ◌<◌, ◌≤◌, [], length, OnOk, IfOk, IfErr, IfSome, None, MatchOption};
+ghost use Rattle.std.specs.Prelude.{◌≡◌, ◌+◌, ◌<◌, ◌≤◌, [], length, OnOk, IfOk, IfErr, IfSome, None, MatchOption, true};
 ghost use Rattle.tca_join.specs.Chains.{differ_at, most_items};
 ghost use Rattle.tca_gossip.specs.Replicas.{appended, chain_of, with_origin};
 ghost use Rattle.tca_gossip.specs.Runs.{AreRuns, fault_of, first_fault, rest_of, rests, same_report};
@@ -87,6 +87,7 @@ fn append_all(contents: &mut Contents, origin: u32, reports: &[Report]) -> Resul
     ensures state { OnOk result (contents.new.replica ≡ appended contents.old.replica (with_origin origin reports.now)) }
     ensures count { IfOk result (λ n. n ≡ length reports.now) }
     ensures stop { IfErr result (λ s. IsStop contents.old.replica contents.new.replica (with_origin origin reports.now) s.taken s.cause) }
+    ensures stays { contents.old.billing.kept ≡ true → contents.new.billing.kept ≡ true }
 {
     contents.known();
     let mut taken = 0;
@@ -106,6 +107,7 @@ fn append_rest(contents: &mut Contents, run: &Run) -> Result<u64, Stop>
     ensures state { OnOk result (contents.new.replica ≡ appended contents.old.replica (with_origin run.now.origin (rest_of (chain_of contents.old.replica) run.now))) }
     ensures count { IfOk result (λ n. n ≡ length (rest_of (chain_of contents.old.replica) run.now)) }
     ensures stop { IfErr result (λ s. IsStop contents.old.replica contents.new.replica (with_origin run.now.origin (rest_of (chain_of contents.old.replica) run.now)) s.taken s.cause) }
+    ensures stays { contents.old.billing.kept ≡ true → contents.new.billing.kept ≡ true }
 {
     let origin = run.origin();
     let have = contents.chain(origin).len();
@@ -152,11 +154,13 @@ fn append_rests(contents: &mut Contents, runs: &[Run]) -> Result<u64, Stop>
     ensures state { OnOk result (contents.new.replica ≡ appended contents.old.replica (rests (chain_of contents.old.replica) runs.now)) }
     ensures count { IfOk result (λ n. n ≡ length (rests (chain_of contents.old.replica) runs.now)) }
     ensures stop { IfErr result (λ s. IsStop contents.old.replica contents.new.replica (rests (chain_of contents.old.replica) runs.now) s.taken s.cause) }
+    ensures stays { contents.old.billing.kept ≡ true → contents.new.billing.kept ≡ true }
 {
     contents.known();
     let mut count: u64 = 0;
     for run in runs {
         let origin = run.origin();
+        // For its clause alone: how long a chain may be.
         let _limit = contents.chain(origin);
         match append_rest(contents, run) {
             Ok(more) => count += more,

@@ -28,6 +28,7 @@ fn least_beside(log: &Log) -> usize
     LEAST.max(log.len() as usize / 4)
 }
 
+// A `let _rises` or `let _count` is a call for its clause alone: that keys ascend, or how many reports there may be.
 impl Contents {
     /// Takes reports at once, and answers whether it did. It doesn't where the list is short beside the log, where a report is there
     /// already or stands twice, or where there is no room, and then nothing has changed.

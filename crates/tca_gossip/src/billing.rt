@@ -1,5 +1,5 @@
 //! The bill of a log: kept by a book, or made from the log when it is asked.
-ghost use Rattle.std.specs.Prelude.{◌≡◌, List, IfOk, OnOk, false, true};
+ghost use Rattle.std.specs.Prelude.{◌≡◌, List, IfOk, OnErr, OnOk, false, true};
 ghost use Rattle.std.specs.List.Sorted.{IsStrictlySortedBy};
 ghost use Rattle.tca_join.specs.Sets.{put};
 ghost use Rattle.tca_report.specs.report.Reports.{PacketReport, report_cmp};
@@ -19,7 +19,8 @@ use tca_report::Report;
 const ROWS_A_MARK: u32 = 256;
 
 /// The bill of a log. A book keeps it, so that a late report costs what follows it. After many reports at once no book is kept
-/// until a single report comes: whoever takes a few long lists meters the log once, when the bill is asked, and not once a list.
+/// until a single report comes or one is asked for: whoever takes a few long lists meters the log once, when the bill is asked, and
+/// not once a list.
 #[derive(Drop)]
 pub(crate) struct Billing {
     book: Book,
@@ -40,6 +41,7 @@ impl Billing {
     /// The bill of no reports.
     pub(crate) fn new(alloc: Global, plan: Plan) -> Result<Billing, AllocError>
         ensures plan { IfOk result (λ b. b.plan ≡ plan) }
+        ensures kept { IfOk result (λ b. b.kept ≡ true) }
         ensures bills { IfOk result (Bills []) }
         ensures settled { IfOk result IsSettled }
     {
@@ -47,6 +49,31 @@ impl Billing {
             book: Book::new(alloc, plan, ROWS_A_MARK)?,
             is_kept: true,
         })
+    }
+
+    /// Whether a book is kept. Else each bill is made from the whole log.
+    pub(crate) fn is_kept(&self) -> bool
+        ensures { result ≡ self.now.kept }
+    {
+        self.is_kept
+    }
+
+    /// Makes the log's book where none is kept, and meters it. Where a growth is refused there is none still, and nothing changes.
+    pub(crate) fn keep(&mut self, alloc: Global, log: &Log) -> Result<(), AllocError>
+        requires { Bills log.now self.old }
+        ensures plan { self.new.plan ≡ self.old.plan }
+        ensures kept { OnOk result (self.new.kept ≡ true) }
+        ensures none { OnErr result (self.new.kept ≡ false) }
+        ensures same { self.old.kept ≡ true → self.new ≡ self.old }
+        ensures err { OnErr result (self.new ≡ self.old) }
+        ensures settled { IsSettled self.old → IsSettled self.new }
+        ensures bills { Bills log.now self.new }
+    {
+        if !self.is_kept {
+            self.book.refit(alloc, log)?;
+            self.is_kept = true;
+        }
+        Ok(())
     }
 
     /// Makes all room for one report, and the log's book where none is kept.
@@ -59,13 +86,11 @@ impl Billing {
         requires { Bills log.now self.old }
         ensures plan { self.new.plan ≡ self.old.plan }
         ensures kept { OnOk result (self.new.kept ≡ true) }
+        ensures stays { self.old.kept ≡ true → self.new.kept ≡ true }
         ensures room { OnOk result (IsReady self.new.book report.now) }
         ensures bills { Bills log.now self.new }
     {
-        if !self.is_kept {
-            self.book.refit(alloc, log)?;
-            self.is_kept = true;
-        }
+        self.keep(alloc, log)?;
         self.book.ready(report)
     }
 
@@ -75,6 +100,7 @@ impl Billing {
         requires ready { IsReady self.old.book report }
         requires takes { Takes self.old.book report added }
         ensures plan { self.new.plan ≡ self.old.plan }
+        ensures kept { self.new.kept ≡ self.old.kept }
         ensures bills { (rs : List PacketReport) → IsStrictlySortedBy report_cmp rs → Bills rs self.old → added ≡ disputes.added rs report → Bills (put report_cmp report rs) self.new }
     {
         self.book.apply(report, added);
@@ -83,6 +109,7 @@ impl Billing {
     /// Meters again what changed. It takes no memory.
     pub(crate) fn settle(&mut self)
         ensures plan { self.new.plan ≡ self.old.plan }
+        ensures kept { self.new.kept ≡ self.old.kept }
         ensures settled { IsSettled self.new }
         ensures bills { (rs : List PacketReport) → Bills rs self.old → Bills rs self.new }
     {
@@ -91,7 +118,8 @@ impl Billing {
         }
     }
 
-    /// Keeps no book any more, so that this is the bill of any log. What the book held is given back where that takes no memory.
+    /// Keeps no book any more, so that this is the bill of any log. The book's rows are given back once there are lanes without rows in
+    /// their place; where there is no memory for those lanes, the rows are held until a book is made again.
     pub(crate) fn release(&mut self, alloc: Global)
         ensures plan { self.new.plan ≡ self.old.plan }
         ensures kept { self.new.kept ≡ false }

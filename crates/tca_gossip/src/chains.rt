@@ -9,6 +9,8 @@ use std::alloc::{AllocError, Global};
 use tca_join::{ByKey, Chain};
 use tca_report::Report;
 
+// A `let _rises` or `let _limit` is a call for its clause alone: that keys ascend, or how long a chain may be.
+
 /// The reports that are kept of an origin, none where it has no chain.
 pub(crate) fn kept(chains: &ByKey<Chain<Report>>, origin: u32) -> &[Report]
     ensures items { result.now ≡ kept_of chains.now origin }

@@ -47,11 +47,13 @@ impl Model for Contents {
     ghost invariant = { λ c. AreContents c.name c.log c.chains c.billing };
 }
 
+// A `let _rises` or `let _count` is a call for its clause alone: that keys or reports ascend, or how many there may be.
 impl Contents {
     /// Nothing.
     pub(crate) fn new(alloc: Global, name: u32, plan: Plan) -> Result<Contents, AllocError>
         ensures replica { IfOk result (λ c. c.replica ≡ new_replica plan name) }
         ensures settled { IfOk result (λ c. IsSettled c.billing) }
+        ensures kept { IfOk result (λ c. c.billing.kept ≡ true) }
     {
         Ok(Contents {
             alloc,
@@ -77,6 +79,8 @@ impl Contents {
         requires other { origin ≢ self.old.replica.name → length (chain_of self.old.replica origin) < most_items }
         ensures ok { OnOk result (self.new.replica ≡ append_one self.old.replica (origin, report)) }
         ensures err { OnErr result (self.new.replica ≡ self.old.replica) }
+        ensures kept { OnOk result (self.new.billing.kept ≡ true) }
+        ensures stays { self.old.billing.kept ≡ true → self.new.billing.kept ≡ true }
         ensures fault { IfErr result (λ e. IsRefusedFor e self.old.replica.log report) }
     {
         let held = self.log.contains(&report);
@@ -93,12 +97,14 @@ impl Contents {
         Ok(())
     }
 
-    /// Takes one report, and answers whether it was new.
+    /// Takes one report, and answers whether it was new. After a new one a book is kept.
     pub(crate) fn take_report(&mut self, report: Report) -> Result<bool, LogFault>
         ensures state { OnOk result (self.new.replica ≡ take_one self.old.replica report) }
         ensures fresh { IfOk result (λ new. new ≡ not (has report_cmp self.old.replica.log report)) }
         ensures err { OnErr result (self.new.replica ≡ self.old.replica) }
         ensures unheld { OnErr result (has report_cmp self.old.replica.log report ≡ false) }
+        ensures kept { IfOk result (λ new. new ≡ true → self.new.billing.kept ≡ true) }
+        ensures stays { self.old.billing.kept ≡ true → self.new.billing.kept ≡ true }
         ensures fault { IfErr result (λ e. IsRefusedFor e self.old.replica.log report) }
     {
         if self.log.contains(&report) {
@@ -194,9 +200,28 @@ impl Contents {
         delta_for(self.alloc, &self.chains, since)
     }
 
+    /// Makes the log's book where none is kept. Where a growth is refused there is none still, and nothing changes.
+    pub(crate) fn keep_book(&mut self) -> Result<(), AllocError>
+        ensures replica { self.new.replica ≡ self.old.replica }
+        ensures kept { OnOk result (self.new.billing.kept ≡ true) }
+        ensures none { OnErr result (self.new.billing.kept ≡ false) }
+        ensures err { OnErr result (self.new ≡ self.old) }
+        ensures settled { IsSettled self.old.billing → IsSettled self.new.billing }
+    {
+        self.billing.keep(self.alloc, &self.log)
+    }
+
+    /// Whether a book is kept.
+    pub(crate) fn keeps_book(&self) -> bool
+        ensures { result ≡ self.now.billing.kept }
+    {
+        self.billing.is_kept()
+    }
+
     /// Meters again what changed. It takes no memory.
     pub(crate) fn settle(&mut self)
         ensures replica { self.new.replica ≡ self.old.replica }
+        ensures kept { self.new.billing.kept ≡ self.old.billing.kept }
         ensures settled { IsSettled self.new.billing }
     {
         self.billing.settle();

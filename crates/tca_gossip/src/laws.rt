@@ -1,21 +1,17 @@
 //! What the calls of replicas come to in a world of replicas.
-ghost use Rattle.std.specs.Prelude.{◌≡◌, ◌≤◌, ◌==◌, ℕ, Bool, true, false, Option, Some, None, List, [], ◌∷◌, ◌++◌, length, take, slice_get};
+ghost use Rattle.std.specs.Prelude.{◌≡◌, ℕ, Some, List, slice_get};
 ghost use Rattle.std.specs.List.{AllByRecursion};
 ghost use Rattle.tca_report.specs.report.Reports.{PacketReport, report_cmp};
 ghost use Rattle.tca_join.specs.Sets.{has};
-ghost use Rattle.tca_join.specs.Maps.{Rises, MapProper};
-ghost use Rattle.tca_log.specs.declared.fault.LogFault.{LogFault};
-ghost use Rattle.tca_accounts.specs.Plans.{AccountPlan};
+ghost use Rattle.tca_join.specs.Maps.{Rises};
 ghost use Rattle.tca_accounts.specs.Bills.{bill_of};
-ghost use Rattle.tca_gossip.specs.Replicas.{ReplicaView, IsReplica, chain_of, fresh_of, appended, with_origin, merged_with, merge_clash};
-ghost use Rattle.tca_gossip.specs.Replicas.{taken as with_taken};
-ghost use Rattle.tca_gossip.specs.Runs.{RunView, AreRuns, Outcome, IsOutcome, absorbed, delta_of, first_fault, summary_count, rests};
-ghost use Rattle.tca_gossip.specs.Answers.{IsCause, IsStopAt};
-ghost use Rattle.tca_gossip.specs.Machines.{Machine, IsWorld, IsPart, IsGapFault, Shows, held_prefix, is_name, joined, new_machine, took};
-ghost use Rattle.tca_gossip.specs.Steps.{Step, Take, Ask, Answer, Deliver, Merge, Reply, Took, Sent, Absorbed, Merged, Joined, in_log, can_send, AreAnswer, IsStep, IsRun};
+ghost use Rattle.tca_gossip.specs.Replicas.{ReplicaView, IsReplica, chain_of, appended, with_origin, merged_with};
+ghost use Rattle.tca_gossip.specs.Runs.{RunView, AreRuns, delta_of, first_fault};
+ghost use Rattle.tca_gossip.specs.Machines.{Machine, IsWorld, IsPart, IsGapFault, Shows, held_prefix, joined, took};
+ghost use Rattle.tca_gossip.specs.Steps.{in_log, AreAnswer};
 ghost use Rattle.tca_gossip.specs.Holding.{ClashesAtLeast, JoinsWhereItMay, MayWhereItJoins, MergeAbove, MergeAgain, MergeAssociates, MergeCommutes, MergeLeast, MergeStays};
-ghost use Rattle.tca_gossip.specs.Coupling.{Summary, Delta, WorldView, AreDistinct, IsCoupled, StepsTo, with_replica, with_message, new_world, counts_of};
-ghost use Rattle.tca_join.specs.Chains.{most_items};
+ghost use Rattle.tca_gossip.specs.Coupling.{WorldView, IsCoupled, counts_of};
+ghost use Rattle.tca_gossip.specs.WorldSteps.{AnswerIsStep, AskIsStep, DeliverIsStep, MergeIsStep, MergeWithItselfIsStep, RunGoesOn, StartsCoupled, TakeIsStep};
 
 use tca_report::Report;
 
@@ -46,14 +42,14 @@ pub fn machine_laws()
 
 /// What the calls of a replica do in a world is a step of the machine that the world shows.
 pub fn step_laws()
-    ensures starts { (plan : AccountPlan) (names : List ℕ) → AreDistinct names → IsCoupled (new_machine names) (new_world plan names) }
-    ensures take { (m : Machine) (w : WorldView) (i : ℕ) (v : ReplicaView) (reports : List PacketReport) (taken fresh : ℕ) (stop : Option LogFault) → IsCoupled m w → slice_get w.replicas i ≡ Some v → taken ≤ length reports → fresh ≡ length (fresh_of v.log (take taken reports)) → IsStopAt (with_taken v (take taken reports)).log reports taken stop → StepsTo m (Take v.name reports) (Took taken fresh stop) (with_replica w i (with_taken v (take taken reports))) }
-    ensures ask { (m : Machine) (w : WorldView) (i : ℕ) (v : ReplicaView) → IsCoupled m w → slice_get w.replicas i ≡ Some v → can_send m v.name ≡ true → StepsTo m (Ask v.name) (Sent (length m.sent)) (with_message w (Summary (counts_of v.chains))) }
-    ensures answer { (m : Machine) (w : WorldView) (i : ℕ) (v : ReplicaView) (number : ℕ) (summary : List (ℕ × ℕ)) → IsCoupled m w → slice_get w.replicas i ≡ Some v → slice_get w.sent number ≡ Some (Summary summary) → can_send m v.name ≡ true → MapProper (λ c. length c ≤ most_items) v.chains → StepsTo m (Answer v.name number) (Sent (length m.sent)) (with_message w (Delta (delta_of (summary_count summary) v.chains))) }
-    ensures deliver { (m : Machine) (w : WorldView) (i : ℕ) (v : ReplicaView) (number : ℕ) (runs : List RunView) (outcome : Outcome) (cause : Option LogFault) → IsCoupled m w → slice_get w.replicas i ≡ Some v → slice_get w.sent number ≡ Some (Delta runs) → IsOutcome v.name (chain_of v) runs outcome → IsCause (absorbed v runs outcome).log (rests (chain_of v) runs) outcome cause → StepsTo m (Deliver number v.name) (Absorbed outcome cause) (with_replica w i (absorbed v runs outcome)) }
-    ensures merge { (eq : PacketReport → PacketReport → Bool) → ((x : PacketReport) → eq x x ≡ true) → ((x y : PacketReport) → eq x y ≡ true → x ≡ y) → (m : Machine) (w : WorldView) (i j : ℕ) (v u : ReplicaView) → IsCoupled m w → slice_get w.replicas i ≡ Some v → slice_get w.replicas j ≡ Some u → v.name == u.name ≡ false → (merge_clash eq v u ≡ None) × StepsTo m (Merge v.name u.name) (Merged Joined) (with_replica w i (merged_with v u)) }
-    ensures itself { (m : Machine) (w : WorldView) (n : ℕ) → IsCoupled m w → is_name m n ≡ true → StepsTo m (Merge n n) (Merged Joined) w }
-    ensures more { (m mid after : Machine) (steps : List Step) (replies : List Reply) (step : Step) (reply : Reply) → IsRun m steps replies mid → IsStep mid step reply after → IsRun m (steps ++ step ∷ []) (replies ++ reply ∷ []) after }
+    ensures starts { StartsCoupled }
+    ensures take { TakeIsStep }
+    ensures ask { AskIsStep }
+    ensures answer { AnswerIsStep }
+    ensures deliver { DeliverIsStep }
+    ensures merge { MergeIsStep }
+    ensures itself { MergeWithItselfIsStep }
+    ensures more { RunGoesOn }
 {}
 
 /// What holds of each machine that a world shows. Replicas that hold equally much of each origin, or whose summaries are equal, have

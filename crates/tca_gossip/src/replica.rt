@@ -1,5 +1,5 @@
 //! A replica.
-ghost use Rattle.std.specs.Prelude.{◌≡◌, ◌≤◌, ℕ, None, false, length, take, OnOk, OnErr, IfOk, IfErr};
+ghost use Rattle.std.specs.Prelude.{◌≡◌, ◌≤◌, ℕ, None, false, true, length, take, OnOk, OnErr, IfOk, IfErr};
 ghost use Rattle.tca_accounts.specs.Bills.{bill_of};
 ghost use Rattle.tca_join.specs.Chains.{differ_at, most_items};
 ghost use Rattle.tca_join.specs.Faults.{IsJoinFault};
@@ -24,7 +24,8 @@ use tca_report::Report;
 /// the set of them all. Its own chain is what its own `take` got new.
 ///
 /// A book beside the log keeps the bill, so that a late report costs what follows it and not the whole history. After a list that
-/// was taken at once there is no book until a single report comes, and the bill is made from the log when it is asked.
+/// was taken at once, and after a merge, there is no book until a single report comes or `keep_book` is called, and the bill is made
+/// from the log when it is asked.
 #[derive(Drop)]
 pub struct Replica {
     contents: Contents,
@@ -145,7 +146,21 @@ impl Replica {
         self.contents.fork(&other.contents)
     }
 
-    /// The bill of the log under the plan.
+    /// Makes the book of the log where none is kept, so that the bill costs what changed from here on. That goes over the whole log
+    /// once, at about three times the cost of one `totals` without a book, and holds each settled report once more: it pays where more
+    /// than a few bills are asked before the next long list. Where a growth was refused there is no book still.
+    pub fn keep_book(&mut self) -> Result<(), AllocError>
+        ensures { self.new ≡ self.old }
+    {
+        self.contents.keep_book()
+    }
+
+    /// Whether a book of the log is kept. Else `totals` meters the whole log. It says nothing of what the replica holds.
+    pub fn keeps_book(&self) -> bool {
+        self.contents.keeps_book()
+    }
+
+    /// The bill of the log under the plan: read from the book where one is kept, else metered from the whole log.
     pub fn totals(&self) -> Result<Bill, AllocError>
         ensures { IfOk result (λ bill. bill ≡ bill_of self.now.plan self.now.log) }
     {
@@ -192,12 +207,13 @@ fn take_list(contents: &mut Contents, reports: &[Report]) -> Taken
     take_each(contents, reports)
 }
 
-// Takes reports one by one.
+// Takes reports one by one. A book that is kept stays.
 fn take_each(contents: &mut Contents, reports: &[Report]) -> Taken
     ensures within { result.taken ≤ length reports.now }
     ensures state { contents.new.replica ≡ taken contents.old.replica (take result.taken reports.now) }
     ensures fresh { result.fresh ≡ length (fresh_of contents.old.replica.log (take result.taken reports.now)) }
     ensures stop { IsStopAt contents.new.replica.log reports.now result.taken result.stop }
+    ensures stays { contents.old.billing.kept ≡ true → contents.new.billing.kept ≡ true }
 {
     let mut taken = 0;
     let mut fresh = 0;

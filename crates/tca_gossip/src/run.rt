@@ -7,6 +7,9 @@ use std::marker::Model;
 use tca_join::{ByKey, MaxOf};
 use tca_report::Report;
 
+// The most reports of a chain.
+const MOST_REPORTS: u64 = 4_194_304;
+
 /// How long the chain of each origin is, with no key for an empty one.
 pub type Summary = ByKey<MaxOf>;
 
@@ -189,7 +192,7 @@ fn are_runs(runs: &[Run]) -> bool
     for run in runs {
         let origin = run.origin as u64;
         let end = run.start as u64 + run.reports.len() as u64;
-        if end > 4_194_304 || origin < least {
+        if end > MOST_REPORTS || origin < least {
             return false;
         }
         least = origin + 1;

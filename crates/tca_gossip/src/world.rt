@@ -168,6 +168,7 @@ impl World {
             Some(i) => match self.sent.get(message as usize) {
                 Some(Message::Counts(counts)) => match self.replicas[i].delta(counts) {
                     Ok(delta) => {
+                        // For its clause alone: the runs of a delta are right.
                         let _right = delta.runs();
                         match self.send(Message::Parts(delta)) {
                             Some(number) => Reply::Sent(number),

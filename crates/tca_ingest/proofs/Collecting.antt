@@ -1,17 +1,23 @@
 -- Inputs and their results, place by place, and entries that are taken out one by one.
-use Rattle.std.proofs.Common.{◌≡◌, ℕ, zero, suc, ◌+◌, ◌<◌, List, [], ◌∷◌, ◌++◌, length, get_or, set, take, ap, sym, ◌∙◌, subst, arith, map, refl, add-one, Option, Some, None, is_some, false}
+use Rattle.std.proofs.Common.{◌≡◌, ◌≢◌, ◌⊎◌, ◌≤◌, ℕ, zero, suc, ◌+◌, ◌<◌, List, [], ◌∷◌, ◌++◌, length, get_or, set, slice_get, take, ap, sym, ◌∙◌, subst, arith, map, refl, add-one, Option, Some, None, Result, is_some, true, false, inl, inr}
 use Rattle.std.specs.List.{AllByRecursion, AllZip, remove}
 use Rattle.std.specs.List.Sorted.{IsPermutation}
-use Rattle.std.proofs.lemmas.List.{take_more, append-nil, append_assoc}
+use Rattle.std.proofs.lemmas.List.{take_all, take_more, append-nil, append_assoc}
+use Rattle.std.proofs.lemmas.Option.{slice_get-get_or, slice_get_within}
 use Rattle.std.proofs.lemmas.List.Sorted.{IsPermutation-map, IsPermutation-remove, IsPermutation-sym, IsPermutation-trans, IsPermutation-append_right}
 use denote.Bor.{Bor}
 use Rattle.tca_report.specs.input.Inputs.{input_view}
 use Rattle.tca_report.specs.declared.input.Input.{Input}
+use Rattle.tca_report.specs.declared.input.Notes.{Notes}
 use Rattle.tca_ingest.specs.Entries.{EntryView}
 use Rattle.tca_ingest.specs.EntryViews.{entry_view}
 use Rattle.tca_ingest.specs.Passes.{PassView}
-use Rattle.tca_ingest.specs.Works.{AreNumberedFrom, AreResults, AreLentResults, IsResult, entries_in, entry_in, all_calls, views_of}
+use Rattle.tca_ingest.specs.Works.{AreBack, AreBackAll, AreNumberedFrom, AreResults, AreLentResults, AreResultsAt, AreUnused, HasNoPlace, HaveMore, IsEntriesFault, IsLackedBy, IsLacking, IsOfJobs, IsPlaceFault, IsResult, IsResultAt, IsWithoutResult, Place, ResultView, entries_in, entry_in, all_calls, views_of}
 use Rattle.tca_ingest.specs.declared.entry.Entry.{Entry}
+use Rattle.tca_ingest.specs.declared.entry.Receipt.{Receipt}
+use Rattle.tca_ingest.specs.declared.fault.WorkFault.{WorkFault}
+use Rattle.tca_ingest.specs.declared.fault.WorkFault.TheVariants as fault
+use Rattle.tca_ingest.specs.declared.job.JobFault.{JobFault}
 use Rattle.tca_ingest.specs.declared.job.Done.{Done}
 
 pub zip_push : {A B : Type 0} (R : A → B → Type 0) (xs : List A) (ys : List B) (x : A) (y : B) → AllZip R xs ys → R x y → AllZip R (xs ++ x ∷ []) (ys ++ y ∷ [])
@@ -115,3 +121,93 @@ results_of (s ∷ ss) (v ∷ vs) (d ∷ ds) same all =
     let here : s.now ≡ v = cc same in
     let rest : map (λ (b : Bor Input). b.now) ss ≡ vs = cc same in
     (subst (λ (input : Input). IsResult (input_view input) d.result) here all.0, results_of ss vs ds rest all.1)
+
+-- places that go with results have them
+places_filled : (places : List Place) (done : List Done) → AllZip (λ place d. place ≡ Some d.result) places done → AllByRecursion (λ place. place ≢ None) places
+places_filled [] done all = tt
+places_filled (p ∷ ps) [] all = absurd all
+places_filled (p ∷ ps) (d ∷ ds) all = ((λ none. absurd (other (sym all.0 ∙ none))), places_filled ps ds all.1) where
+  other : Some d.result ≡ None → ⊥
+  other e = cc
+
+-- the first place that is empty
+pub without_result : (places yielded : List Place) (done : List Done) (x : Place) (job : ℕ) → AllZip (λ place d. place ≡ Some d.result) yielded done → yielded ≡ take (length yielded) places → length yielded < length places → x ≡ get_or places (length yielded) x
+    → x ≡ None → job ≡ length done → IsWithoutResult places job
+without_result places yielded done x job zip front low is none at =
+    let n : job ≡ length yielded = at ∙ zip_length (λ (place : Place) (d : Done). place ≡ Some d.result) yielded done zip in
+    record {
+      here = ap (slice_get places) n ∙ slice_get-get_or places (length yielded) x low ∙ ap Some (sym is ∙ none);
+      before = subst (AllByRecursion (λ (place : Place). place ≢ None)) (front ∙ ap (λ k. take k places) (sym n)) (places_filled yielded done zip);
+    }
+
+-- a place that has a result
+result_there : (x : Place) → is_some x ≡ true → (result : Result (Notes × Receipt) JobFault) × (x ≡ Some result)
+result_there None e = absurd cc
+result_there (Some result) e = (result, refl)
+
+-- why a result has no place
+pub no_input : (inputs : List (Bor Input)) (places : List Place) (r : ResultView) → AreResultsAt inputs places → (length inputs ≤ r.job) ⊎ (length places ≤ r.job) → HasNoPlace inputs places r
+no_input inputs places r all (inl past) = inl past
+no_input inputs places r all (inr past) = inl (subst (λ n. n ≤ r.job) (zip_length (λ (input : Bor Input) (place : Place). IsResultAt (input_view input.now) place) inputs places all) past)
+
+pub taken_place : (inputs : List (Bor Input)) (places : List Place) (r : ResultView) (x : Place) → r.job < length places → x ≡ get_or places r.job x → is_some x ≡ true → HasNoPlace inputs places r
+taken_place inputs places r x low is some = let found = result_there x some in inr (inl (found.0, slice_get-get_or places r.job x low ∙ ap Some (sym is ∙ found.1)))
+
+pub other_input : (inputs : List (Bor Input)) (places : List Place) (r : ResultView) (b : Bor Input) → r.job < length inputs → b ≡ get_or inputs r.job b → input_view b.now ≢ r.input → HasNoPlace inputs places r
+other_input inputs places r b low is other = inr (inr (b, slice_get-get_or inputs r.job b low ∙ ap Some (sym is), other))
+
+-- more entries are left
+pub have_more : (done : List Done) (passes : List PassView) (n : ℕ) (left : List (Bor Entry)) → length done ≤ n → IsPermutation (entries_in (take n done) ++ views_of left) (all_calls passes) → length left ≢ 0 → HaveMore done passes
+have_more done passes n [] whole all some = absurd (some refl)
+have_more done passes n (e ∷ es) whole all some = record {
+  first = entry_view e.now;
+  left = views_of es;
+  others = subst (λ (ds : List Done). IsPermutation (entries_in ds ++ entry_view e.now ∷ views_of es) (all_calls passes)) (take_all n done whole) all;
+}
+
+-- the result whose entry is lacking
+pub lacking : (done : List Done) (passes : List PassView) (job : ℕ) (d : Done) (left : List EntryView) → job < length done → d ≡ get_or done job d → IsPermutation (entries_in (take job done) ++ left) (all_calls passes) → IsLackedBy left d.result → IsLacking done passes job
+lacking done passes job d left low is others lacks = record {
+  one = d;
+  at = slice_get-get_or done job d low ∙ ap Some (sym is);
+  left = left;
+  others = others;
+  lacks = lacks;
+}
+
+-- what comes back of workers, fault by fault
+pub back_all : (workers : ℕ) (f : WorkFault) (passes : List PassView) → (f ≢ fault.PassesOut → length passes ≡ workers) → (f ≡ fault.PassesOut → length passes < workers) → (f ≡ fault.PassesOut → AreUnused passes) → AreBackAll workers f passes
+back_all workers (fault.JobMissing job) passes all few unused = all (λ e. absurd cc)
+back_all workers (fault.Stranger job) passes all few unused = all (λ e. absurd cc)
+back_all workers fault.NoThread passes all few unused = all (λ e. absurd cc)
+back_all workers fault.PassesOut passes all few unused = (few refl, unused refl)
+back_all workers fault.Memory passes all few unused = all (λ e. absurd cc)
+
+pub back : (workers : ℕ) (f : WorkFault) (passes : List PassView) → AreBackAll workers f passes → AreBack workers f passes
+back workers (fault.JobMissing job) passes all = all
+back workers (fault.Stranger job) passes all = all
+back workers fault.NoThread passes all = all
+back workers fault.PassesOut passes all = all
+back workers fault.Memory passes all = inr all
+
+pub back_none : (workers : ℕ) (f : WorkFault) (passes : List PassView) → f ≡ fault.Memory → passes ≡ [] → AreBack workers f passes
+back_none workers f passes memory none = subst (λ f. AreBack workers f passes) (sym memory) (inl none)
+
+-- the place that is named is one of the places
+pub place_of_jobs : (inputs : List (Bor Input)) (places : List Place) (f : WorkFault) → AreResultsAt inputs places → IsPlaceFault places f → IsOfJobs (length inputs) f
+place_of_jobs inputs places (fault.JobMissing job) all is = subst (λ n. job < n) (zip_length (λ (input : Bor Input) (place : Place). IsResultAt (input_view input.now) place) inputs places all) (slice_get_within places job None is.here)
+place_of_jobs inputs places (fault.Stranger job) all is = tt
+place_of_jobs inputs places fault.NoThread all is = tt
+place_of_jobs inputs places fault.PassesOut all is = tt
+place_of_jobs inputs places fault.Memory all is = tt
+
+pub run_of_jobs : (count : ℕ) (f : WorkFault) → (f ≡ fault.NoThread) ⊎ (f ≡ fault.Memory) → IsOfJobs count f
+run_of_jobs count f (inl e) = subst (IsOfJobs count) (sym e) tt
+run_of_jobs count f (inr e) = subst (IsOfJobs count) (sym e) tt
+
+pub entries_of_jobs : (count : ℕ) (done : List Done) (passes : List PassView) (f : WorkFault) → IsEntriesFault done passes f → IsOfJobs count f
+entries_of_jobs count done passes (fault.JobMissing job) is = absurd is
+entries_of_jobs count done passes (fault.Stranger job) is = tt
+entries_of_jobs count done passes fault.NoThread is = tt
+entries_of_jobs count done passes fault.PassesOut is = tt
+entries_of_jobs count done passes fault.Memory is = tt

@@ -8,6 +8,7 @@ pub mod Closes
 pub mod Refusals
 pub mod Finding
 pub mod Listings
+pub mod Brought
 pub mod Statements
 pub mod Agreements
 pub mod Clashes

@@ -1,7 +1,7 @@
 -- A journal that is compared with the calls of passes, entry by entry and pass by pass.
-use Rattle.std.proofs.Common.{◌≡◌, ℕ, zero, suc, ◌+◌, ◌<◌, ◌≤◌, ◌↔◌, Some, List, [], ◌∷◌, length, get_or, slice_get, take, drop, refl, ap, sym, subst, ◌∙◌, arith, length-drop}
+use Rattle.std.proofs.Common.{◌≡◌, ℕ, zero, suc, ◌+◌, ◌<◌, ◌≤◌, ◌↔◌, Bool, true, false, Some, List, [], ◌∷◌, length, get_or, set, slice_get, take, drop, refl, ap, sym, subst, ◌∙◌, arith, length-drop}
 use Rattle.std.specs.List.{All, AllPairs}
-use Rattle.std.proofs.lemmas.List.{drop_all, get_or-map, take_more}
+use Rattle.std.proofs.lemmas.List.{drop_all, get_or-map, get_or-set_same, take_more}
 use Rattle.std.proofs.lemmas.List.Elements.{All-push}
 use Rattle.std.proofs.lemmas.List.Quantifiers.{all_pairs_push}
 use Rattle.tca_ingest.specs.EntryViews.{entry_view, entry_views}
@@ -41,3 +41,14 @@ each_more P xs i x low is all here = subst (All P) (sym (take_more xs i x low)) 
 pub apart_more : {X : Type 0} (R : X → X → Type 0) (xs : List X) (i : ℕ) (x : X) → i < length xs → x ≡ get_or xs i x → AllPairs R (take i xs) → All (λ y. R y x) (take i xs) → AllPairs R (take (i + 1) xs)
 apart_more R xs i x low is all here =
     subst (AllPairs R) (sym (take_more xs i x low)) (all_pairs_push R (take i xs) (get_or xs i x) all (λ k d below. subst (R (get_or (take i xs) k d)) is (here k d below)))
+
+-- numbers that were given, and one more
+pub still_given : (given : List Bool) (i n : ℕ) → get_or given n false ≡ true → get_or (set given i true) n false ≡ true
+still_given [] i n h = absurd cc
+still_given (b ∷ given) zero zero h = refl
+still_given (b ∷ given) zero (suc n) h = h
+still_given (b ∷ given) (suc i) zero h = h
+still_given (b ∷ given) (suc i) (suc n) h = still_given given i n h
+
+pub now_given : (given : List Bool) (i n : ℕ) → i < length given → n ≡ i → get_or (set given i true) n false ≡ true
+now_given given i n low is = ap (λ m. get_or (set given i true) m false) is ∙ get_or-set_same given i true false low

@@ -8,9 +8,11 @@ use Rattle.tca_join.proofs.Sets.{has-append}
 use Rattle.tca_accounts.specs.Plans.{AccountPlan}
 use Rattle.tca_accounts.specs.declared.bill.Bill.{Bill}
 use Rattle.tca_gossip.specs.Replicas.{reports_in}
+use Rattle.tca_gossip.specs.Runs.{RunView}
 use Rattle.tca_ingest.specs.Entries.{EntryView, Took, Absorbed, Answered, Asked, Sent, pass_of}
-use Rattle.tca_ingest.specs.Journals.{no_lists, lists, took_in, AreRight}
-use Rattle.tca_ingest.specs.Passes.{calls_of, IsAnswered}
+use Rattle.tca_ingest.specs.Journals.{no_lists, list_of, lists, took_in, AreRight}
+use Rattle.tca_ingest.specs.Passes.{calls_of, IsAnswered, IsAsked, IsSent}
+use Rattle.tca_ingest.proofs.Brought.{brought_held, counts_lists, listed_somewhere, right_front, told}
 use Rattle.tca_ingest.proofs.Holdings.{has_after}
 use Rattle.tca_ingest.proofs.Histories.{right_at}
 use Rattle.tca_ingest.proofs.Listings.{listed_from}
@@ -76,4 +78,35 @@ answer_has plan name journal calls rest number pass bill right is =
           has_after (lists name found.0) q
           ∙ ap (λ (xs : List PacketReport). has report_cmp xs q || has report_cmp (reports_in (lists name found.0).gained) q) (listed_from name no_lists found.0)
           ∙ or_left (has report_cmp (took_in found.0) q) (has report_cmp (reports_in (lists name found.0).gained) q) (took_within number found.0 q (subst (λ (xs : List EntryView). has report_cmp (took_in xs) q ≡ true) (sym found.3) h));
+      holds = brought_held name number found.0;
+    }
+
+pub summary_has : (plan : AccountPlan) (name : ℕ) (journal calls rest : List EntryView) (number pass : ℕ) (summary : List (ℕ × ℕ)) → AreRight plan name journal → calls_of number journal ≡ calls ++ Asked pass summary ∷ rest → IsAsked name journal calls number pass summary
+summary_has plan name journal calls rest number pass summary right is =
+    let found = stands number journal calls rest (Asked pass summary) is in
+    let whole = subst (AreRight plan name) found.2 right in
+    record {
+      before = found.0;
+      later = found.1;
+      split = found.2;
+      own_calls = found.3;
+      counts = counts_lists (list_of name (lists name found.0)) summary (right_at plan name no_lists found.0 found.1 (Asked pass summary) whole);
+      holds = λ q h. listed_somewhere plan name found.0 (right_front plan name no_lists found.0 (Asked pass summary ∷ found.1) whole) q (brought_held name number found.0 q h);
+    }
+
+pub delta_has : (plan : AccountPlan) (name : ℕ) (journal calls rest : List EntryView) (number pass : ℕ) (since : List (ℕ × ℕ)) (delta : List RunView) → AreRight plan name journal → calls_of number journal ≡ calls ++ Sent pass since delta ∷ rest
+    → IsSent name journal calls number pass since delta
+delta_has plan name journal calls rest number pass since delta right is =
+    let found = stands number journal calls rest (Sent pass since delta) is in
+    let whole = subst (AreRight plan name) found.2 right in
+    let answer = right_at plan name no_lists found.0 found.1 (Sent pass since delta) whole in
+    record {
+      before = found.0;
+      later = found.1;
+      split = found.2;
+      own_calls = found.3;
+      answer = answer;
+      holds = λ q h.
+          let at = listed_somewhere plan name found.0 (right_front plan name no_lists found.0 (Sent pass since delta ∷ found.1) whole) q (brought_held name number found.0 q h) in
+          (at.0, told (list_of name (lists name found.0)) since delta answer at.0 q at.1);
     }

@@ -12,7 +12,7 @@ use Rattle.tca_gossip.specs.Runs.{RunView, IsOutcome, absorbed, rests, summary_c
 use Rattle.tca_gossip.specs.Answers.{outcome_of, cause_of}
 use Rattle.tca_gossip.specs.declared.fault.AbsorbFault.{AbsorbFault}
 use Rattle.tca_gossip.specs.declared.fault.AbsorbFault.TheVariants.{Gap, Forked, OwnAhead, Stopped}
-use Rattle.tca_ingest.specs.Entries.{EntryView, Took, Absorbed, Answered, Asked, Sent}
+use Rattle.tca_ingest.specs.Entries.{EntryView, Took, Absorbed, Answered, Asked, Sent, pass_of}
 use Rattle.tca_report.specs.export.Spelling.{most_reports}
 
 -- What entries list: the reports of takes; those of them that were new at their turn; and what absorbs append, each report with its
@@ -76,6 +76,22 @@ took_in (Absorbed pass runs result ∷ es) = took_in es
 took_in (Answered pass bill ∷ es) = took_in es
 took_in (Asked pass summary ∷ es) = took_in es
 took_in (Sent pass since delta ∷ es) = took_in es
+
+-- the reports that an entry brings: those that a take lists, and those that an absorb appends
+abbrev pub brought_by : ℕ → Lists → EntryView → List PacketReport
+brought_by name l (Took pass reports fresh stop) = reports
+brought_by name l (Absorbed pass runs result) = reports_in (gained_by result (rests (list_of name l) runs))
+brought_by name l (Answered pass bill) = []
+brought_by name l (Asked pass summary) = []
+brought_by name l (Sent pass since delta) = []
+
+-- those that the entries of one pass bring
+unfoldable pub brought_from : ℕ → ℕ → Lists → List EntryView → List PacketReport
+brought_from name number l [] = []
+brought_from name number l (e ∷ es) = cond (pass_of e == number) (brought_by name l e) [] ++ brought_from name number (with_entry name l e) es
+
+abbrev pub brought : ℕ → ℕ → List EntryView → List PacketReport
+brought name number journal = brought_from name number no_lists journal
 
 -- a number, where it is above 0
 abbrev pub above_zero : ℕ → Option ℕ

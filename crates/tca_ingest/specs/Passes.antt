@@ -1,13 +1,15 @@
 -- The passes by which a replica is used, and how they account for its journal.
-use Rattle.std.specs.Prelude.{◌≡◌, ◌≢◌, ◌⊎◌, ◌≤◌, ℕ, suc, true, ◌==◌, Some, List, [], ◌∷◌, ◌++◌, length, map, slice_get}
+use Rattle.std.specs.Prelude.{◌≡◌, ◌≢◌, ◌⊎◌, ◌≤◌, ℕ, suc, true, ◌==◌, Option, None, Some, List, [], ◌∷◌, ◌++◌, length, map, slice_get, take}
 use Rattle.std.specs.List.{All, AllPairs, AllByRecursion, filter, sum_by}
 use Rattle.tca_report.specs.report.Reports.{PacketReport, report_cmp}
 use Rattle.tca_join.specs.Sets.{has}
+use Rattle.tca_join.specs.Maps.{get}
 use Rattle.tca_accounts.specs.Plans.{AccountPlan}
 use Rattle.tca_accounts.specs.Bills.{bill_of}
 use Rattle.tca_accounts.specs.declared.bill.Bill.{Bill}
-use Rattle.tca_ingest.specs.Entries.{EntryView, Answered, pass_of}
-use Rattle.tca_ingest.specs.Journals.{after, took_in}
+use Rattle.tca_gossip.specs.Runs.{RunView, summary_count}
+use Rattle.tca_ingest.specs.Entries.{EntryView, Answered, Asked, Sent, pass_of}
+use Rattle.tca_ingest.specs.Journals.{IsAnswer, after, brought, by_origin, list_of, lists, took_in}
 
 -- a pass: its number, and the calls that were made by it
 pub record PassView : Type 0 where
@@ -84,7 +86,7 @@ pub record IsDiffering (journal : List EntryView) (passes : List PassView) (pass
   pub differs : IsOwned journal before at → ⊥
 
 -- A bill that a pass was answered after these calls of its own is the bill of what was held by then: of all entries before it in the
--- journal. Of the pass just these calls are among them, and all reports that they took are held.
+-- journal. Of the pass just these calls are among them, and all reports that they took, or that their absorbs appended, are held.
 pub record IsAnswered (plan : AccountPlan) (name : ℕ) (journal calls : List EntryView) (number pass : ℕ) (bill : Bill) : Type 0 where
   pub before : List EntryView
   pub later : List EntryView
@@ -92,3 +94,29 @@ pub record IsAnswered (plan : AccountPlan) (name : ℕ) (journal calls : List En
   pub own_calls : calls_of number before ≡ calls
   pub bill_is : bill ≡ bill_of plan (after name before)
   pub took : (q : PacketReport) → has report_cmp (took_in calls) q ≡ true → has report_cmp (after name before) q ≡ true
+  pub holds : (q : PacketReport) → has report_cmp (brought name number before) q ≡ true → has report_cmp (after name before) q ≡ true
+
+-- A summary that a pass was answered after these calls counts, of each origin, the list as it was by then. Each report that the calls
+-- brought is in one of these lists.
+pub record IsAsked (name : ℕ) (journal calls : List EntryView) (number pass : ℕ) (summary : List (ℕ × ℕ)) : Type 0 where
+  pub before : List EntryView
+  pub later : List EntryView
+  pub split : journal ≡ before ++ Asked pass summary ∷ later
+  pub own_calls : calls_of number before ≡ calls
+  pub counts : (origin : ℕ) → summary_count summary origin ≡ length (list_of name (lists name before) origin)
+  pub holds : (q : PacketReport) → has report_cmp (brought name number before) q ≡ true → (origin : ℕ) × (has report_cmp (list_of name (lists name before) origin) q ≡ true)
+
+abbrev pub reports_of : Option RunView → List PacketReport
+reports_of None = []
+reports_of (Some run) = run.reports
+
+-- A delta that a pass was answered after these calls has, of each origin, the rest of the list as it was by then, past what the summary
+-- counts. Each report that the calls brought is among those that the summary counts, or in the delta.
+pub record IsSent (name : ℕ) (journal calls : List EntryView) (number pass : ℕ) (since : List (ℕ × ℕ)) (delta : List RunView) : Type 0 where
+  pub before : List EntryView
+  pub later : List EntryView
+  pub split : journal ≡ before ++ Sent pass since delta ∷ later
+  pub own_calls : calls_of number before ≡ calls
+  pub answer : IsAnswer (list_of name (lists name before)) since delta
+  pub holds : (q : PacketReport) → has report_cmp (brought name number before) q ≡ true
+      → (origin : ℕ) × ((has report_cmp (take (summary_count since origin) (list_of name (lists name before) origin)) q ≡ true) ⊎ (has report_cmp (reports_of (get (by_origin delta) origin)) q ≡ true))

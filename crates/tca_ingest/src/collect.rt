@@ -1,5 +1,6 @@
 //! What a run of workers brought: the result of each job, and whether the workers' passes have just these.
-ghost use Rattle.std.specs.Prelude.{◌≡◌, ◌≢◌, ◌<◌, ◌^◌, ◌++◌, IfOk, IfErr, IfSome, OnOk, IsNone, None, Option, Result, true, [], ◌∷◌, length, slice_index_or};
+ghost use Rattle.std.specs.Prelude.{◌≡◌, ◌≢◌, ◌<◌, ◌^◌, ◌++◌, IfOk, IfErr, IfSome, OnErr, OnOk, IsNone, None, Some, Option, Result, true, false, [], ◌∷◌, length, slice_index_or, slice_set};
+ghost use Rattle.std.specs.List.{AllByRecursion};
 ghost use Rattle.std.specs.List.Sorted.{IsPermutation};
 ghost use denote.Bor.{Bor};
 ghost use Rattle.tca_ingest.specs.declared.entry.Entry.{Entry};
@@ -7,7 +8,7 @@ ghost use Rattle.tca_ingest.specs.declared.entry.Receipt.{Receipt};
 ghost use Rattle.tca_ingest.specs.declared.job.JobFault.{JobFault};
 ghost use Rattle.tca_report.specs.declared.input.Notes.{Notes};
 ghost use Rattle.tca_ingest.specs.EntryViews.{entry_view, entry_views};
-ghost use Rattle.tca_ingest.specs.Works.{AreNumbered, AreOwn, AreResultsAt, AreLentResults, all_calls, entries_in, entry_in, views_of};
+ghost use Rattle.tca_ingest.specs.Works.{AreNumbered, AreOwn, AreResultsAt, AreLentResults, HasNoPlace, IsEntriesFault, IsLackedBy, IsOfJobs, IsPlaceFault, all_calls, entries_in, entry_in, views_of};
 
 use crate::entry::{Entry, Receipt};
 use crate::fault::WorkFault;
@@ -34,6 +35,7 @@ pub(crate) fn collect<R: Wait>(
     ensures done { IfOk result (λ done. AreLentResults inputs.now done.items) }
     ensures jobs { IfOk result (λ done. AreNumbered done.items) }
     ensures fault { IfErr result (λ f. f ≢ WorkFault.PassesOut) }
+    ensures missing { IfErr result (IsOfJobs (length inputs.now)) }
 {
     let mut places = empty_places(alloc, inputs)?;
     for _ in rt.forever() {
@@ -67,10 +69,16 @@ fn fill_place(
     ensures results { AreResultsAt inputs.now places.new.items }
     ensures empty { OnOk result ((d : Option (Result (Notes × Receipt) JobFault)) → slice_index_or places.old.items of_job.entry.job d ≡ None) }
     ensures fault { IfErr result (λ f. f ≡ WorkFault.Stranger of_job.entry.job) }
+    ensures refused { OnErr result (HasNoPlace inputs.now places.old.items of_job.entry) }
+    ensures put { OnOk result (places.new.items ≡ slice_set places.old.items of_job.entry.job (Some of_job.entry.result)) }
+    ensures kept { OnErr result (places.new.items ≡ places.old.items) }
 {
     let JobResult { job, input, result } = of_job;
     let at = job as usize;
-    if at >= inputs.len() || at >= places.len() || places[at].is_some() {
+    if at >= inputs.len() {
+        return Err(WorkFault::Stranger(job));
+    }
+    if places[at].is_some() {
         return Err(WorkFault::Stranger(job));
     }
     let wanted = inputs[at];
@@ -88,6 +96,7 @@ fn filled(alloc: Global, inputs: &[&Input], places: Vec<Place>) -> Result<Vec<Do
     ensures done { IfOk result (λ done. AreLentResults inputs.now done.items) }
     ensures jobs { IfOk result (λ done. AreNumbered done.items) }
     ensures fault { IfErr result (λ f. f ≢ WorkFault.PassesOut) }
+    ensures missing { IfErr result (IsPlaceFault places.items) }
 {
     let mut done = Vec::with_capacity(alloc, places.len())?;
     for place in places {
@@ -122,6 +131,7 @@ pub(crate) fn stranger_of<L: Side>(
     ensures entries { IsNone result → IsPermutation (entries_in done.now) (all_calls passes.now) }
     ensures own { IsNone result → AreOwn passes.now }
     ensures fault { IfSome result (λ f. f ≢ WorkFault.PassesOut) }
+    ensures stranger { IfSome result (IsEntriesFault done.now passes.now) }
 {
     let Ok(mut left) = calls_in(alloc, passes) else {
         return Some(WorkFault::Memory);
@@ -140,7 +150,8 @@ pub(crate) fn stranger_of<L: Side>(
 
 // Takes the entry of a result out, if it has one. False where it is not there.
 fn strike(left: &mut Vec<&Entry>, answer: &Result<(Notes, Receipt), JobFault>) -> bool
-    ensures { result ≡ true → IsPermutation (views_of left.old.items) (entry_in answer.now ++ views_of left.new.items) }
+    ensures struck { result ≡ true → IsPermutation (views_of left.old.items) (entry_in answer.now ++ views_of left.new.items) }
+    ensures lacks { result ≡ false → IsLackedBy (views_of left.old.items) answer.now }
 {
     let Ok((_, receipt)) = answer else {
         return true;
@@ -179,7 +190,8 @@ fn add_calls<'a>(left: &mut Vec<&'a Entry>, calls: &'a [Entry]) -> Result<(), Al
 
 // Where an entry stands.
 fn place_of(left: &[&Entry], entry: &Entry) -> Option<usize>
-    ensures { IfSome result (λ at. (at < length left.now) × ((d : Bor Entry) → entry_view (slice_index_or left.now at d).now ≡ entry_view entry.now)) }
+    ensures at { IfSome result (λ at. (at < length left.now) × ((d : Bor Entry) → entry_view (slice_index_or left.now at d).now ≡ entry_view entry.now)) }
+    ensures none { IsNone result → AllByRecursion (λ e. e ≢ entry_view entry.now) (views_of left.now) }
 {
     for at in 0..left.len() {
         if left[at].is_same(entry) {

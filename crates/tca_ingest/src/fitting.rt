@@ -11,6 +11,9 @@ use crate::held::Held;
 use crate::pass::Pass;
 use crate::side::Side;
 
+// The numbers of passes are below this.
+const NUMBERS: usize = 65_536;
+
 /// Passes have no more entries than the journal: each entry was counted in its ledger when it was written down in both.
 pub(crate) fn within<L: Side>(held: Held<L>, passes: Vec<Pass<L>>) -> (Held<L>, Vec<Pass<L>>)
     ensures same { (result.0 ≡ held) × (result.1 ≡ passes) }
@@ -56,7 +59,7 @@ pub(crate) fn fault_of<L: Side>(journal: &[Entry], passes: &[Pass<L>]) -> Option
 }
 
 // The fault of the first pass whose calls aren't the journal's of its number, or whose number a pass before it has. It goes over the
-// journal once for each pass.
+// journal once for each pass, where a pass doesn't find its calls or two have one number, which no use of this crate leads to.
 fn first_differing<L: Side>(journal: &[Entry], passes: &[Pass<L>]) -> Option<CloseFault>
     requires { count_of passes.now ≡ length journal.now }
     ensures none { IsNone result → AreClosing (entry_views journal.now) passes.now }
@@ -80,19 +83,23 @@ fn owns<L: Side>(journal: &[Entry], before: &[Pass<L>], pass: &Pass<L>) -> bool
     is_new(before, pass.number()) && is_calls_of(journal, pass.number(), pass.calls())
 }
 
-// Whether the numbers of passes ascend, and each finds its calls in the journal, at the places that it remembers. It goes over the
-// calls once. Where they have as many entries as the journal, they are then all passes by which it was made.
+// Whether the numbers of passes differ, and each finds its calls in the journal, at the places that it remembers. It goes over the
+// calls once, in whichever order the passes were given. Where they have as many entries as the journal, they are then all passes by
+// which it was made.
 fn are_found<L: Side>(journal: &[Entry], passes: &[Pass<L>]) -> bool
     ensures apart { IsTrue result → AllPairs (λ p q. p.number ≢ q.number) passes.now }
     ensures found { IsTrue result → All (IsFound (entry_views journal.now)) passes.now }
 {
-    let mut least: u64 = 0;
+    let mut given = [false; NUMBERS];
     for pass in passes {
-        let number = pass.number() as u64;
-        if number < least || !is_found(journal, pass) {
+        let number = pass.number() as usize;
+        if number >= NUMBERS || given[number] {
             return false;
         }
-        least = number + 1;
+        if !is_found(journal, pass) {
+            return false;
+        }
+        given[number] = true;
     }
     true
 }

@@ -185,6 +185,8 @@ impl<L: Side> Held<L> {
         if self.is_full() {
             return Err(ShareFault::JournalFull);
         }
+        // Later statements then cost what changed. Where there is no memory for the book the bill is made without it.
+        let _without = self.replica.keep_book();
         let bill = self.replica.totals()?;
         self.append(
             mine,

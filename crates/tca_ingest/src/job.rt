@@ -1,6 +1,8 @@
 //! One input for a worker, and what comes of it.
-ghost use Rattle.std.specs.Prelude.{◌≡◌};
+ghost use Rattle.std.specs.Prelude.{◌≡◌, IfOk, OnErr};
+ghost use Rattle.tca_ingest.specs.EntryViews.{entry_view};
 ghost use Rattle.tca_ingest.specs.Faults.{job_number};
+ghost use Rattle.tca_ingest.specs.Shares.{IsNoted};
 
 use crate::entry::Receipt;
 use crate::fault::ShareFault;
@@ -75,7 +77,9 @@ pub(crate) fn do_job<'a, L: Side, R: Wait, G: Gate>(
     job: u32,
     input: &'a Input,
 ) -> JobResult<'a>
-    ensures { result.job ≡ job }
+    ensures job { result.job ≡ job }
+    ensures noted { IfOk result.result (λ r. IsNoted mine.old mine.new (entry_view r.1.entry) r.1.front) }
+    ensures err { OnErr result.result (mine.new ≡ mine.old) }
 {
     gate.before(job);
     let result = match gather(alloc, &input.octets, input.session) {

@@ -17,7 +17,7 @@ ghost use Rattle.tca_gossip.specs.Machines.{IsWorld, Shows};
 ghost use Rattle.tca_gossip.specs.declared.fault.AbsorbFault.{AbsorbFault};
 ghost use Rattle.tca_ingest.specs.Entries.{EntryView, Took, Absorbed, Answered, Asked, Sent};
 ghost use Rattle.tca_ingest.specs.Journals.{IsHistory, IsRight, AreRight, lists, list_of, own, part, after, took_in, gained_by};
-ghost use Rattle.tca_ingest.specs.Passes.{PassView, AreClosing, IsInterleaving, AllOwned, IsFound, AreMissing, IsDiffering, IsAnswered, calls_of, count_of, lists_of};
+ghost use Rattle.tca_ingest.specs.Passes.{PassView, AreClosing, IsInterleaving, AllOwned, IsFound, AreMissing, IsDiffering, IsAnswered, IsAsked, IsSent, calls_of, count_of, lists_of};
 ghost use Rattle.tca_ingest.specs.Closed.{ClosedView, AreClosed, AgreeAll, IsClash, replicas_of, clash_all, world_of};
 
 /// The empty journal is the history of a new replica. What a call of a replica answers makes an entry with which its journal goes on
@@ -49,10 +49,13 @@ pub fn history_laws()
 /// number, which no other pass has. The journal is an interleaving of their calls then: each call of each pass stands in it once, in the
 /// pass's order. It suffices that the numbers differ, that the calls of each pass are found in the journal at ascending places, and that
 /// the counts agree. Where a close is refused the passes don't close it. A bill that a pass was answered is that of all entries before it
-/// in the journal, among them all that the pass took until then.
+/// in the journal, among them all that the pass took and absorbed until then; a summary counts all of these reports, and a delta has
+/// those of them that its summary doesn't count.
 pub fn close_laws()
     ensures interleaves { (journal : List EntryView) (passes : List PassView) → AreClosing journal passes → IsInterleaving (lists_of passes) journal }
     ensures answers { (plan : AccountPlan) (name : ℕ) (journal calls rest : List EntryView) (number pass : ℕ) (bill : Bill) → AreRight plan name journal → calls_of number journal ≡ calls ++ Answered pass bill ∷ rest → IsAnswered plan name journal calls number pass bill }
+    ensures asked { (plan : AccountPlan) (name : ℕ) (journal calls rest : List EntryView) (number pass : ℕ) (summary : List (ℕ × ℕ)) → AreRight plan name journal → calls_of number journal ≡ calls ++ Asked pass summary ∷ rest → IsAsked name journal calls number pass summary }
+    ensures sent { (plan : AccountPlan) (name : ℕ) (journal calls rest : List EntryView) (number pass : ℕ) (since : List (ℕ × ℕ)) (delta : List RunView) → AreRight plan name journal → calls_of number journal ≡ calls ++ Sent pass since delta ∷ rest → IsSent name journal calls number pass since delta }
     ensures owned { (journal : List EntryView) (passes : List PassView) → AreClosing journal passes ↔ ((count_of passes ≡ length journal) × AllOwned journal [] passes) }
     ensures found { (journal : List EntryView) (passes : List PassView) → AllPairs (λ p q. p.number ≢ q.number) passes → All (IsFound journal) passes → count_of passes ≡ length journal → AreClosing journal passes }
     ensures missing { (journal : List EntryView) (passes : List PassView) (counted given : ℕ) → AreMissing journal passes counted given → AreClosing journal passes → ⊥ }

@@ -1,7 +1,7 @@
 //! Threads that take inputs into one shared replica.
-ghost use Rattle.std.specs.Prelude.{◌≡◌, ◌≢◌, ◌⊎◌, ◌+◌, ◌<◌, ◌≤◌, ◌^◌, IfErr, IfOk, OnOk, length, map, vec_capacity, vec_len};
+ghost use Rattle.std.specs.Prelude.{◌≡◌, ◌≢◌, ◌⊎◌, ◌+◌, ◌<◌, ◌≤◌, ◌^◌, IfErr, IfOk, OnErr, OnOk, [], length, map, take, vec_capacity, vec_len};
 ghost use Rattle.std.specs.List.Sorted.{IsPermutation};
-ghost use Rattle.tca_ingest.specs.Works.{AreNumbered, AreOwn, AreResults, AreLentResults, all_calls, entries_in};
+ghost use Rattle.tca_ingest.specs.Works.{AreBack, AreBackAll, AreNumbered, AreOwn, AreResults, AreLentResults, AreUnused, IsOfJobs, all_calls, entries_in};
 
 use crate::collect::{collect, stranger_of};
 use crate::fault::WorkFault;
@@ -56,15 +56,24 @@ pub fn work<L: Side + Send + Sync, R: Threads + Wait + Sync, G: Gate>(
     ensures entries { IfOk result (λ w. IsPermutation (entries_in w.done.items) (all_calls w.passes.items)) }
     ensures own { IfOk result (λ w. AreOwn w.passes.items) }
     ensures passes { IfOk result (λ w. length w.passes.items ≡ workers) }
-    ensures back { IfErr result (λ r. r.fault ≢ WorkFault.PassesOut → r.fault ≢ WorkFault.Memory → length r.passes.items ≡ workers) }
-    ensures few { IfErr result (λ r. r.fault ≡ WorkFault.PassesOut → length r.passes.items < workers) }
+    ensures back { IfErr result (λ r. AreBack workers r.fault r.passes.items) }
+    ensures room { IfErr result (λ r. r.fault ≡ WorkFault.PassesOut → vec_len r.passes < vec_capacity r.passes) }
+    ensures missing { IfErr result (λ r. IsOfJobs (length inputs.now) r.fault) }
 {
     match lent(alloc, inputs) {
         Ok(lent) => work_on(rt, alloc, shared, &lent, gate, workers),
-        Err(_) => Err(WorkRefused {
-            fault: WorkFault::Memory,
-            passes: Vec::new(alloc),
-        }),
+        Err(_) => Err(before_passes(alloc)),
+    }
+}
+
+// No memory for a run to begin, so that no pass was made.
+fn before_passes<L: Side>(alloc: Global) -> WorkRefused<L>
+    ensures fault { result.fault ≡ WorkFault.Memory }
+    ensures none { result.passes.items ≡ [] }
+{
+    WorkRefused {
+        fault: WorkFault::Memory,
+        passes: Vec::new(alloc),
     }
 }
 
@@ -95,10 +104,13 @@ pub fn work_on<L: Side + Send + Sync, R: Threads + Wait + Sync, G: Gate>(
     ensures entries { IfOk result (λ w. IsPermutation (entries_in w.done.items) (all_calls w.passes.items)) }
     ensures own { IfOk result (λ w. AreOwn w.passes.items) }
     ensures passes { IfOk result (λ w. length w.passes.items ≡ workers) }
-    ensures back { IfErr result (λ r. r.fault ≢ WorkFault.PassesOut → r.fault ≢ WorkFault.Memory → length r.passes.items ≡ workers) }
-    ensures few { IfErr result (λ r. r.fault ≡ WorkFault.PassesOut → length r.passes.items < workers) }
+    ensures back { IfErr result (λ r. AreBack workers r.fault r.passes.items) }
+    ensures room { IfErr result (λ r. r.fault ≡ WorkFault.PassesOut → vec_len r.passes < vec_capacity r.passes) }
+    ensures missing { IfErr result (λ r. IsOfJobs (length inputs.now) r.fault) }
 {
-    let mut passes = Vec::new(alloc);
+    let Ok(passes) = Vec::with_capacity(alloc, workers as usize) else {
+        return Err(before_passes(alloc));
+    };
     let halted = AtomicBool::new(false);
     let setting = Setting {
         rt,
@@ -108,27 +120,53 @@ pub fn work_on<L: Side + Send + Sync, R: Threads + Wait + Sync, G: Gate>(
         inputs,
         halted: &halted,
     };
-    match done_by(&setting, workers, &mut passes) {
+    worked_by(&setting, workers, passes)
+}
+
+// The results of all jobs, and the passes that it makes, for which there is room.
+fn worked_by<'a, L: Side + Send + Sync, R: Threads + Wait + Sync, G: Gate>(
+    setting: &Setting<'a, L, R, G>,
+    workers: u32,
+    room: Vec<Pass<L>>,
+) -> Result<Worked<L>, WorkRefused<L>>
+    requires inputs { length setting.now.inputs.now < 2 ^ 32 }
+    requires passes { room.items ≡ [] }
+    requires room { workers ≤ vec_capacity room }
+    ensures done { IfOk result (λ w. AreLentResults setting.now.inputs.now w.done.items) }
+    ensures jobs { IfOk result (λ w. AreNumbered w.done.items) }
+    ensures entries { IfOk result (λ w. IsPermutation (entries_in w.done.items) (all_calls w.passes.items)) }
+    ensures own { IfOk result (λ w. AreOwn w.passes.items) }
+    ensures passes { IfOk result (λ w. length w.passes.items ≡ workers) }
+    ensures back { IfErr result (λ r. AreBackAll workers r.fault r.passes.items) }
+    ensures room { IfErr result (λ r. r.fault ≡ WorkFault.PassesOut → vec_len r.passes < vec_capacity r.passes) }
+    ensures missing { IfErr result (λ r. IsOfJobs (length setting.now.inputs.now) r.fault) }
+{
+    let mut passes = room;
+    match done_by(setting, workers, &mut passes) {
         Ok(done) => Ok(Worked { done, passes }),
         Err(fault) => Err(WorkRefused { fault, passes }),
     }
 }
 
-// The results of all jobs. The passes that it makes are there in each case.
+// The results of all jobs. The passes that it makes, for which there is room, are there in each case.
 fn done_by<'a, L: Side + Send + Sync, R: Threads + Wait + Sync, G: Gate>(
     setting: &Setting<'a, L, R, G>,
     workers: u32,
     passes: &mut Vec<Pass<L>>,
 ) -> Result<Vec<Done>, WorkFault>
     requires inputs { length setting.now.inputs.now < 2 ^ 32 }
-    requires passes { vec_len passes.old ≡ 0 }
+    requires passes { passes.old.items ≡ [] }
+    requires room { workers ≤ vec_capacity passes.old }
     ensures done { IfOk result (λ done. AreLentResults setting.now.inputs.now done.items) }
     ensures jobs { IfOk result (λ done. AreNumbered done.items) }
     ensures entries { IfOk result (λ done. IsPermutation (entries_in done.items) (all_calls passes.new.items)) }
     ensures own { OnOk result (AreOwn passes.new.items) }
     ensures passes { OnOk result (vec_len passes.new ≡ workers) }
-    ensures back { IfErr result (λ f. f ≢ WorkFault.PassesOut → f ≢ WorkFault.Memory → vec_len passes.new ≡ workers) }
+    ensures back { IfErr result (λ f. f ≢ WorkFault.PassesOut → vec_len passes.new ≡ workers) }
     ensures few { IfErr result (λ f. f ≡ WorkFault.PassesOut → vec_len passes.new < workers) }
+    ensures unused { IfErr result (λ f. f ≡ WorkFault.PassesOut → AreUnused passes.new.items) }
+    ensures room { IfErr result (λ f. f ≡ WorkFault.PassesOut → vec_len passes.new < vec_capacity passes.new) }
+    ensures missing { IfErr result (IsOfJobs (length setting.now.inputs.now)) }
 {
     make_passes(setting.rt, setting.shared, workers, passes)?;
     let done = results_of(setting, passes)?;
@@ -148,6 +186,7 @@ fn results_of<'a, L: Side + Send + Sync, R: Threads + Wait + Sync, G: Gate>(
     ensures jobs { IfOk result (λ done. AreNumbered done.items) }
     ensures kept { vec_len passes.new ≡ vec_len passes.old }
     ensures fault { IfErr result (λ f. f ≢ WorkFault.PassesOut) }
+    ensures missing { IfErr result (IsOfJobs (length setting.now.inputs.now)) }
 {
     let jobs = jobs_of(setting.rt, setting.alloc, setting.inputs.len())?;
     let (ends, results) = ends_for(setting.alloc, jobs, passes.len())?;
@@ -179,19 +218,22 @@ fn ends_for<'a>(
     Ok((ends, from_workers))
 }
 
-// Makes this many passes.
+// Makes this many passes, for which there is room, and puts them after those that are there.
 fn make_passes<L: Side, R: Wait>(
     rt: &R,
     shared: &Shared<L>,
     count: u32,
     passes: &mut Vec<Pass<L>>,
 ) -> Result<(), WorkFault>
+    requires { vec_len passes.old + count ≤ vec_capacity passes.old }
     ensures count { OnOk result (vec_len passes.new ≡ vec_len passes.old + count) }
-    ensures fault { IfErr result (λ f. (f ≡ WorkFault.PassesOut) ⊎ (f ≡ WorkFault.Memory)) }
-    ensures few { IfErr result (λ f. f ≡ WorkFault.PassesOut → vec_len passes.new < vec_len passes.old + count) }
+    ensures kept { take (length passes.old.items) passes.new.items ≡ passes.old.items }
+    ensures unused { AreUnused passes.old.items → AreUnused passes.new.items }
+    ensures fault { IfErr result (λ f. f ≡ WorkFault.PassesOut) }
+    ensures few { OnErr result (vec_len passes.new < vec_len passes.old + count) }
+    ensures room { vec_capacity passes.new ≡ vec_capacity passes.old }
 {
     for _ in 0..count {
-        passes.reserve(1)?;
         match shared.pass(rt) {
             Ok(pass) => passes.push_reserved(pass),
             Err(_) => return Err(WorkFault::PassesOut),
@@ -238,7 +280,7 @@ fn run_all<'a, L: Side + Send + Sync, R: Threads + Wait + Sync, G: Gate>(
     ends: Vec<Ends<'a>>,
 ) -> Result<(), WorkFault>
     ensures kept { vec_len passes.new ≡ vec_len passes.old }
-    ensures fault { IfErr result (λ f. f ≢ WorkFault.PassesOut) }
+    ensures fault { IfErr result (λ f. (f ≡ WorkFault.NoThread) ⊎ (f ≡ WorkFault.Memory)) }
 {
     let given = std::mem::replace(passes, Vec::new(setting.alloc));
     let (outcome, back) = thread::scope(
@@ -246,7 +288,7 @@ fn run_all<'a, L: Side + Send + Sync, R: Threads + Wait + Sync, G: Gate>(
         setting.rt,
         |scope| -> (Result<(), WorkFault>, Vec<Pass<L>>)
             ensures kept { vec_len result.1 ≡ vec_len given }
-            ensures fault { IfErr result.0 (λ f. f ≢ WorkFault.PassesOut) }
+            ensures fault { IfErr result.0 (λ f. (f ≡ WorkFault.NoThread) ⊎ (f ≡ WorkFault.Memory)) }
         { run_in(scope, setting, given, ends) },
     );
     *passes = back;
@@ -261,7 +303,7 @@ fn run_in<'s, 'a: 's, E, L: Side + Send + Sync, R: Threads + Wait + Sync, G: Gat
     ends: Vec<Ends<'a>>,
 ) -> (Result<(), WorkFault>, Vec<Pass<L>>)
     ensures kept { vec_len result.1 ≡ vec_len passes }
-    ensures fault { IfErr result.0 (λ f. f ≢ WorkFault.PassesOut) }
+    ensures fault { IfErr result.0 (λ f. (f ≡ WorkFault.NoThread) ⊎ (f ≡ WorkFault.Memory)) }
 {
     let mut passes = passes;
     let Ok(mut running) = Vec::with_capacity(setting.alloc, passes.len()) else {

@@ -7,6 +7,7 @@ pub mod LayoutLaws
 pub mod Wanting
 pub mod TakingSteps
 pub mod StepLaws
+pub mod CoverLaws
 pub mod Stored
 pub mod Changes
 pub mod Sets

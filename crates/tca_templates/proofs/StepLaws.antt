@@ -174,6 +174,18 @@ module _ {X : Type 0} where
     few = few_more o m n k.few le;
   })
 
+  -- the same places, and less room
+  pub kept_tight : (ss : Slots X) (ps qs : List (Key × ℕ)) (m n : ℕ) (o : Option (List (Step X))) → IsKept ss ps m o → qs ≡ ps → IfSome o (λ us. length us + 2 ≤ m) → m ≤ n + 1 → IsKept ss qs n o
+  kept_tight ss ps qs m n o k a room le = record {
+    slotted = subst (λ (rs : List (Key × ℕ)). IsSlotted ss rs) (sym a) k.slotted;
+    steps_back = k.steps_back;
+    few = go o room;
+  }
+    where
+      go : (q : Option (List (Step X))) → IfSome q (λ us. length us + 2 ≤ m) → AreFew q n
+      go None r = tt
+      go (Some us) r = omega (arith, r, le)
+
   pub kept_put : (k : Key) (t : X) (ss : Slots X) (ps : List (Key × ℕ)) (m : ℕ) (o : Option (List (Step X))) (i : ℕ) → IsKept ss ps m o → place_of k ss ≡ Some i
       → IfSome o (λ us. length us + 2 ≤ m) → IsKept (set ss i (Some (k, t))) ps m (noted o i (get_or ss i None))
   kept_put k t ss ps m o i s e room = record {

@@ -1,5 +1,5 @@
 -- One record more in the hands of a taker.
-use Rattle.std.proofs.Common.{◌≡◌, ℕ, suc, ◌+◌, ◌%◌, ◌<◌, ◌≤◌, List, [], ◌∷◌, ◌++◌, length, drop, Some, Result, Bool, refl, sym, ap, ap₂, ◌∙◌, arith, length-append}
+use Rattle.std.proofs.Common.{◌≡◌, ℕ, suc, ◌+◌, ◌%◌, ◌<◌, ◌≤◌, List, [], ◌∷◌, ◌++◌, length, drop, Some, None, Result, Bool, refl, subst, sym, ap, ap₂, ◌∙◌, arith, length-append}
 use Rattle.tca_wire.specs.Walks.{walk, Next}
 use Rattle.tca_templates.specs.declared.source.Source.{Source}
 use Rattle.tca_templates.specs.declared.fault.DecodeFault.{DecodeFault}
@@ -12,7 +12,9 @@ use Rattle.tca_templates.specs.Reading.{ReadMessage, with_templates, with_record
 use Rattle.tca_templates.specs.Layouts.{fields_in}
 use Rattle.tca_templates.specs.Taking.{Took}
 use Rattle.tca_templates.specs.Wants.{Leads, IsWanted}
-use Rattle.tca_templates.proofs.Records.{data_next, front_next, front_sound}
+use Rattle.tca_templates.specs.Refusals.{IsStop, HoldsRecords}
+use Rattle.tca_templates.specs.declared.fault.DecodeFault.TheVariants.{Memory, RecordCut}
+use Rattle.tca_templates.proofs.Records.{data_next, front_next, front_sound, front_bad}
 use Rattle.tca_templates.proofs.Wanting.{leads_more}
 
 -- The taker holds some records, behind which the rest leads to the same end.
@@ -57,6 +59,31 @@ walked_wants took h t start now count at n rest first from octets w le read = re
   leads = w.leads;
   sound = front_sound h t w.all at rest (fields_in t.specs rest) n le read;
 }
+
+-- the taker holds what it held where the record at the front is refused
+pub walked_stops : {T : Type 0} (took : T → List PlacedView → T → Type 0) (h : Source) (t : TemplateView) (start now next : T) (count at : ℕ) (rest : List ℕ) (first : List PlacedView) (from : ℕ) (octets : List ℕ) (fault : DecodeFault)
+    → (w : Walked took h t start now count at rest first from octets) → took start w.all next → IsStop Memory fault (data_front h t w.all at rest) → HoldsRecords took start next h t fault first from octets
+walked_stops took h t start now next count at rest first from octets fault w held stop = record {
+  records = w.all;
+  stops = record { pieces = w.pieces; there = at; rest = rest; leads = w.leads; stop = stop };
+  held = held;
+}
+
+-- memory is wanted for the record at the front, which the taker hasn't taken
+pub walked_full : {T : Type 0} (took : T → List PlacedView → T → Type 0) (h : Source) (t : TemplateView) (start now next : T) (count at n : ℕ) (rest : List ℕ) (first : List PlacedView) (from : ℕ) (octets : List ℕ)
+    → (w : Walked took h t start now count at rest first from octets) → shortest_of t.specs ≤ length rest → fields_on [] 0 t.specs rest ≡ Some (fields_in t.specs rest, n)
+    → took start w.all next → HoldsRecords took start next h t Memory first from octets
+walked_full took h t start now next count at n rest first from octets w le read held =
+    walked_stops took h t start now next count at rest first from octets Memory w held
+    (subst (λ f. IsStop Memory Memory f) (sym (front_next h t w.all at rest (fields_in t.specs rest) n le read)) refl)
+
+-- the record at the front is cut
+pub walked_cut : {T : Type 0} (took : T → List PlacedView → T → Type 0) (h : Source) (t : TemplateView) (start now : T) (count at : ℕ) (rest : List ℕ) (first : List PlacedView) (from : ℕ) (octets : List ℕ)
+    → Walked took h t start now count at rest first from octets → shortest_of t.specs ≤ length rest → fields_on [] 0 t.specs rest ≡ None
+    → HoldsRecords took start now h t (RecordCut at) first from octets
+walked_cut took h t start now count at rest first from octets w le none =
+    walked_stops took h t start now now count at rest first from octets (RecordCut at) w w.holds
+    (subst (λ f. IsStop Memory (RecordCut at) f) (sym (front_bad h t w.all at rest le none)) refl)
 
 pub walked_first : {T : Type 0} (took : T → List PlacedView → T → Type 0) (h : Source) (t : TemplateView) (start now : T) (count at : ℕ) (rest : List ℕ) (records : List PlacedView)
     → Took took start now count records → Walked took h t start now count at rest records at rest

@@ -6,6 +6,7 @@ pub mod Layouts
 pub mod Taking
 pub mod Handing
 pub mod Wants
+pub mod Refusals
 pub mod Reading
 pub mod Fields
 pub mod Slotted

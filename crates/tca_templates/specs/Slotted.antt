@@ -1,7 +1,10 @@
 -- The slots in which the templates of a session stand, in the order in which these were first seen. Cited by the code and its proofs.
-use Rattle.std.specs.Prelude.{◌≡◌, ◌≤◌, ◌<◌, ◌++◌, ℕ, suc, List, [], ◌∷◌, length, set, if◌then◌else◌, Option, Some, None, IfSome, ⊤}
+use Rattle.std.specs.Prelude.{◌≡◌, ◌≤◌, ◌<◌, ◌++◌, ◌==◌, ◌&&◌, ℕ, suc, Bool, slice_get, List, [], ◌∷◌, length, set, if◌then◌else◌, Option, Some, None, IfSome, ⊤}
 use Rattle.std.specs.Option.{option_map}
 use Rattle.std.specs.Map.{lookup}
+use mathlib.Core.Bool.{beq}
+use Rattle.tca_templates.specs.declared.template.Template.{Template}
+use Rattle.tca_templates.specs.declared.slots.Extent.{Extent}
 use Rattle.tca_templates.specs.Templates.{Key, same_key}
 
 -- what stands in the slots, without the empty ones
@@ -59,3 +62,30 @@ pub record IsKept {X : Type 0} (slots : List (Option (Key × X))) (places : List
   pub slotted : IsSlotted slots places
   pub steps_back : IfSome steps (λ us. AreSteps us slots)
   pub few : AreFew steps room
+
+-- the observation domain of a template, and whether it is an options template
+abbrev pub Kind : Type 0
+Kind = ℕ × Bool
+
+abbrev pub same_kind : Kind → Kind → Bool
+same_kind a b = (a.0 == b.0) && beq a.1 b.1
+
+-- this place is in the extent
+abbrev pub IsWithin : Option Extent → ℕ → Type 0
+IsWithin None i = ⊥
+IsWithin (Some x) i = (x.first ≤ i) × (i ≤ x.last)
+
+-- a template in this place is in the extent of its domain and kind
+abbrev pub IsListed : List (Kind × Extent) → ℕ → Option (Key × Template) → Type 0
+IsListed xs i None = ⊤
+IsListed xs i (Some e) = IsWithin (lookup (same_kind (e.0.0, e.1.options)) xs) i
+
+-- so is each template of the steps
+abbrev pub AreListed : List (Kind × Extent) → List (Step Template) → Type 0
+AreListed xs [] = ⊤
+AreListed xs (u ∷ us) = IsListed xs u.0 u.1 × AreListed xs us
+
+-- Each template of the slots, and each that a step brings back, is in the extent of its domain and kind.
+pub record IsCovered (slots : List (Option (Key × Template))) (extents : List (Kind × Extent)) (steps : Option (List (Step Template))) : Type 0 where
+  pub slots_in : (i : ℕ) (s : Option (Key × Template)) → slice_get slots i ≡ Some s → IsListed extents i s
+  pub steps_in : IfSome steps (λ us. AreListed extents us)

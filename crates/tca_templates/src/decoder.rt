@@ -10,6 +10,7 @@ ghost use Rattle.tca_templates.specs.FirstFaults.{IsFirstFault};
 ghost use Rattle.tca_templates.specs.Fields.{is_read};
 ghost use Rattle.tca_templates.specs.Taking.{GivesAs};
 ghost use Rattle.tca_templates.specs.Wants.{WantsMemory};
+ghost use Rattle.tca_templates.specs.Refusals.{HoldsInFront};
 ghost use Rattle.tca_templates.specs.Handing.{IsHanded};
 ghost use Rattle.tca_templates.specs.Outcomes.{outcome_view};
 
@@ -81,8 +82,8 @@ impl Decoder {
     /// Hands the data records of a message to `taker`, one after the other, in the message's octets. It takes no memory
     /// but for new templates and what the taker takes.
     ///
-    /// An `Err` is the first fault from the left, or `Memory` where a growth was refused. The decoder is then gone, since
-    /// it may have learnt templates of the refused message.
+    /// An `Err` is the first fault from the left, or `Memory` where a growth was refused. `taker` then holds the records
+    /// in front of it. The decoder is gone, since it may have learnt templates of the refused message.
     ///
     /// In a template record (RFC 7011, sections 3.4 and 8.1) the order is: an ID below 256 that isn't a withdrawal of
     /// all `TemplateId`; more than 512 fields `TooMany`; fewer than 6 octets of an options template `TemplateCut`;
@@ -106,6 +107,9 @@ impl Decoder {
         // A fault is the first from the left.
         ensures first { (start : T) → T.took start [] taker.old → IfErr result (λ f. f ≢ DecodeFault.Memory
             → IsFirstFault self.templates (source_of self.number message.now.header) message.now.octets.now message.now.sets.items f) }
+        // Where it is refused, the taker holds the records in front of the fault, each once and in their order.
+        ensures held { (start : T) → T.took start [] taker.old → IfErr result (λ f.
+            HoldsInFront T.took start taker.new self.templates (source_of self.number message.now.header) message.now.octets.now message.now.sets.items f) }
         ensures skipped { IfOk result (λ x. x.skipped ≤ message.now.header.length) }
         // Memory is wanted only where all before is right, and the record that it is wanted for.
         ensures wanted { result ≡ Err DecodeFault.Memory → (start : T) → T.took start [] taker.old

@@ -1,5 +1,5 @@
 //! The sets of a message, one after the other.
-ghost use Rattle.std.specs.Prelude.{◌≡◌, ◌<◌, ◌≤◌, ◌+◌, ◌++◌, ◌∷◌, ◌^◌, List, ℕ, Bool, [], length, if◌then◌else◌, OnOk, IfOk, Some, None, Ok, Err, true, false};
+ghost use Rattle.std.specs.Prelude.{◌≡◌, ◌<◌, ◌≤◌, ◌+◌, ◌++◌, ◌∷◌, ◌^◌, List, ℕ, Bool, [], length, if◌then◌else◌, OnOk, IfOk, IfErr, Some, None, Ok, Err, true, false};
 ghost use Rattle.std.specs.Option.{is_none};
 ghost use Rattle.std.specs.Map.{keys_of};
 ghost use Rattle.std.specs.List.{list_any};
@@ -13,6 +13,7 @@ ghost use Rattle.tca_wire.specs.declared.message.SetSpan.{SetSpan};
 ghost use Rattle.tca_templates.specs.Fields.{templates_of, is_read};
 ghost use Rattle.tca_templates.specs.Taking.{GivesAs, HasCome};
 ghost use Rattle.tca_templates.specs.Wants.{IsWantedInSet, WantsMemory};
+ghost use Rattle.tca_templates.specs.Refusals.{HoldsInSet, HoldsInFront};
 
 use crate::fault::DecodeFault;
 use crate::record::{TakesRecords, read_records};
@@ -64,6 +65,8 @@ fn read_set<T: TakesRecords>(
         (set_of source message.now.octets.now given set) }
     ensures wanted { result ≡ Err DecodeFault.Memory → (start : T) (given : ReadMessage) → HasCome T.took start taker.old templates.old aside given
         → IsWantedInSet source message.now.octets.now given set }
+    ensures held { (start : T) (given : ReadMessage) → HasCome T.took start taker.old templates.old aside given
+        → IfErr result (λ f. HoldsInSet T.took start taker.new source message.now.octets.now given set f) }
     ensures few { IfOk result (λ x. x.count ≤ set.at + set.length) }
     ensures skipped { IfOk result (λ x. x.skipped ≤ aside.skipped + 1) }
     ensures before { templates.new.before ≡ templates.old.before }
@@ -118,6 +121,8 @@ pub(crate) fn read_sets<T: TakesRecords>(
         (read_of (templates_of templates.old) source message.now.octets.now message.now.sets.items) }
     ensures wanted { result ≡ Err DecodeFault.Memory → (start : T) → T.took start [] taker.old
         → WantsMemory (templates_of templates.old) source message.now.octets.now message.now.sets.items }
+    ensures held { (start : T) → T.took start [] taker.old
+        → IfErr result (λ f. HoldsInFront T.took start taker.new (templates_of templates.old) source message.now.octets.now message.now.sets.items f) }
     ensures few { IfOk result (λ x. x.count ≤ message.now.header.length) }
     ensures skipped { IfOk result (λ x. x.skipped ≤ message.now.header.length) }
     ensures before { templates.new.before ≡ templates.old.before }

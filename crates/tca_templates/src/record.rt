@@ -1,5 +1,5 @@
 //! The records of a data set.
-ghost use Rattle.std.specs.Prelude.{◌≡◌, ◌<◌, ◌≤◌, ◌+◌, ◌++◌, ◌∷◌, ◌^◌, List, ℕ, [], length, map, true, OnOk, OnErr, IfOk, IfSome, Ok, Err};
+ghost use Rattle.std.specs.Prelude.{◌≡◌, ◌<◌, ◌≤◌, ◌+◌, ◌++◌, ◌∷◌, ◌^◌, List, ℕ, [], length, map, true, OnOk, OnErr, IfOk, IfErr, IfSome, Ok, Err};
 ghost use Rattle.std.specs.Option.{is_some, option_map};
 ghost use Rattle.tca_wire.specs.Walks.{walk};
 ghost use Rattle.tca_templates.specs.Templates.{shortest_of};
@@ -10,6 +10,7 @@ ghost use Rattle.tca_templates.specs.Fields.{template_of};
 ghost use Rattle.tca_templates.specs.Outcomes.{value_view};
 ghost use Rattle.tca_templates.specs.Taking.{GivesAs, Took};
 ghost use Rattle.tca_templates.specs.Wants.{IsWanted};
+ghost use Rattle.tca_templates.specs.Refusals.{HoldsRecords};
 
 use crate::fault::DecodeFault;
 use crate::layout::{Spot, Spots, locate};
@@ -47,9 +48,10 @@ pub trait TakesRecords {
     /// With these records the first of two values has become the second.
     ghost took: { Self → List PlacedView → Self → Type 0 };
 
-    /// Takes the next record. An `Err` is want of memory.
+    /// Takes the next record. An `Err` is want of memory, and leaves what was taken before.
     fn take(&mut self, next: &Record<'_>) -> Result<(), AllocError>
-        ensures { (start : Self) (records : List PlacedView) → took start records self.old → OnOk result (took start (records ++ next.now ∷ []) self.new) };
+        ensures ok { (start : Self) (records : List PlacedView) → took start records self.old → OnOk result (took start (records ++ next.now ∷ []) self.new) }
+        ensures err { (start : Self) (records : List PlacedView) → took start records self.old → OnErr result (took start records self.new) };
 }
 
 // How many octets stand before the value of a field of this length, and how many it has: none and the length,
@@ -216,6 +218,8 @@ fn read_fixed<T: TakesRecords>(
     ensures exact { IfOk result (λ n. (start : T) (records : List PlacedView) (at : ℕ) → Took T.took start taker.old count records
         → (all : List PlacedView) × (walk (data_front source (template_of template.now)) records at octets.now ≡ Ok all) × Took T.took start taker.new n all) }
     ensures wanted { OnErr result ((start : T) (records : List PlacedView) (at : ℕ) → Took T.took start taker.old count records → IsWanted (data_front source (template_of template.now)) records at octets.now) }
+    ensures held { OnErr result ((start : T) (records : List PlacedView) (at : ℕ) → Took T.took start taker.old count records
+        → HoldsRecords T.took start taker.new source (template_of template.now) DecodeFault.Memory records at octets.now) }
     ensures few { IfOk result (λ n. n ≤ count + length octets.now) }
 {
     let size = template.shortest as usize;
@@ -253,6 +257,8 @@ fn read_variable<T: TakesRecords>(
         → GivesAs DecodeFault.Memory (λ n all. Took T.took start taker.new n all) result (walk (data_front source (template_of template.now)) records at octets.now) }
     ensures wanted { result ≡ Err DecodeFault.Memory → (start : T) (records : List PlacedView) → Took T.took start taker.old count records
         → IsWanted (data_front source (template_of template.now)) records at octets.now }
+    ensures held { (start : T) (records : List PlacedView) → Took T.took start taker.old count records
+        → IfErr result (λ f. HoldsRecords T.took start taker.new source (template_of template.now) f records at octets.now) }
     ensures few { IfOk result (λ n. n ≤ count + length octets.now) }
 {
     let shortest = template.shortest as usize;
@@ -296,6 +302,8 @@ pub(crate) fn read_records<T: TakesRecords>(
         → GivesAs DecodeFault.Memory (λ n all. Took T.took start taker.new n all) result (walk (data_front source (template_of template.now)) records at octets.now) }
     ensures wanted { result ≡ Err DecodeFault.Memory → (start : T) (records : List PlacedView) → Took T.took start taker.old count records
         → IsWanted (data_front source (template_of template.now)) records at octets.now }
+    ensures held { (start : T) (records : List PlacedView) → Took T.took start taker.old count records
+        → IfErr result (λ f. HoldsRecords T.took start taker.new source (template_of template.now) f records at octets.now) }
     ensures few { IfOk result (λ n. n ≤ count + length octets.now) }
 {
     match &template.fixed {

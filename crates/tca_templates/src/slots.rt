@@ -2,17 +2,22 @@
 //!
 //! A withdrawal leaves its slot empty, so that nothing is moved. The empty slots are taken away together, when a new
 //! template comes and they are as many as the templates. So what a withdrawal and a definition cost on average doesn't
-//! depend on how many templates are known; only the withdrawal of a whole kind goes over all slots.
+//! depend on how many templates are known.
+//!
+//! For each domain and kind an extent of slots is noted, from the first of its templates to the last, which may be wider
+//! than need be. A withdrawal of all of them goes over that extent alone, and forgets it unless steps are noted. So it
+//! goes over no slot where there is no template of the kind, and over few where they were defined one after the other.
 //!
 //! While a message is read that may be refused, each change notes what stood in its slot before, and its step reserves
 //! what taking it back needs. So a refusal is undone without memory, from the last change to the first.
-ghost use Rattle.std.specs.Prelude.{◌≡◌, ◌+◌, ◌<◌, ◌≤◌, ◌^◌, Some, None, [], length, set, get_or, OnOk, OnErr, IfSome, vec_len, vec_capacity};
+ghost use Rattle.std.specs.Prelude.{◌≡◌, ◌+◌, ◌<◌, ◌≤◌, ◌^◌, ℕ, Bool, Option, Some, None, slice_get, IsOk, [], length, set, get_or, OnOk, OnErr, IfSome, vec_len, vec_capacity};
 ghost use Rattle.std.specs.Option.{option_map};
 ghost use Rattle.std.specs.Map.{lookup};
 ghost use Rattle.indexmap.specs.IndexMap.{spare};
-ghost use Rattle.tca_templates.specs.Templates.{known, define, withdraw, withdraw_all, same_key};
+ghost use Rattle.tca_templates.specs.declared.template.Template.{Template};
+ghost use Rattle.tca_templates.specs.Templates.{Key, known, define, withdraw, withdraw_all, same_key};
 ghost use Rattle.tca_templates.specs.Fields.{template_of, templates_of};
-ghost use Rattle.tca_templates.specs.Slotted.{filled, noted, IsApart, IsSlotted};
+ghost use Rattle.tca_templates.specs.Slotted.{filled, noted, same_kind, IsApart, IsSlotted, IsWithin, IsListed};
 
 use crate::template::Template;
 use indexmap::IndexMap;
@@ -29,6 +34,16 @@ pub(crate) type Slot = Option<((u32, u16), Template)>;
 // A step back: a slot's place, and what stood there.
 type Step = (usize, Slot);
 
+// Slots from the first of these to the last.
+#[derive(Clone, Copy)]
+struct Extent {
+    first: usize,
+    last: usize,
+}
+
+// The extents that hold the templates of a domain and kind.
+type Extents = IndexMap<(u32, bool), Extent>;
+
 // The templates of a session by observation domain and ID, in the order in which they were first seen.
 #[derive(Drop)]
 pub(crate) struct Slots {
@@ -36,6 +51,8 @@ pub(crate) struct Slots {
     slots: Vec<Slot>,
     /// In which slot the template of a domain and ID is; their order says nothing.
     places: IndexMap<(u32, u16), usize>,
+    /// Among which slots all templates of a domain and kind are; others may be there too.
+    extents: Extents,
     /// The way back to the slots before a message that may be refused, while it is read. The map has room for each step.
     steps: Option<Vec<Step>>,
 }
@@ -44,13 +61,14 @@ impl Model for Slots {
     ghost use Rattle.tca_templates.specs.Fields.{SlotsView};
     ghost use Rattle.std.specs.Option.{option_map};
     ghost use Rattle.indexmap.specs.IndexMap.{spare};
-    ghost use Rattle.tca_templates.specs.Slotted.{filled, before_of, IsKept};
+    ghost use Rattle.tca_templates.specs.Slotted.{filled, before_of, IsKept, IsCovered};
 
     ghost Value = { SlotsView };
 
     ghost view = { λ s. record { known = filled s.slots.items; before = before_of (option_map (λ l. l.items) s.steps) s.slots.items } };
 
-    ghost invariant = { λ s. IsKept s.slots.items s.places.entries (spare s.places) (option_map (λ l. l.items) s.steps) };
+    ghost invariant = { λ s. IsKept s.slots.items s.places.entries (spare s.places) (option_map (λ l. l.items) s.steps)
+        × IsCovered s.slots.items s.extents.entries (option_map (λ l. l.items) s.steps) };
 }
 
 // Notes the place of each template anew, in the room that the map has.
@@ -64,6 +82,57 @@ fn number(slots: &[Slot], places: &mut IndexMap<(u32, u16), usize>)
         if let Some((key, _)) = slot {
             // It can't want memory, since the map has room.
             let _ = places.insert(*key, place);
+        }
+    }
+}
+
+// An extent with one slot more, whether or not there is one.
+fn with_slot(known: Option<Extent>, place: usize) -> Extent
+    ensures wider { (i : ℕ) → IsWithin known i → IsWithin (Some result) i }
+    ensures place { IsWithin (Some result) place }
+{
+    let Some(extent) = known else {
+        return Extent {
+            first: place,
+            last: place,
+        };
+    };
+    Extent {
+        first: extent.first.min(place),
+        last: extent.last.max(place),
+    }
+}
+
+// Where a walk over so many slots ends that takes in no slot behind the last.
+fn end_behind(last: usize, count: usize) -> usize
+    ensures within { result ≤ count }
+    ensures all { (i : ℕ) → result ≤ i → i < count → last < i }
+{
+    if last < count { last + 1 } else { count }
+}
+
+// Widens the extent of a domain and kind to a slot. An `Err` leaves all as it was.
+fn widen(extents: &mut Extents, kind: (u32, bool), place: usize) -> Result<(), AllocError>
+    ensures wider { (k : ℕ × Bool) (i : ℕ) → IsWithin (lookup (same_kind k) extents.old.entries) i → IsWithin (lookup (same_kind k) extents.new.entries) i }
+    ensures ok { OnOk result (IsWithin (lookup (same_kind kind) extents.new.entries) place) }
+    ensures succeeds { 0 < spare extents.old → IsOk result }
+    ensures spare { spare extents.old ≤ spare extents.new + 1 }
+{
+    let extent = with_slot(extents.get(&kind).copied(), place);
+    extents.insert(kind, extent)?;
+    Ok(())
+}
+
+// Notes the extents anew, in the room that the map has.
+fn cover(slots: &[Slot], extents: &mut Extents)
+    requires { length slots.now ≤ spare extents.old }
+    ensures { (i : ℕ) (s : Option (Key × Template)) → slice_get slots.now i ≡ Some s → IsListed extents.new.entries i s }
+{
+    extents.clear();
+    for (place, slot) in slots.iter().enumerate() {
+        if let Some((key, template)) = slot {
+            // It can't want memory, since the map has room.
+            let _ = widen(extents, (key.0, template.options), place);
         }
     }
 }
@@ -116,6 +185,7 @@ impl Slots {
         Slots {
             slots: Vec::new(alloc),
             places: IndexMap::new(alloc),
+            extents: IndexMap::new(alloc),
             steps: None,
         }
     }
@@ -160,6 +230,7 @@ impl Slots {
         let key = (domain, id);
         if let Some(place) = self.places.get(&key) {
             let place = *place;
+            widen(&mut self.extents, (domain, template.options), place)?;
             make_room(&mut self.steps, &mut self.places)?;
             put(
                 &mut self.slots,
@@ -179,29 +250,33 @@ impl Slots {
         ensures err { OnErr result (self.new ≡ self.old) }
         ensures before { self.new.before ≡ self.old.before }
     {
-        self.close_up();
+        self.close_up()?;
         make_room(&mut self.steps, &mut self.places)?;
         self.slots.reserve(1)?;
         let place = self.slots.len();
+        widen(&mut self.extents, (key.0, template.options), place)?;
         self.places.insert(key, place)?;
         self.slots.push(Some((key, template)))?;
         note(&mut self.steps, place, None);
         Ok(())
     }
 
-    // Takes the empty slots away where they are many, unless steps are noted. It takes no memory.
-    fn close_up(&mut self)
+    // Takes the empty slots away where they are many, unless steps are noted. An `Err` leaves them.
+    fn close_up(&mut self) -> Result<(), AllocError>
         ensures { self.new ≡ self.old }
     {
         if self.steps.is_some() {
-            return;
+            return Ok(());
         }
         let empty = self.slots.len() - self.places.len();
         if empty < FEWEST_EMPTY || empty < self.places.len() {
-            return;
+            return Ok(());
         }
+        self.extents.reserve(self.places.len())?;
         self.slots.retain(|slot| slot.is_some());
         number(&self.slots, &mut self.places);
+        cover(&self.slots, &mut self.extents);
+        Ok(())
     }
 
     // Withdraws an ID of whichever kind; nothing happens where it isn't known. It takes memory only where steps are noted.
@@ -222,7 +297,13 @@ impl Slots {
         ensures ok { OnOk result (templates_of self.new ≡ withdraw_all domain options (templates_of self.old)) }
         ensures before { self.new.before ≡ self.old.before }
     {
-        for i in 0..self.slots.len() {
+        let kind = (domain, options);
+        let Some(extent) = self.extents.get(&kind) else {
+            return Ok(());
+        };
+        let first = extent.first;
+        let end = end_behind(extent.last, self.slots.len());
+        for i in first..end {
             if let Some((key, template)) = &self.slots[i] {
                 if key.0 == domain && template.options == options {
                     make_room(&mut self.steps, &mut self.places)?;
@@ -231,16 +312,20 @@ impl Slots {
                 }
             }
         }
+        if self.steps.is_none() {
+            self.extents.swap_remove(&kind);
+        }
         Ok(())
     }
 
-    // A message begins that may be refused: from here on the steps back are noted. It takes no memory.
+    // A message begins that may be refused: from here on the steps back are noted.
     pub(crate) fn begin(&mut self, alloc: Global)
         ensures known { self.new.known ≡ self.old.known }
         ensures before { self.new.before ≡ Some self.old.known }
     {
         self.steps = None;
-        self.close_up();
+        // Where memory is wanting, the empty slots stay.
+        let _ = self.close_up();
         self.steps = Some(Vec::new(alloc));
     }
 

@@ -8,8 +8,11 @@ pub mod InputLaws
 pub mod NotedLaws
 pub mod BillLemmas
 pub mod ReadLaws
+pub mod RefusalLaws
 pub mod ReplicatedLaws
 pub mod AbsorbLaws
 pub mod ShareLaws
+pub mod AnswerLaws
 pub mod Splitting
 pub mod Asking
+pub mod AuditLaws

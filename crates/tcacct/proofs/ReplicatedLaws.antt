@@ -6,23 +6,24 @@ use Rattle.tca_report.specs.input.Inputs.{InputView}
 use Rattle.tcacct.specs.declared.fault.RunFault.{RunFault}
 use Rattle.tcacct.specs.declared.fault.Family.{Family}
 use Rattle.tcacct.specs.declared.fault.Family.TheVariants as family
-use Rattle.tcacct.specs.Replicated.{AreReplicasRefused, IsInputFault, IsLogRefusal, IsReplicatedUnmade, IsShareRefusal, is_of_run}
+use Rattle.tcacct.specs.Replicated.{AreReplicasRefused, IsInputFault, IsLogRefusal, IsReplicatedUnmade, IsRunNumber, IsShareRefusal}
+use Rattle.tcacct.proofs.RefusalLaws.{in_run}
 use Rattle.tcacct.specs.Runs.{input_refusal, is_family, is_write}
 
-of_run : (f : Family) → is_of_run f ≡ true → is_family f family.Write ≡ false
-of_run family.Read h = refl
-of_run family.Export h = refl
-of_run family.Wire h = refl
-of_run family.Decode h = refl
-of_run family.Plan h = refl
-of_run family.Spec h = refl
-of_run family.Log h = refl
-of_run family.Share h = refl
-of_run family.Work h = refl
-of_run family.Close h = refl
-of_run family.Absorb h = refl
-of_run family.Write h = absurd cc
-of_run family.Memory h = refl
+of_run : (f : Family) (n : ℕ) → IsRunNumber f n → is_family f family.Write ≡ false
+of_run family.Read n h = refl
+of_run family.Export n h = refl
+of_run family.Wire n h = refl
+of_run family.Decode n h = refl
+of_run family.Plan n h = refl
+of_run family.Spec n h = refl
+of_run family.Log n h = refl
+of_run family.Share n h = refl
+of_run family.Work n h = refl
+of_run family.Close n h = refl
+of_run family.Absorb n h = refl
+of_run family.Write n h = absurd h
+of_run family.Memory n h = refl
 
 of_take : (n : ℕ) (e : RunFault) → IsLogRefusal n e ⊎ IsShareRefusal n e → is_write e ≡ false
 of_take n e (inl log) = ap is_write log.1
@@ -39,9 +40,9 @@ at_input n input e (inl own) = ap is_write own.1 ∙ of_input n own.0
 at_input n input e (inr untaken) = of_take n e untaken.1
 
 of_replicas : (inputs : List InputView) (e : RunFault) → AreReplicasRefused inputs e → is_write e ≡ false
-of_replicas inputs e (inl reading) = of_run e.family reading.0.1
+of_replicas inputs e (inl reading) = let run = in_run e reading in of_run e.family e.number run.1
 of_replicas inputs e (inr (inl at)) = at_input at.place at.input e at.why
-of_replicas inputs e (inr (inr telling)) = of_run e.family telling.1.1
+of_replicas inputs e (inr (inr telling)) = of_run e.family e.number telling.1.1
 
 pub no_write : (plan : List ℕ) (inputs : List InputView) (e : RunFault) → IsReplicatedUnmade plan inputs e → is_write e ≡ false
 no_write plan inputs e (inl of_plan) = ap is_write of_plan.2

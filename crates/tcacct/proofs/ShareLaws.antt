@@ -70,7 +70,7 @@ get_here [] i x inside = let no : ⊥ = omega arith in absurd no
 get_here (y ∷ ys) zero x inside = refl
 get_here (y ∷ ys) (suc i) x inside = get_here ys i x (omega arith)
 
-get_there : {X : Type 0} (xs : List X) (i k : ℕ) (x : X) → k ≢ i → slice_get (slice_set xs i x) k ≡ slice_get xs k
+pub get_there : {X : Type 0} (xs : List X) (i k : ℕ) (x : X) → k ≢ i → slice_get (slice_set xs i x) k ≡ slice_get xs k
 get_there [] i k x other = refl
 get_there (y ∷ ys) zero zero x other = absurd (other refl)
 get_there (y ∷ ys) zero (suc k) x other = refl

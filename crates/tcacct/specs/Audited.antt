@@ -1,8 +1,9 @@
 -- What the command `audit` prints, and what it is refused for.
-use Rattle.std.specs.Prelude.{◌≡◌, ℕ, Bool, true, false, List, None}
+use Rattle.std.specs.Prelude.{◌≡◌, ◌⊎◌, ℕ, Bool, true, false, List, None}
 use Rattle.tca_report.specs.Faults.{export_number}
 use Rattle.tca_accounts.specs.Faults.{plan_number}
-use Rattle.tca_audit.specs.Audits.{IsAudited, IsRefused}
+use Rattle.tca_accounts.specs.declared.fault.PlanFault.{PlanFault}
+use Rattle.tca_audit.specs.Audits.{IsAudited, IsFaultyPlan, IsRefused, IsRefusedUnder}
 use Rattle.tca_audit.specs.declared.fault.AuditFault.{AuditFault}
 use Rattle.tca_audit.specs.declared.fault.AuditFault.TheVariants as fault
 use Rattle.tca_audit.specs.declared.verdict.Verdict.{Verdict}
@@ -23,6 +24,17 @@ abbrev pub audit_refusal : AuditFault → RunFault
 audit_refusal (fault.Plan f) = refusal None family.Plan (plan_number f)
 audit_refusal (fault.Export f) = refusal None family.Export (export_number f)
 audit_refusal fault.Memory = memory_refusal
+
+-- a text isn't read as a plan: it has this fault, or memory ran out as it was read
+abbrev pub IsPlanUnread : List ℕ → RunFault → Type 0
+IsPlanUnread text e = ((f : PlanFault) × IsFaultyPlan text f × (e ≡ audit_refusal (fault.Plan f))) ⊎ (e ≡ memory_refusal)
+
+-- Why there is no verdict once the plan was read: the fault of the export, or want of memory, which is told only where the export has
+-- none.
+pub record IsUnmadeUnder (export : List ℕ) (e : RunFault) : Type 0 where
+  pub fault : AuditFault
+  pub refused : IsRefusedUnder export fault
+  pub named : e ≡ audit_refusal fault
 
 -- The statement was audited, the line of the verdict was written, and the answer is whether it agrees.
 pub record IsAuditDone (plan export statement : List ℕ) (old new : Device) (agrees : Bool) : Type 0 where

@@ -4,6 +4,7 @@ pub mod Texts
 pub mod Devices
 pub mod Faults
 pub mod Runs
+pub mod Reads
 pub mod Noted
 pub mod Metered
 pub mod Combined

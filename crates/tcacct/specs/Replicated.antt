@@ -1,5 +1,5 @@
 -- What the command `bill` is refused for where replicas and workers read the inputs.
-use Rattle.std.specs.Prelude.{◌≡◌, ◌≢◌, ◌≤◌, ◌<◌, ◌⊎◌, ℕ, ◌+◌, ◌*◌, ◌%◌, ◌==◌, Bool, true, false, List, length, map, take, Option, Some, None, Result, Ok, Err, IsOk, slice_get}
+use Rattle.std.specs.Prelude.{◌≡◌, ◌≢◌, ◌≤◌, ◌<◌, ◌⊎◌, ℕ, ◌+◌, ◌*◌, ◌%◌, ◌==◌, true, false, List, length, map, take, Option, Some, None, Result, Ok, Err, IsOk, slice_get}
 use Rattle.std.specs.Borrow.{Bor}
 use Rattle.std.specs.List.{AllByRecursion, enumerate_from, filter, zip}
 use Rattle.tca_report.specs.report.Reports.{PacketReport}
@@ -15,9 +15,13 @@ use Rattle.tca_accounts.specs.Faults.{plan_number}
 use Rattle.tca_accounts.specs.declared.fault.PlanFault.{PlanFault}
 use Rattle.tca_ingest.specs.Entries.{EntryView, Took}
 use Rattle.tca_ingest.specs.EntryViews.{entry_view}
-use Rattle.tca_ingest.specs.Faults.{share_number}
+use Rattle.tca_gossip.specs.Answers.{absorb_number}
+use Rattle.tca_gossip.specs.declared.fault.AbsorbFault.{AbsorbFault}
+use Rattle.tca_ingest.specs.Faults.{close_number, share_number, work_number}
 use Rattle.tca_ingest.specs.declared.entry.Receipt.{Receipt}
 use Rattle.tca_ingest.specs.declared.job.Done.{Done}
+use Rattle.tca_ingest.specs.declared.fault.CloseFault.{CloseFault}
+use Rattle.tca_ingest.specs.declared.fault.WorkFault.{WorkFault}
 use Rattle.tca_ingest.specs.declared.fault.ShareFault.{ShareFault}
 use Rattle.tca_ingest.specs.declared.fault.ShareFault.TheVariants.{PassesOut}
 use Rattle.tca_ingest.specs.declared.job.JobFault.{JobFault}
@@ -31,7 +35,7 @@ use Rattle.tcacct.specs.Billed.{IsPlanOf, RefusesPlan, statement_under}
 use Rattle.tcacct.specs.Commands.{most_billed, most_replicas, most_workers}
 use Rattle.tcacct.specs.Devices.{Device, IsCutOff, IsCutOffIfGiven, ReceivesIfGiven}
 use Rattle.tcacct.specs.Noted.{AreNotes}
-use Rattle.tcacct.specs.Runs.{HoldReports, IsUnion, input_refusal, is_family, is_write, refusal, write_refusal}
+use Rattle.tcacct.specs.Runs.{HoldReports, IsUnion, input_refusal, is_write, memory_refusal, refusal, write_refusal}
 
 -- how many replicas, workers of each and inputs there may be
 pub record IsWithinLimits (replicas workers inputs : ℕ) : Type 0 where
@@ -66,22 +70,31 @@ pub record AreRead (inputs : List InputView) (notes : List Notes) (lists : List 
   pub noted : AreNotes inputs notes
   pub hold : HoldReports inputs lists
 
--- the families of a refusal that blames no input: a call on a replica, its workers, replicas that don't close or don't agree, a
--- replica that doesn't absorb, and want of memory
-abbrev pub is_of_run : Family → Bool
-is_of_run family.Share = true
-is_of_run family.Work = true
-is_of_run family.Close = true
-is_of_run family.Absorb = true
-is_of_run family.Memory = true
-is_of_run other = false
+-- the numbers of each family that blames no input while replicas read the inputs: those of a call on a replica, of its workers, of
+-- replicas that don't close or don't agree, and of want of memory
+abbrev pub IsReadingNumber : Family → ℕ → Type 0
+IsReadingNumber family.Share number = (fault : ShareFault) × (number ≡ share_number fault)
+IsReadingNumber family.Work number = (fault : WorkFault) × (number ≡ work_number fault)
+IsReadingNumber family.Close number = (fault : CloseFault) × (number ≡ close_number fault)
+IsReadingNumber family.Memory number = number ≡ 1
+IsReadingNumber other number = ⊥
 
+-- the same while replicas tell each other what they hold: there are those of a replica that doesn't absorb, too
+abbrev pub IsRunNumber : Family → ℕ → Type 0
+IsRunNumber family.Absorb number = (fault : AbsorbFault) × (number ≡ absorb_number fault)
+IsRunNumber other number = IsReadingNumber other number
+
+-- a refusal of the run, which blames no input
 abbrev pub IsRunRefused : RunFault → Type 0
-IsRunRefused e = (e.input ≡ None) × (is_of_run e.family ≡ true)
+IsRunRefused e = (e.input ≡ None) × IsRunNumber e.family e.number
 
 -- a refusal of the run while its replicas still read the inputs, when none absorbs anything
 abbrev pub IsReadingRefused : RunFault → Type 0
-IsReadingRefused e = IsRunRefused e × (is_family e.family family.Absorb ≡ false)
+IsReadingRefused e = (e.input ≡ None) × IsReadingNumber e.family e.number
+
+-- the refusal of an input whose answer doesn't stand at its place
+abbrev pub stranger_refusal : RunFault
+stranger_refusal = refusal None family.Work 2
 
 -- a log that has no room, or finds no memory, for the reports of input n
 abbrev pub IsLogRefusal : ℕ → RunFault → Type 0
@@ -112,6 +125,35 @@ abbrev pub refusal_of : ℕ → Result (Notes × Receipt) JobFault → Option Ru
 refusal_of n (Ok r) = stop_refusal n (entry_view r.1.entry)
 refusal_of n (Err (job.Input fault)) = Some (input_refusal n fault)
 refusal_of n (Err (job.Share fault)) = Some (refusal (Some n) family.Share (share_number fault))
+
+-- at its place the input of this number has this answer
+abbrev pub IsAnswerAt : List InputView → List (Option AnswerView) → ℕ → AnswerView → Type 0
+IsAnswerAt inputs places n answer = (slice_get places n ≡ Some (Some answer)) × (slice_get inputs n ≡ Some answer.input)
+
+-- at their places the first inputs, so many of them, have their answers, none of which is a refusal
+abbrev pub AreAnswered : List InputView → List (Option AnswerView) → ℕ → Type 0
+AreAnswered inputs places count = (n : ℕ) → n < count → (answer : AnswerView) × IsAnswerAt inputs places n answer × (refusal_of n answer.result ≡ None)
+
+-- The first refusal in the order of the inputs: the answer of an input is this refusal, and those of all inputs before it are none.
+pub record IsFirstRefusal (inputs : List InputView) (places : List (Option AnswerView)) (e : RunFault) : Type 0 where
+  pub place : ℕ
+  pub answer : AnswerView
+  pub here : IsAnswerAt inputs places place answer
+  pub told : refusal_of place answer.result ≡ Some e
+  pub before : AreAnswered inputs places place
+
+-- A stranger: an input has no answer at its place, which is empty or has that of another input, and the answers of all inputs before it
+-- are no refusals.
+pub record IsStranger (inputs : List InputView) (places : List (Option AnswerView)) (e : RunFault) : Type 0 where
+  pub named : e ≡ stranger_refusal
+  pub place : ℕ
+  pub inside : place < length inputs
+  pub missing : (answer : AnswerView) → IsAnswerAt inputs places place answer → ⊥
+  pub before : AreAnswered inputs places place
+
+-- what answers at places are refused for: the first refusal of an input, a stranger, or want of memory
+abbrev pub AreAnswersRefused : List InputView → List (Option AnswerView) → RunFault → Type 0
+AreAnswersRefused inputs places e = IsFirstRefusal inputs places e ⊎ (IsStranger inputs places e ⊎ (e ≡ memory_refusal))
 
 -- inputs without a fault
 abbrev pub AreSound : List InputView → Type 0

@@ -1,10 +1,10 @@
 //! What the workers of all replicas answered, put back into the order of the inputs.
 ghost use Rattle.std.specs.List.{flat_map};
-ghost use Rattle.std.specs.Prelude.{◌≡◌, ◌≢◌, ℕ, ◌++◌, ◌+◌, ◌*◌, ◌<◌, ◌≤◌, ◌^◌, IfOk, IfErr, OnOk, OnErr, Some, length, map, slice_get, slice_set};
+ghost use Rattle.std.specs.Prelude.{◌≡◌, ◌≢◌, ℕ, ◌++◌, ◌+◌, ◌*◌, ◌<◌, ◌≤◌, ◌^◌, IfOk, IfErr, OnOk, OnErr, None, Some, length, map, slice_get, slice_set};
 ghost use Rattle.tca_ingest.specs.Works.{AreLentResults};
 ghost use Rattle.tca_report.specs.input.Inputs.{input_view};
 ghost use Rattle.tcacct.specs.Noted.{IsNoted};
-ghost use Rattle.tcacct.specs.Replicated.{AnswerView, ArePut, AreRead, AreReplicasRefused, IsInputFault, IsReadingRefused, answers_of, refusal_of};
+ghost use Rattle.tcacct.specs.Replicated.{AnswerView, AreAnswersRefused, ArePut, AreRead, AreReplicasRefused, IsInputFault, answers_of, refusal_of, stranger_refusal};
 ghost use Rattle.tcacct.specs.Runs.{HoldsReports, views_of, union_of};
 
 use crate::fault::RunFault;
@@ -60,7 +60,7 @@ pub(crate) fn put_answers<'a>(
     requires apart { 1 ≤ step }
     ensures put { OnOk result (ArePut first step (answers_of share.now done.items) places.old.items places.new.items) }
     ensures outside { OnErr result ((k : ℕ) × (k < length share.now) × (length places.old.items ≤ first + k * step)) }
-    ensures refused { IfErr result IsReadingRefused }
+    ensures refused { IfErr result (λ e. e ≡ stranger_refusal) }
 {
     let mut left = done;
     let mut at = first;
@@ -85,7 +85,7 @@ fn put_answer<'a>(
     ensures put { OnOk result (places.new.items ≡ slice_set places.old.items at (Some answer.entry)) }
     ensures inside { OnOk result (at < length places.old.items) }
     ensures outside { OnErr result (length places.old.items ≤ at) }
-    ensures refused { IfErr result IsReadingRefused }
+    ensures refused { IfErr result (λ e. e ≡ stranger_refusal) }
 {
     if at >= places.len() {
         return Err(RunFault::stranger());
@@ -102,8 +102,9 @@ fn take_answer<'a>(
 ) -> Result<Answer<'a>, RunFault>
     ensures taken { IfOk result (λ a. slice_get places.old.items n ≡ Some (Some a)) }
     ensures same { IfOk result (λ a. a.input ≡ input_view input.now) }
+    ensures others { OnOk result (places.new.items ≡ slice_set places.old.items n None) }
     ensures stranger { OnErr result ((a : AnswerView) → slice_get places.old.items n ≡ Some (Some a) → a.input ≢ input_view input.now) }
-    ensures refused { IfErr result IsReadingRefused }
+    ensures refused { IfErr result (λ e. e ≡ stranger_refusal) }
 {
     if n >= places.len() {
         return Err(RunFault::stranger());
@@ -121,6 +122,7 @@ fn take_answer<'a>(
 fn read_answer(n: u32, answer: Answer<'_>) -> Result<(Notes, Vec<Report>), RunFault>
     ensures noted { IfOk result (λ x. IsNoted answer.entry.input x.0) }
     ensures holds { IfOk result (λ x. HoldsReports answer.entry.input x.1.items) }
+    ensures none { OnOk result (refusal_of n answer.entry.result ≡ None) }
     ensures told { IfErr result (λ e. refusal_of n answer.entry.result ≡ Some e) }
     ensures refused { IfErr result (IsInputFault n answer.entry.input) }
 {
@@ -158,6 +160,7 @@ pub(crate) fn contents_of<'a>(
 ) -> Result<Contents, RunFault>
     requires { length inputs.now < 2 ^ 32 }
     ensures read { IfOk result (λ x. AreRead (views_of inputs.now) x.notes.items (map (λ l. l.items) x.lists.items)) }
+    ensures first { IfErr result (AreAnswersRefused (views_of inputs.now) places.entry.items) }
     ensures refused { IfErr result (AreReplicasRefused (views_of inputs.now)) }
 {
     let mut places = places;

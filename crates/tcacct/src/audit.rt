@@ -1,15 +1,44 @@
 //! The command `audit`.
 ghost use Rattle.std.specs.Prelude.{◌≡◌, IfOk, IfErr, string_bytes};
-ghost use Rattle.tca_audit.specs.Audits.{IsAudited};
-ghost use Rattle.tcacct.specs.Audited.{IsAuditDone, IsAuditRefused, IsAuditUnmade, is_agreement};
+ghost use Rattle.tca_audit.specs.Audits.{IsAudited, IsAuditedUnder, IsPlanText};
+ghost use Rattle.tcacct.specs.Audited.{IsAuditDone, IsAuditRefused, IsAuditUnmade, IsPlanUnread, IsUnmadeUnder, is_agreement};
 ghost use Rattle.tcacct.specs.Devices.{device};
 ghost use Rattle.tcacct.specs.Texts.{audit_text};
 
 use crate::fault::RunFault;
 use crate::texts::audit_line;
-use std::alloc::Global;
-use tca_audit::{Verdict, audit};
+use std::alloc::{AllocError, Global};
+use tca_accounts::{Plan, PlanFault};
+use tca_audit::{AuditFault, Verdict, audit_under};
 use tca_report::{Write, put_all};
+
+// The plan of a text.
+fn plan_of(alloc: Global, text: &[u8]) -> Result<Plan, RunFault>
+    ensures named { IfOk result (IsPlanText text.now) }
+    ensures refused { IfErr result (IsPlanUnread text.now) }
+{
+    match Plan::from_text(alloc, text) {
+        Ok(plan) => Ok(plan),
+        Err(PlanFault::Memory) => Err(RunFault::from(AllocError)),
+        Err(fault) => Err(RunFault::from(AuditFault::Plan(fault))),
+    }
+}
+
+// The verdict under a plan, and its line.
+fn made_under(
+    alloc: Global,
+    plan: &Plan,
+    export: &[u8],
+    statement: &[u8],
+) -> Result<(Verdict, String), RunFault>
+    ensures audited { IfOk result (λ x. IsAuditedUnder plan.now export.now statement.now x.0) }
+    ensures line { IfOk result (λ x. string_bytes x.1 ≡ audit_text x.0) }
+    ensures refused { IfErr result (IsUnmadeUnder export.now) }
+{
+    let verdict = audit_under(alloc, plan, export, statement)?;
+    let line = audit_line(alloc, verdict)?;
+    Ok((verdict, line))
+}
 
 // The verdict, and its line.
 fn made(
@@ -22,9 +51,8 @@ fn made(
     ensures line { IfOk result (λ x. string_bytes x.1 ≡ audit_text x.0) }
     ensures unmade { IfErr result (IsAuditUnmade plan.now export.now) }
 {
-    let verdict = audit(alloc, plan, export, statement)?;
-    let line = audit_line(alloc, verdict)?;
-    Ok((verdict, line))
+    let plan = plan_of(alloc, plan)?;
+    made_under(alloc, &plan, export, statement)
 }
 
 // Whether a verdict is that the statement agrees.
@@ -41,8 +69,8 @@ fn agrees(verdict: Verdict) -> bool
 /// plan, else `differs at` and the first octet that differs, counted from 0, or the shorter text's length. Answers whether it
 /// agrees.
 ///
-/// The plan is judged first, then the export. A refusal but that of a write leaves `out` as it was; that of a write says that only
-/// a part of the line went out.
+/// The plan is judged first, then the export; want of memory behind the plan is told only where the export has no fault. A refusal
+/// but that of a write leaves `out` as it was; that of a write says that only a part of the line went out.
 pub fn run_audit<W: Write>(
     alloc: Global,
     plan: &[u8],

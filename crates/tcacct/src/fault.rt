@@ -103,6 +103,17 @@ impl fmt::Display for RunFault {
 impl Error for RunFault {}
 
 impl RunFault {
+    // A refusal of this family and number that blames no input.
+    fn without_input(family: Family, number: u8) -> RunFault
+        ensures { result ≡ refusal None family number }
+    {
+        RunFault {
+            input: None,
+            family,
+            number,
+        }
+    }
+
     /// A file that can't be opened or read, an input or the plan.
     pub(crate) fn read(input: Option<u32>, fault: ReadFault) -> RunFault
         ensures { result ≡ refusal input family.Read (read_number fault) }
@@ -118,11 +129,7 @@ impl RunFault {
     pub(crate) fn write() -> RunFault
         ensures { result ≡ write_refusal }
     {
-        RunFault {
-            input: None,
-            family: Family::Write,
-            number: 1,
-        }
+        RunFault::without_input(Family::Write, 1)
     }
 
     /// An input with a fault.
@@ -169,22 +176,14 @@ impl RunFault {
     pub(crate) fn differs() -> RunFault
         ensures { result ≡ refusal None family.Close 3 }
     {
-        RunFault {
-            input: None,
-            family: Family::Close,
-            number: 3,
-        }
+        RunFault::without_input(Family::Close, 3)
     }
 
     /// The result of another input than the workers were given.
     pub(crate) fn stranger() -> RunFault
         ensures { result ≡ refusal None family.Work 2 }
     {
-        RunFault {
-            input: None,
-            family: Family::Work,
-            number: 2,
-        }
+        RunFault::without_input(Family::Work, 2)
     }
 }
 
@@ -196,11 +195,7 @@ impl From<AllocError> for RunFault {
     ghost from_gives = { λ _ e. e ≡ memory_refusal };
 
     fn from(_fault: AllocError) -> RunFault {
-        RunFault {
-            input: None,
-            family: Family::Memory,
-            number: 1,
-        }
+        RunFault::without_input(Family::Memory, 1)
     }
 }
 
@@ -225,11 +220,7 @@ impl From<PlanFault> for RunFault {
     ghost from_gives = { λ fault e. e ≡ refusal None family.Plan (plan_number fault) };
 
     fn from(fault: PlanFault) -> RunFault {
-        RunFault {
-            input: None,
-            family: Family::Plan,
-            number: fault.number(),
-        }
+        RunFault::without_input(Family::Plan, fault.number())
     }
 }
 
@@ -243,11 +234,7 @@ impl From<SpecFault> for RunFault {
     ghost from_gives = { λ fault e. e ≡ refusal None family.Spec (spec_number fault) };
 
     fn from(fault: SpecFault) -> RunFault {
-        RunFault {
-            input: None,
-            family: Family::Spec,
-            number: fault.number(),
-        }
+        RunFault::without_input(Family::Spec, fault.number())
     }
 }
 
@@ -264,11 +251,7 @@ impl From<AuditFault> for RunFault {
             AuditFault::Export(fault) => (Family::Export, fault.number()),
             AuditFault::Memory => (Family::Memory, 1),
         };
-        RunFault {
-            input: None,
-            family,
-            number,
-        }
+        RunFault::without_input(family, number)
     }
 }
 
@@ -282,11 +265,7 @@ impl From<ShareFault> for RunFault {
     ghost from_gives = { λ fault e. e ≡ refusal None family.Share (share_number fault) };
 
     fn from(fault: ShareFault) -> RunFault {
-        RunFault {
-            input: None,
-            family: Family::Share,
-            number: fault.number(),
-        }
+        RunFault::without_input(Family::Share, fault.number())
     }
 }
 
@@ -300,11 +279,7 @@ impl From<WorkFault> for RunFault {
     ghost from_gives = { λ fault e. e ≡ refusal None family.Work (work_number fault) };
 
     fn from(fault: WorkFault) -> RunFault {
-        RunFault {
-            input: None,
-            family: Family::Work,
-            number: fault.number(),
-        }
+        RunFault::without_input(Family::Work, fault.number())
     }
 }
 
@@ -318,11 +293,7 @@ impl From<CloseFault> for RunFault {
     ghost from_gives = { λ fault e. e ≡ refusal None family.Close (close_number fault) };
 
     fn from(fault: CloseFault) -> RunFault {
-        RunFault {
-            input: None,
-            family: Family::Close,
-            number: fault.number(),
-        }
+        RunFault::without_input(Family::Close, fault.number())
     }
 }
 
@@ -336,10 +307,6 @@ impl From<AbsorbFault> for RunFault {
     ghost from_gives = { λ fault e. e ≡ refusal None family.Absorb (absorb_number fault) };
 
     fn from(fault: AbsorbFault) -> RunFault {
-        RunFault {
-            input: None,
-            family: Family::Absorb,
-            number: fault.number(),
-        }
+        RunFault::without_input(Family::Absorb, fault.number())
     }
 }

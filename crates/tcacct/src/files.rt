@@ -1,6 +1,8 @@
 //! The files that a command line names.
-ghost use Rattle.std.specs.Prelude.{◌≡◌, ◌<◌, ◌^◌, IfOk, length, map};
+ghost use Rattle.std.specs.Prelude.{◌≡◌, ◌<◌, ◌^◌, IfErr, IfOk, None, Some, length, map};
 ghost use Rattle.tcacct.specs.Lines.{inputs_of, order_of};
+ghost use Rattle.tcacct.specs.Reads.{IsFileRefused, IsReadRefused};
+ghost use Rattle.tcacct.specs.Runs.{write_refusal};
 ghost use Rattle.tcacct.specs.Words.{HaveSessions};
 
 use crate::fault::RunFault;
@@ -20,7 +22,9 @@ fn read_file<R: Files + AllocGlobal>(rt: &R, path: &str) -> Result<Vec<u8>, Read
 }
 
 /// The octets of a plan's file.
-pub(crate) fn read_plan<R: Files + AllocGlobal>(rt: &R, path: &str) -> Result<Vec<u8>, RunFault> {
+pub(crate) fn read_plan<R: Files + AllocGlobal>(rt: &R, path: &str) -> Result<Vec<u8>, RunFault>
+    ensures refused { IfErr result (IsFileRefused None) }
+{
     match read_file(rt, path) {
         Ok(octets) => Ok(octets),
         Err(fault) => Err(RunFault::read(None, fault)),
@@ -32,7 +36,9 @@ pub(crate) fn read_numbered<R: Files + AllocGlobal>(
     rt: &R,
     number: u32,
     path: &str,
-) -> Result<Vec<u8>, RunFault> {
+) -> Result<Vec<u8>, RunFault>
+    ensures refused { IfErr result (IsFileRefused (Some number)) }
+{
     match read_file(rt, path) {
         Ok(octets) => Ok(octets),
         Err(fault) => Err(RunFault::read(Some(number), fault)),
@@ -43,6 +49,7 @@ pub(crate) fn read_numbered<R: Files + AllocGlobal>(
 fn read_asked<R: Files + AllocGlobal>(rt: &R, asked: &[Asked<'_>]) -> Result<Vec<Input>, RunFault>
     ensures few { IfOk result (λ inputs. length inputs.items < 2 ^ 32) }
     ensures sessions { IfOk result (λ inputs. map (λ input. input.session) inputs.items ≡ map (λ one. one.session) asked.now) }
+    ensures refused { IfErr result (IsReadRefused (length asked.now)) }
 {
     // The command line takes no more words than that.
     if asked.len() > u32::MAX as usize {
@@ -71,13 +78,16 @@ pub(crate) fn read_inputs<R: Files + AllocGlobal>(
     ensures few { IfOk result (λ inputs. length inputs.items < 2 ^ 32) }
     ensures each { IfOk result (λ inputs. length inputs.items ≡ length (inputs_of (order_of line.now))) }
     ensures sessions { IfOk result (λ inputs. HaveSessions (inputs_of (order_of line.now)) inputs.items) }
+    ensures refused { IfErr result (IsReadRefused (length (inputs_of (order_of line.now)))) }
 {
     let asked = asked_by(rt.alloc(), line.inputs())?;
     read_asked(rt, &asked)
 }
 
 /// A new or emptied file to write to.
-pub(crate) fn create<R: Files>(rt: &R, path: &str) -> Result<Host<R::File>, RunFault> {
+pub(crate) fn create<R: Files>(rt: &R, path: &str) -> Result<Host<R::File>, RunFault>
+    ensures refused { IfErr result (λ e. e ≡ write_refusal) }
+{
     match fs::create(rt, path) {
         Ok(file) => Ok(Host::new(file)),
         Err(_) => Err(RunFault::write()),

@@ -180,13 +180,19 @@ pub(super) fn listed<A: Allocator + Copy>(
     Ok(list)
 }
 
-// What the settled reports of an account come to, of a list in order. Until its first packet both buckets are full.
+// What the settled reports of an account come to, of a list in order.
 pub(super) fn sums(owner: &Owner, list: &[Report]) -> Option<Sums> {
+    sums_of(owner, list, false)
+}
+
+// The same where all may be known to be settled. Until its first packet both buckets are full.
+fn sums_of(owner: &Owner, list: &[Report], are_settled: bool) -> Option<Sums> {
     let mut sums = ([0; 3], [0; 3]);
     let mut last = None;
     for report in list {
         let content = report.content();
-        if content.iface == owner.iface && contents(list, report) == 1 {
+        let is_own = content.iface == owner.iface;
+        if is_own && (are_settled || contents(list, report) == 1) {
             let time = content.time;
             let mut slow = match last {
                 None => begun(owner, time)?,
@@ -233,4 +239,20 @@ pub(super) fn is_billed(bill: &Bill, list: &[Report]) -> bool {
     let counts = (list.len(), disputed(list), unassigned(list));
     let (reports, disputed) = (bill.reports as usize, bill.disputed as usize);
     owners.next().is_none() && (reports, disputed, bill.unassigned as usize) == counts
+}
+
+// The same of a list of which all are of the interfaces of accounts, and none disputes another.
+pub(super) fn is_billed_settled(bill: &Bill, list: &[Report]) -> bool {
+    let mut owners = OWNERS.iter();
+    for tally in bill.accounts.as_slice() {
+        let Some(owner) = owners.next() else {
+            return false;
+        };
+        let total = (tally.total.octets(), tally.total.packets());
+        if sums_of(owner, list, true) != Some(total) {
+            return false;
+        }
+    }
+    let (reports, disputed) = (bill.reports as usize, bill.disputed as usize);
+    owners.next().is_none() && (reports, disputed, bill.unassigned as usize) == (list.len(), 0, 0)
 }

@@ -18,7 +18,7 @@ const SPAN: u64 = 472_222;
 const PLAN: &[u8] =
     b"period = 3600000\n[[account]]\nname = \"alpha\"\nmeter = \"rfc2697\"\ncir = 1000\ncbs = 2000\nebs = 1000\nkeys = [[7, 1]]\n";
 
-const THREE: &str =
+pub(super) const THREE: &str =
     "tcacct statement 1\nperiod 3600000\nreports 3\ndisputed 0\nunassigned 0\naccount alpha\ntotal 1500 1 1000 1 800 1\nspan 472222 1500 1 1000 1 800 1\nend\n";
 
 const NONE: &str =

@@ -5,7 +5,8 @@ use crate::notes::NotesLine;
 use std::alloc::{AllocError, Global};
 use std::fmt::Display;
 use std::test::*;
-use tca_report::Notes;
+use tca_ingest::{CloseFault, JobFault, ShareFault, WorkFault};
+use tca_report::{InputFault, Notes};
 
 // Each family with its name, in the order of the enum.
 const FAMILIES: [(Family, &str); 13] = [
@@ -134,5 +135,93 @@ fn prints_notes(rt: HostRuntime) {
             },
         };
         assert!(rt; says(alloc, &notes, line));
+    }
+}
+
+#[test]
+fn prints_faults_of_shared_replicas(rt: HostRuntime) {
+    let alloc = rt.alloc();
+    let shared = [
+        (
+            ShareFault::JournalFull,
+            "the journal is full: it has at most 1048576 entries",
+            1,
+        ),
+        (
+            ShareFault::PassesOut,
+            "no more passes: a replica has at most 65536",
+            2,
+        ),
+        (ShareFault::Memory, "no memory for the call", 3),
+    ];
+    for (fault, text, number) in shared {
+        assert!(rt;
+            says(alloc, &fault, text) && fault.number() == number,
+            "{number}"
+        );
+    }
+    let missing = CloseFault::Missing {
+        journal: 3,
+        given: 2,
+    };
+    let closed = [
+        (
+            missing,
+            "the journal has 3 entries, and the passes that were given have 2",
+            1,
+        ),
+        (
+            CloseFault::Differs { pass: 7 },
+            "the entries of pass 7 are not the journal's",
+            2,
+        ),
+        (
+            CloseFault::Clash { origin: 5 },
+            "two replicas hold different chains of origin 5",
+            3,
+        ),
+    ];
+    for (fault, text, number) in closed {
+        assert!(rt;
+            says(alloc, &fault, text) && fault.number() == number,
+            "{number}"
+        );
+    }
+}
+
+#[test]
+fn prints_faults_of_workers(rt: HostRuntime) {
+    let alloc = rt.alloc();
+    let of_another = "the result of job 4 is of another input, or the passes have other entries";
+    let worked = [
+        (WorkFault::JobMissing(4), "job 4 has no result", 1),
+        (WorkFault::Stranger(4), of_another, 2),
+        (WorkFault::NoThread, "a thread could not be started", 3),
+        (
+            WorkFault::PassesOut,
+            "no more passes: a replica has at most 65536",
+            4,
+        ),
+        (WorkFault::Memory, "no memory for the workers", 5),
+    ];
+    for (fault, text, number) in worked {
+        assert!(rt;
+            says(alloc, &fault, text) && fault.number() == number,
+            "{number}"
+        );
+    }
+    let of_jobs = [
+        (JobFault::Input(InputFault::Memory), "out of memory", 1),
+        (
+            JobFault::Share(ShareFault::Memory),
+            "no memory for the call",
+            2,
+        ),
+    ];
+    for (fault, text, number) in of_jobs {
+        assert!(rt;
+            says(alloc, &fault, text) && fault.number() == number,
+            "{number}"
+        );
     }
 }

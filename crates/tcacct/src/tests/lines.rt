@@ -126,60 +126,62 @@ fn has_short_lines(text: &str) -> bool {
     !text.is_empty()
 }
 
+// Words that ask for help, and what its text has to contain.
+const HELP: [(&[&str], &str); 16] = [
+    (&["tcacct", "--help"], "Usage: tcacct <COMMAND>"),
+    (&["tcacct", "-h"], "Usage: tcacct <COMMAND>"),
+    (&["tcacct", "help"], "Usage: tcacct <COMMAND>"),
+    (
+        &["tcacct", "help", "meter"],
+        "Usage: tcacct meter <SPEC> <INPUT>",
+    ),
+    (
+        &["tcacct", "meter", "--help"],
+        "Usage: tcacct meter <SPEC> <INPUT>",
+    ),
+    (
+        &["tcacct", "bill", "--help"],
+        "Usage: tcacct bill [OPTIONS] <PLAN> <INPUT>",
+    ),
+    (
+        &["tcacct", "combine", "--help"],
+        "Usage: tcacct combine <OUT> <INPUT>",
+    ),
+    (
+        &["tcacct", "audit", "--help"],
+        "Usage: tcacct audit <PLAN> <EXPORT> <STATEMENT>",
+    ),
+    (
+        &["tcacct", "meter", "--help"],
+        "one or two files of reports, each PATH or N@PATH",
+    ),
+    (
+        &["tcacct", "meter", "--help"],
+        "N@PATH for the file at PATH as a capture of session N",
+    ),
+    (
+        &["tcacct", "combine", "--help"],
+        "files of reports, each PATH or N@PATH",
+    ),
+    (&["tcacct", "combine", "--help"], "N@PATH one of session N"),
+    (
+        &["tcacct", "combine", "--help"],
+        "`tcacct combine OUT OLD` writes one anew",
+    ),
+    (
+        &["tcacct", "bill", "--help"],
+        "1 to 256 files of reports, each PATH or N@PATH",
+    ),
+    (&["tcacct", "bill", "--help"], "N@PATH one of session N"),
+    (
+        &["tcacct", "bill", "--help"],
+        "each [[account.term]] has its",
+    ),
+];
+
 #[test]
 fn gives_help(rt: HostRuntime) {
-    let lines: [(&[&str], &str); 16] = [
-        (&["tcacct", "--help"], "Usage: tcacct <COMMAND>"),
-        (&["tcacct", "-h"], "Usage: tcacct <COMMAND>"),
-        (&["tcacct", "help"], "Usage: tcacct <COMMAND>"),
-        (
-            &["tcacct", "help", "meter"],
-            "Usage: tcacct meter <SPEC> <INPUT>",
-        ),
-        (
-            &["tcacct", "meter", "--help"],
-            "Usage: tcacct meter <SPEC> <INPUT>",
-        ),
-        (
-            &["tcacct", "bill", "--help"],
-            "Usage: tcacct bill [OPTIONS] <PLAN> <INPUT>",
-        ),
-        (
-            &["tcacct", "combine", "--help"],
-            "Usage: tcacct combine <OUT> <INPUT>",
-        ),
-        (
-            &["tcacct", "audit", "--help"],
-            "Usage: tcacct audit <PLAN> <EXPORT> <STATEMENT>",
-        ),
-        (
-            &["tcacct", "meter", "--help"],
-            "one or two files of reports, each PATH or N@PATH",
-        ),
-        (
-            &["tcacct", "meter", "--help"],
-            "N@PATH for the file at PATH as a capture of session N",
-        ),
-        (
-            &["tcacct", "combine", "--help"],
-            "files of reports, each PATH or N@PATH",
-        ),
-        (&["tcacct", "combine", "--help"], "N@PATH one of session N"),
-        (
-            &["tcacct", "combine", "--help"],
-            "`tcacct combine OUT OLD` writes one anew",
-        ),
-        (
-            &["tcacct", "bill", "--help"],
-            "1 to 256 files of reports, each PATH or N@PATH",
-        ),
-        (&["tcacct", "bill", "--help"], "N@PATH one of session N"),
-        (
-            &["tcacct", "bill", "--help"],
-            "each [[account.term]] has its",
-        ),
-    ];
-    for (words, part) in lines {
+    for (words, part) in HELP {
         let Some(text) = help(rt.alloc(), words) else {
             panic!(rt; "no help");
         };

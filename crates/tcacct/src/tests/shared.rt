@@ -14,8 +14,10 @@ mod threads;
 use std::alloc::{AllocError, Global};
 use std::sync::Wait;
 use tca_accounts::{Bill, Plan, PlanFault};
+use tca_gossip::Replica;
 use tca_ingest::{Closed, Entry, Pass, Shared, Side};
-use tca_report::{Content, Identity, Report};
+use tca_report::{Content, Host, Identity, Report};
+use tca_statements::{Statement, render};
 
 // The time of the first report of the worked rows.
 const START: u64 = 1_700_000_000_000;
@@ -29,6 +31,10 @@ const FIRST: (u32, u32, u32) = (0, 0, 1500);
 const SECOND: (u32, u32, u32) = (1, 100, 1000);
 
 const THIRD: (u32, u32, u32) = (2, 200, 800);
+
+// The statement of the three rows.
+const STATEMENT: &str =
+    "tcacct statement 1\nperiod 3600000\nreports 3\ndisputed 0\nunassigned 0\naccount alpha\ntotal 1500 1 1000 1 800 1\nspan 472222 1500 1 1000 1 800 1\nend\n";
 
 // The parts of a ledger: one for each pass, and one that stays.
 const PARTS: u64 = 65537;
@@ -75,6 +81,49 @@ fn is_of_three(bill: &Bill) -> bool {
         None => [0; 3],
     };
     (octets, bill.reports, bill.disputed) == ([1500, 1000, 800], 3, 0)
+}
+
+// Whether a bill is stated by these octets.
+fn is_stated(alloc: Global, bill: &Bill, text: &str) -> bool {
+    let Ok(plan) = plan(alloc) else {
+        return false;
+    };
+    if bill.accounts.as_slice().len() != plan.accounts() as usize {
+        return false;
+    }
+    let Ok(statement) = Statement::of(alloc, &plan, bill) else {
+        return false;
+    };
+    let mut out = Host::new(Vec::new(alloc));
+    let is_written = render(&statement, &mut out).is_ok();
+    is_written && out.into_inner().as_slice() == text.as_bytes()
+}
+
+// Whether a replica's log has just these reports, in their order.
+fn has_list(replica: &Replica, list: &[Report]) -> bool {
+    let mut left = replica.log().reports();
+    for report in list {
+        if left.next() != Some(report) {
+            return false;
+        }
+    }
+    left.next().is_none()
+}
+
+// Whether a replica's log has just these rows, in their order.
+fn has_rows(alloc: Global, replica: &Replica, rows: &[(u32, u32, u32)]) -> bool {
+    match reports(alloc, rows) {
+        Some(list) => has_list(replica, &list),
+        None => false,
+    }
+}
+
+// Whether a replica has just the three rows, and their statement.
+fn has_three(alloc: Global, replica: &Replica) -> bool {
+    let Ok(bill) = replica.totals() else {
+        return false;
+    };
+    has_rows(alloc, replica, &[FIRST, SECOND, THIRD]) && is_stated(alloc, &bill, STATEMENT)
 }
 
 // Whether an entry is the bill of the first three rows.

@@ -1,8 +1,10 @@
 //! Two replicas by a table: what each does, and what it is told.
 use super::outcomes::{Outcome, absorbed, bill, holds, merged, took};
 use super::{Part, Play, Row, delta, reports};
+use crate::tests::plain::listed;
 use std::alloc::{AllocError, Global};
 use tca_gossip::{Delta, Replica};
+use tca_report::Report;
 
 #[derive(Clone, Copy)]
 pub(super) enum Act {
@@ -29,21 +31,68 @@ pub(super) struct Table {
     pub(super) lines: &'static [(Who, Act, Outcome)],
 }
 
-// A refusal has to leave all as it was.
-fn absorb(replica: &mut Replica, delta: &Delta) -> Outcome {
-    let before = holds(replica);
-    let outcome = absorbed(&replica.absorb(delta));
+// All that a replica shows: its name, how much it holds, its bill, and its reports, those of its log and then those of each chain.
+#[derive(Drop)]
+struct Snapshot {
+    name: u32,
+    counts: Outcome,
+    bill: Outcome,
+    reports: Vec<Report>,
+}
+
+fn shown(alloc: Global, replica: &Replica) -> Result<Snapshot, AllocError> {
+    let bill = bill(replica)?;
+    let mut reports = listed(alloc, replica.log().reports())?;
+    for origin in [1, 2, 3] {
+        reports.extend_from_slice(replica.chain(origin))?;
+    }
+    Ok(Snapshot {
+        name: replica.name(),
+        counts: holds(replica),
+        bill,
+        reports,
+    })
+}
+
+fn are_alike(one: &Snapshot, other: &Snapshot) -> bool {
+    one.name == other.name
+        && one.counts == other.counts
+        && one.bill == other.bill
+        && one.reports.as_slice() == other.reports.as_slice()
+}
+
+// Whether what comes of a delta may change the replica.
+fn may_change(outcome: Outcome) -> bool {
     match outcome {
-        Outcome::Absorbed(_) | Outcome::Stopped(_, _) => outcome,
-        _ if holds(replica) == before => outcome,
-        _ => Outcome::Nothing,
+        Outcome::Absorbed(new) => new > 0,
+        Outcome::Stopped(_, _) => true,
+        _ => false,
     }
 }
 
-fn learn(replica: &mut Replica, other: &Replica) -> Result<Outcome, AllocError> {
-    let counts = replica.summary()?;
-    let sent = other.delta(&counts)?;
-    Ok(absorb(replica, &sent))
+// A refusal, or a delta with nothing new, has to leave all as it was.
+fn absorb(alloc: Global, replica: &mut Replica, delta: &Delta) -> Option<Outcome> {
+    let Ok(before) = shown(alloc, replica) else {
+        return None;
+    };
+    let outcome = absorbed(&replica.absorb(delta));
+    let Ok(after) = shown(alloc, replica) else {
+        return None;
+    };
+    if may_change(outcome) || are_alike(&before, &after) {
+        return Some(outcome);
+    }
+    Some(Outcome::Nothing)
+}
+
+fn learn(alloc: Global, replica: &mut Replica, other: &Replica) -> Option<Outcome> {
+    let Ok(counts) = replica.summary() else {
+        return None;
+    };
+    let Ok(sent) = other.delta(&counts) else {
+        return None;
+    };
+    absorb(alloc, replica, &sent)
 }
 
 fn take(alloc: Global, own: &mut Replica, rows: &[Row]) -> Option<Outcome> {
@@ -57,14 +106,14 @@ fn absorb_parts(alloc: Global, own: &mut Replica, parts: &[Part]) -> Option<Outc
     let Some(Some(sent)) = delta(alloc, parts) else {
         return None;
     };
-    Some(absorb(own, &sent))
+    absorb(alloc, own, &sent)
 }
 
 fn done(alloc: Global, own: &mut Replica, other: &Replica, act: Act) -> Option<Outcome> {
     match act {
         Act::Take(rows) => take(alloc, own, rows),
         Act::Absorb(parts) => absorb_parts(alloc, own, parts),
-        Act::Learn => learn(own, other).ok(),
+        Act::Learn => learn(alloc, own, other),
         Act::Merge => Some(merged(own.merge(other))),
         Act::Show => Some(holds(own)),
         Act::Bill => bill(own).ok(),

@@ -1,14 +1,29 @@
-//! Long lists of reports: new throughout, with some that are there, and of another origin.
+//! Long lists of reports: new throughout, with some that are there, and of another origin. After each the bill is the plain one.
 use super::outcomes::{Outcome, absorbed, holds, took};
-use super::{Play, goes, in_row};
+use super::random::has_all;
+use super::{replica_under, report};
+use crate::tests::plain::{PLAN, is_billed_settled};
 use std::alloc::Global;
 use tca_gossip::{Delta, Replica, Run};
+use tca_report::Report;
 
-#[derive(Drop)]
-struct LongLists {}
+// Reports of these places on, each a millisecond after the one before, of one to eight octets.
+fn long_list(alloc: Global, from: u32, count: u32) -> Option<Vec<Report>> {
+    let mut list = Vec::new(alloc);
+    for i in 0..count {
+        let place = from.saturating_add(i);
+        let Some(report) = report((place, place, place % 8 + 1)) else {
+            return None;
+        };
+        if list.push(report).is_err() {
+            return None;
+        }
+    }
+    Some(list)
+}
 
 fn takes(alloc: Global, replica: &mut Replica, from: u32) -> Option<Outcome> {
-    let Some(list) = in_row(alloc, from, 1024) else {
+    let Some(list) = long_list(alloc, from, 1024) else {
         return None;
     };
     Some(took(&replica.take(&list)))
@@ -16,7 +31,7 @@ fn takes(alloc: Global, replica: &mut Replica, from: u32) -> Option<Outcome> {
 
 fn long_run(alloc: Global) -> Option<Delta> {
     let mut runs = Vec::new(alloc);
-    let Some(reports) = in_row(alloc, 1000, 2000) else {
+    let Some(reports) = long_list(alloc, 1000, 2000) else {
         return None;
     };
     let run = Run {
@@ -30,10 +45,23 @@ fn long_run(alloc: Global) -> Option<Delta> {
     Delta::of(runs)
 }
 
+// Whether a replica has the log and the plain bill of so many places.
+fn bills(alloc: Global, replica: &Replica, count: u32) -> bool {
+    let Some(list) = long_list(alloc, 0, count) else {
+        return false;
+    };
+    let Ok(bill) = replica.totals() else {
+        return false;
+    };
+    has_all(replica, &list) && is_billed_settled(&bill, &list)
+}
+
 fn takes_long(alloc: Global, one: &mut Replica) -> bool {
     takes(alloc, one, 0) == Some(Outcome::Took(1024, 1024, None))
+        && bills(alloc, one, 1024)
         && takes(alloc, one, 1023) == Some(Outcome::Took(1024, 1023, None))
         && holds(one) == Outcome::Holds(2047, [2047, 0, 0])
+        && bills(alloc, one, 2047)
 }
 
 // Another origin's reports are appended to its chain, whether the log has them or not.
@@ -43,15 +71,70 @@ fn absorbs_long(alloc: Global, one: &mut Replica) -> bool {
     };
     absorbed(&one.absorb(&sent)) == Outcome::Absorbed(2000)
         && holds(one) == Outcome::Holds(3000, [2047, 2000, 0])
+        && bills(alloc, one, 3000)
 }
 
-impl Play for LongLists {
-    fn play(&self, alloc: Global, one: &mut Replica, _: &mut Replica) -> Option<bool> {
-        Some(takes_long(alloc, one) && absorbs_long(alloc, one))
-    }
+fn goes(alloc: Global) -> Option<bool> {
+    let Some(mut one) = replica_under(alloc, PLAN, 1) else {
+        return None;
+    };
+    Some(takes_long(alloc, &mut one) && absorbs_long(alloc, &mut one))
 }
 
 #[test]
 fn long_lists_are_taken(rt: HostRuntime) {
-    assert!(rt; goes(rt.alloc(), (1, 3), &LongLists {}) == Some(true));
+    assert!(rt; goes(rt.alloc()) == Some(true));
+}
+
+// Whether no book is kept, one is once it is asked for, and the bill stays.
+fn gets_book(one: &mut Replica) -> bool {
+    let Ok(before) = one.totals() else {
+        return false;
+    };
+    if one.keeps_book() || one.keep_book().is_err() {
+        return false;
+    }
+    let Ok(after) = one.totals() else {
+        return false;
+    };
+    one.keeps_book() && after.is_same(&before)
+}
+
+// Whether a book is kept still after a short list.
+fn keeps_book(alloc: Global, one: &mut Replica) -> bool {
+    let Some(list) = long_list(alloc, 5000, 3) else {
+        return false;
+    };
+    one.keeps_book() && took(&one.take(&list)) == Outcome::Took(3, 3, None) && one.keeps_book()
+}
+
+// Whether a long run of another origin is appended.
+fn absorbs_more(alloc: Global, one: &mut Replica) -> bool {
+    let Some(sent) = long_run(alloc) else {
+        return false;
+    };
+    absorbed(&one.absorb(&sent)) == Outcome::Absorbed(2000)
+}
+
+// Whether a book is kept where one is asked for: after a long list, a long run and a merge there is none before.
+fn keeps_books(alloc: Global, one: &mut Replica, two: &Replica) -> bool {
+    let long = takes(alloc, one, 0) == Some(Outcome::Took(1024, 1024, None)) && gets_book(one);
+    let absorbs = absorbs_more(alloc, one) && gets_book(one);
+    let merges = one.merge(two).is_ok() && gets_book(one);
+    long && absorbs && merges
+}
+
+fn books(alloc: Global) -> Option<bool> {
+    let Some(mut one) = replica_under(alloc, PLAN, 1) else {
+        return None;
+    };
+    let Some(two) = replica_under(alloc, PLAN, 3) else {
+        return None;
+    };
+    Some(keeps_book(alloc, &mut one) && keeps_books(alloc, &mut one, &two))
+}
+
+#[test]
+fn a_book_is_kept_where_one_is_asked_for(rt: HostRuntime) {
+    assert!(rt; books(rt.alloc()) == Some(true));
 }

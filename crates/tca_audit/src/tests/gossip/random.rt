@@ -92,7 +92,7 @@ fn are_of(plain: &mut Plain, steps: &[Step], replies: &[Reply]) -> bool {
 }
 
 // Whether a log has these reports, in this order, and no others.
-fn has_all(replica: &Replica, list: &[Report]) -> bool {
+pub(super) fn has_all(replica: &Replica, list: &[Report]) -> bool {
     let mut left = replica.log().reports();
     for report in list {
         if left.next() != Some(report) {

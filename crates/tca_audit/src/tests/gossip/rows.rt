@@ -144,12 +144,14 @@ const FORGED: Table = Table {
         ),
         (One, Absorb(&[(3, 0, &[])]), Outcome::Absorbed(0)),
         (One, Show, Outcome::Holds(2, [1, 1, 0])),
+        (One, Bill, Outcome::Bill([1500, 1000, 0], 2, 0)),
         (
             One,
             Absorb(&[(2, 0, &[SECOND, THIRD])]),
             Outcome::Absorbed(1),
         ),
         (One, Show, Outcome::Holds(3, [1, 2, 0])),
+        (One, Bill, Outcome::Bill([1500, 1000, 800], 3, 0)),
         (One, Take(&[SECOND, LATE]), Outcome::Took(2, 1, None)),
         (
             One,

@@ -1,6 +1,9 @@
 //! Worlds by worked steps, and steps that nothing comes of.
 use super::outcomes::{Outcome, bill, outcome_of};
+use super::random::has_all;
 use super::{FIRST, PLAN, Row, SECOND, THIRD, reports};
+use crate::tests::stated_of;
+use crate::tests::statements::THREE;
 use std::alloc::Global;
 use std::test::Fail;
 use tca_accounts::Plan;
@@ -77,6 +80,23 @@ fn knows_three(world: &World, name: u32) -> Option<bool> {
     Some(bill == Outcome::Bill([1500, 1000, 800], 3, 0))
 }
 
+// Whether the log of a replica has these reports, in this order, and no others.
+fn has_log(alloc: Global, world: &World, name: u32, rows: &[Row]) -> Option<bool> {
+    let Some(list) = reports(alloc, rows) else {
+        return None;
+    };
+    let Some(replica) = world.replica(name) else {
+        return None;
+    };
+    Some(has_all(replica, &list))
+}
+
+// Whether the logs of both replicas have the three reports.
+fn have_three(alloc: Global, world: &World) -> bool {
+    let three = [FIRST, SECOND, THIRD];
+    has_log(alloc, world, 1, &three) == Some(true) && has_log(alloc, world, 2, &three) == Some(true)
+}
+
 const TELL: [(Act, Outcome); 7] = [
     (Take(1, &[FIRST, SECOND]), Outcome::Took(2, 2, None)),
     (Take(2, &[SECOND, THIRD]), Outcome::Took(2, 2, None)),
@@ -106,7 +126,9 @@ const FURTHER: [(Act, Outcome); 13] = [
 
 fn tells(alloc: Global, world: &mut World) -> bool {
     runs(alloc, world, &TELL) == Some(true)
+        && have_three(alloc, world)
         && runs(alloc, world, &FURTHER) == Some(true)
+        && have_three(alloc, world)
         && knows_three(world, 1) == Some(true)
         && knows_three(world, 2) == Some(true)
 }
@@ -181,6 +203,58 @@ fn a_run_that_was_refused_is_completed(rt: HostRuntime) -> Result<(), Fail> {
     let went = goes(rt.alloc(), 2).ok_or("no memory to prepare it")?;
     assert!(rt; went);
     Ok(())
+}
+
+// A replica that is alone tells itself what it holds, and goes on in a second run.
+const ALONE: [(Act, Outcome); 6] = [
+    (Take(1, &[FIRST, SECOND]), Outcome::Took(2, 2, None)),
+    (Ask(1), Outcome::Sent(0)),
+    (Answer(1, 0), Outcome::Sent(1)),
+    (Deliver(1, 1), Outcome::Absorbed(0)),
+    (Merge(1, 1), Outcome::Merged),
+    (Take(2, &[THIRD]), Outcome::Nothing),
+];
+
+const ALONE_AGAIN: [(Act, Outcome); 2] = [
+    (Take(1, &[THIRD, FIRST]), Outcome::Took(2, 1, None)),
+    (Ask(1), Outcome::Sent(2)),
+];
+
+// Whether the bill of a replica has this statement under the plan of its world.
+fn states(alloc: Global, world: &World, name: u32, plan: &Plan, text: &str) -> Option<bool> {
+    let Some(replica) = world.replica(name) else {
+        return None;
+    };
+    let Ok(bill) = replica.totals() else {
+        return None;
+    };
+    let Some(octets) = stated_of(alloc, plan, &bill) else {
+        return None;
+    };
+    Some(octets.as_slice() == text.as_bytes())
+}
+
+fn tells_itself(alloc: Global, world: &mut World, plan: &Plan) -> bool {
+    runs(alloc, world, &ALONE) == Some(true)
+        && has_log(alloc, world, 1, &[FIRST, SECOND]) == Some(true)
+        && runs(alloc, world, &ALONE_AGAIN) == Some(true)
+        && has_log(alloc, world, 1, &[FIRST, SECOND, THIRD]) == Some(true)
+        && states(alloc, world, 1, plan, THREE) == Some(true)
+}
+
+fn goes_alone(alloc: Global) -> Option<bool> {
+    let Ok(plan) = Plan::from_text(alloc, PLAN.as_bytes()) else {
+        return None;
+    };
+    let Ok(mut world) = World::new(alloc, &[1], &plan) else {
+        return None;
+    };
+    Some(tells_itself(alloc, &mut world, &plan))
+}
+
+#[test]
+fn a_replica_alone_keeps_its_plan(rt: HostRuntime) {
+    assert!(rt; goes_alone(rt.alloc()) == Some(true));
 }
 
 // Why a world of these names is refused, if it is, and if there is memory for its plan.

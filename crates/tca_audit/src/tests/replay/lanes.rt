@@ -213,23 +213,19 @@ fn a_row_at_the_end_is_metered_from_the_mark_before(rt: HostRuntime) -> Result<(
     Ok(())
 }
 
-// Puts a row and withdraws it, withdraws another and puts it again, and answers the steps.
+// Puts a report behind the fourth of the five rows and withdraws it, and answers the steps.
 fn come_and_go(
     alloc: Global,
     lane: &mut Lane<Counting>,
     offers: &Arc<AtomicU64, Global>,
 ) -> Option<u64> {
-    let (Some(one), Some(other)) = (row(4, 1), row(4, 0)) else {
+    let Some(one) = row(3, 1) else {
         return None;
     };
     if put(lane, one).is_err() {
         return None;
     }
     withdraw(lane, &one);
-    withdraw(lane, &other);
-    if put(lane, other).is_err() {
-        return None;
-    }
     steps(alloc, lane, offers)
 }
 
@@ -248,7 +244,7 @@ fn keeps_its_tally(
     let Some(after) = single_rate_tally(alloc, lane) else {
         return false;
     };
-    steps <= 3 && are_alike(&before, &after)
+    steps <= 3 && lane.len() == 5 && are_alike(&before, &after)
 }
 
 fn five_keep_their_tally(alloc: Global) -> bool {

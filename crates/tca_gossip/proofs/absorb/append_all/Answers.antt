@@ -7,7 +7,7 @@ use Rattle.tca_gossip.proofs.AbsorbSteps.{reports_start, report_state, report_st
 use Rattle.tca_gossip.proofs.absorb.append_all.Goals as goal
 
 pub loop-report-init : goal.loop-report-init
-loop-report-init c = record { state = reports_start c.args.contents.now.replica c.args.origin; count = omega arith }
+loop-report-init c = record { state = reports_start c.args.contents.now.replica c.args.origin; count = omega arith; stays = λ kept. kept }
 
 pub append-requires-clause-own : goal.append-requires-clause-own
 append-requires-clause-own c is =
@@ -22,6 +22,7 @@ pub loop-report-preserved : goal.loop-report-preserved
 loop-report-preserved c = record {
   state = report_state c.args.contents.now.replica c.loop-report.contents.replica c.args.origin c.args.reports.now c.loop-report.report-index c.loop-report.invariant.state c.append.new.self.replica c.report-item.result c.loop-report-test.true c.report-item.is c.in-Ok.ensures.ok;
   count = omega (arith, c.loop-report.invariant.count);
+  stays = λ kept. c.append.ensures.stays (c.loop-report.invariant.stays kept);
 }
 
 pub returns-in-Err-clause-stop : goal.returns-in-Err-clause-stop
@@ -39,3 +40,9 @@ overflow_add-taken c = grind (arith, common_steps)
 
 pub returns-clause-count : goal.returns-clause-count
 returns-clause-count c = grind (arith, common_steps)
+
+pub returns-in-Err-clause-stays : goal.returns-in-Err-clause-stays
+returns-in-Err-clause-stays c kept = c.append.ensures.stays (c.loop-report.invariant.stays kept)
+
+pub returns-clause-stays : goal.returns-clause-stays
+returns-clause-stays c kept = c.loop-report.invariant.stays kept

@@ -1,4 +1,4 @@
-use Rattle.std.proofs.Common.{◌≡◌, take}
+use Rattle.std.proofs.Common.{◌≡◌, true, take}
 use Rattle.tca_gossip.specs.Replicas.{appended, with_origin}
 use Rattle.tca_gossip.proofs.absorb.append_all.Given as goal
 
@@ -6,4 +6,5 @@ abbrev pub invariant-loop-report : goal.invariant-loop-report
 invariant-loop-report l = record {
   state : l.contents.replica ≡ appended l.fn.contents.replica (with_origin l.origin (take l.report-index l.reports));
   count : l.taken ≡ l.report-index;
+  stays : l.fn.contents.billing.kept ≡ true → l.contents.billing.kept ≡ true;
 }

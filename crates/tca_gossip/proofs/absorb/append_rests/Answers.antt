@@ -7,7 +7,7 @@ use Rattle.tca_gossip.proofs.AbsorbSteps.{rests_start, run_own, run_room, run_st
 use Rattle.tca_gossip.proofs.absorb.append_rests.Goals as goal
 
 pub loop-run-init : goal.loop-run-init
-loop-run-init c = let start = rests_start (chain_of c.args.contents.now.replica) c.args.contents.now.replica in record { state = start.0; count_is = start.1 }
+loop-run-init c = let start = rests_start (chain_of c.args.contents.now.replica) c.args.contents.now.replica in record { state = start.0; count_is = start.1; stays = λ kept. kept }
 
 pub append_rest-requires-clause-own : goal.append_rest-requires-clause-own
 append_rest-requires-clause-own c =
@@ -34,6 +34,7 @@ pub loop-run-preserved : goal.loop-run-preserved
 loop-run-preserved c = record {
   state = run_state c.args.contents.now.replica c.loop-run.contents.replica c.args.runs.now c.loop-run.run-index c.run-item.result c.loop-run-test.true c.run-item.is c.requires.right c.known.ensures.replica.rises c.loop-run.invariant.state c.append_rest.new.contents.replica c.in-Ok.ensures.state;
   count_is = run_count c.args.contents.now.replica c.loop-run.contents.replica c.args.runs.now c.loop-run.run-index c.run-item.result c.loop-run-test.true c.run-item.is c.requires.right c.known.ensures.replica.rises c.loop-run.invariant.state c.loop-run.count c.in-Ok.more c.loop-run.invariant.count_is c.in-Ok.ensures.count;
+  stays = λ kept. c.append_rest.ensures.stays (c.loop-run.invariant.stays kept);
 }
 
 pub returns-in-Err-clause-stop : goal.returns-in-Err-clause-stop
@@ -48,3 +49,9 @@ returns-clause-count c = count_end (chain_of c.args.contents.now.replica) c.args
 
 pub offset_bounds-runs-run-index : goal.offset_bounds-runs-run-index
 offset_bounds-runs-run-index c = grind (arith, common_steps)
+
+pub returns-in-Err-clause-stays : goal.returns-in-Err-clause-stays
+returns-in-Err-clause-stays c kept = c.append_rest.ensures.stays (c.loop-run.invariant.stays kept)
+
+pub returns-clause-stays : goal.returns-clause-stays
+returns-clause-stays c kept = c.loop-run.invariant.stays kept

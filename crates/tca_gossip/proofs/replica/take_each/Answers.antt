@@ -10,7 +10,7 @@ use Rattle.tca_gossip.proofs.replica.take_each.Goals as goal
 use Rattle.tca_gossip.proofs.replica.take_each.Goals.{then-new, else-new}
 
 pub loop-report-init : goal.loop-report-init
-loop-report-init c = record { state = at_start c.args.contents.now.replica; fresh = none_at_start c.args.contents.now.replica.log; count = omega arith; within = omega arith }
+loop-report-init c = record { state = at_start c.args.contents.now.replica; fresh = none_at_start c.args.contents.now.replica.log; count = omega arith; within = omega arith; stays = λ kept. kept }
 
 pub loop-report-preserved : goal.loop-report-preserved
 loop-report-preserved c =
@@ -25,6 +25,7 @@ loop-report-preserved c =
       ];
       count = omega arith;
       within = elim c.if-new.branch [ then-new w ↦ omega arith | else-new w ↦ omega arith ];
+      stays = λ kept. c.take_report.ensures.stays (c.loop-report.invariant.stays kept);
     }
 
 pub returns-in-Err-clause-state : goal.returns-in-Err-clause-state
@@ -65,3 +66,9 @@ returns-clause-fresh c = grind (arith, common_steps)
 
 pub returns-clause-stop : goal.returns-clause-stop
 returns-clause-stop c = grind (arith, common_steps)
+
+pub returns-in-Err-clause-stays : goal.returns-in-Err-clause-stays
+returns-in-Err-clause-stays c kept = c.take_report.ensures.stays (c.loop-report.invariant.stays kept)
+
+pub returns-clause-stays : goal.returns-clause-stays
+returns-clause-stays c kept = c.loop-report.invariant.stays kept

@@ -1,4 +1,4 @@
-use Rattle.std.proofs.Common.{◌≡◌, ◌≤◌, take, length}
+use Rattle.std.proofs.Common.{◌≡◌, ◌≤◌, true, take, length}
 use Rattle.tca_gossip.specs.Replicas.{take_all, fresh_of}
 use Rattle.tca_gossip.proofs.replica.take_each.Given as goal
 
@@ -8,4 +8,5 @@ invariant-loop-report l = record {
   fresh : l.fresh ≡ length (fresh_of l.fn.contents.replica.log (take l.report-index l.reports));
   count : l.taken ≡ l.report-index;
   within : l.fresh ≤ l.taken;
+  stays : l.fn.contents.billing.kept ≡ true → l.contents.billing.kept ≡ true;
 }

@@ -1,4 +1,7 @@
-use Rattle.std.proofs.Common.{arith}
+use Rattle.std.proofs.Common.{arith, length}
+use Rattle.std.proofs.lemmas.Result.{IfErr-weaker}
+use Rattle.tca_ingest.specs.Works.{IsOfJobs, IsPlaceFault}
+use Rattle.tca_ingest.proofs.Collecting.{place_of_jobs}
 use Rattle.std.proofs.lemmas.Grind.{common_steps}
 use Rattle.tca_ingest.proofs.collect.collect.Goals as goal
 
@@ -43,3 +46,8 @@ returns-clause-jobs g c = grind (arith, common_steps)
 
 pub returns-clause-fault : goal.returns-clause-fault
 returns-clause-fault g c = grind (arith, common_steps)
+
+pub returns-clause-missing : goal.returns-clause-missing
+returns-clause-missing g c =
+    let places = c.loop.places.items in
+    IfErr-weaker c.filled.result (IsPlaceFault places) (IsOfJobs (length c.args.inputs.now)) (λ f is. place_of_jobs c.args.inputs.now places f c.loop.invariant.2 is) c.filled.ensures.missing

@@ -1,10 +1,9 @@
-use Rattle.std.proofs.lemmas.Grind.{common_steps}
-use Rattle.std.proofs.Common.{◌≡◌, ◌∙◌, true, Some, slice_index_or, rules, sym, ap, subst, arith}
+use Rattle.std.proofs.Common.{◌≡◌, ◌∙◌, true, Some, inl, slice_index_or, rules, sym, ap, subst, arith}
 use denote.Bor.{Bor}
 use Rattle.tca_report.specs.input.Inputs.{input_view}
 use Rattle.tca_report.specs.declared.input.Input.{Input}
 use Rattle.tca_ingest.specs.Works.{IsResult, IsResultAt}
-use Rattle.tca_ingest.proofs.Collecting.{empty_there, zip_set}
+use Rattle.tca_ingest.proofs.Collecting.{empty_there, other_input, taken_place, zip_length, zip_set}
 use Rattle.tca_ingest.proofs.collect.fill_place.Goals as goal
 
 pub returns-clause-results : goal.returns-clause-results
@@ -18,33 +17,31 @@ returns-clause-results c =
     zip_set (λ (input : Bor Input) place. IsResultAt (input_view input.now) place) c.args.inputs.now c.args.places.now.items given.job none (Some given.result) c.requires c.if-at-inputs.false
     (subst (λ input. IsResult input given.result) (sym same) c.of_job.invariant)
 
-pub returns-clause-empty : goal.returns-clause-empty
-returns-clause-empty c =
-    rw (← c.of_job.view_is) (λ d. empty_there c.args.places.now.items c.of_job.inside.job c.index.result.now (omega (arith, c.if-at-len.false, c.len.ensures)) c.index.ensures (sym c.if-is_some.ensures) d)
-
-pub overflow_cast-at : goal.overflow_cast-at
-overflow_cast-at c = grind (arith, common_steps)
+pub returns-then-not-is_same-clause-refused : goal.returns-then-not-is_same-clause-refused
+returns-then-not-is_same-clause-refused c =
+    let given = c.of_job.inside in
+    rw (← c.of_job.view_is) (other_input c.args.inputs.now c.args.places.now.items (record { job = given.job; input = input_view given.input.now; result = given.result }) c.index-inputs-at.result c.if-at-inputs.false c.index-inputs-at.is (c.is_same.ensures.other c.if-not-is_same.true))
 
 pub index-requires : goal.index-requires
-index-requires c = grind (arith, common_steps)
+index-requires c =
+    let among = zip_length (λ (input : Bor Input) place. IsResultAt (input_view input.now) place) c.args.inputs.now c.args.places.now.items c.requires in
+    omega (arith, among, c.if-at-inputs.false)
 
-pub returns-then-at-inputs-clause-results : goal.returns-then-at-inputs-clause-results
-returns-then-at-inputs-clause-results c = grind (arith, common_steps)
+pub returns-then-is_some-clause-refused : goal.returns-then-is_some-clause-refused
+returns-then-is_some-clause-refused c =
+    let given = c.of_job.inside in
+    let among = zip_length (λ (input : Bor Input) place. IsResultAt (input_view input.now) place) c.args.inputs.now c.args.places.now.items c.requires in
+    rw (← c.of_job.view_is) (taken_place c.args.inputs.now c.args.places.now.items (record { job = given.job; input = input_view given.input.now; result = given.result }) c.index.result.now (omega (arith, among, c.if-at-inputs.false)) c.index.ensures (sym c.is_some.ensures ∙ c.if-is_some.true))
 
-pub returns-then-at-inputs-clause-fault : goal.returns-then-at-inputs-clause-fault
-returns-then-at-inputs-clause-fault c = grind (arith, common_steps)
+pub returns-then-at-inputs-clause-refused : goal.returns-then-at-inputs-clause-refused
+returns-then-at-inputs-clause-refused c = rw (← c.of_job.view_is) (inl c.if-at-inputs.true)
 
-pub offset_bounds-inputs-at : goal.offset_bounds-inputs-at
-offset_bounds-inputs-at c = grind (arith, common_steps)
-
-pub bounds-inputs-at : goal.bounds-inputs-at
-bounds-inputs-at c = grind (arith, common_steps)
-
-pub returns-then-not-is_same-clause-results : goal.returns-then-not-is_same-clause-results
-returns-then-not-is_same-clause-results c = grind (arith, common_steps)
-
-pub returns-then-not-is_same-clause-fault : goal.returns-then-not-is_same-clause-fault
-returns-then-not-is_same-clause-fault c = grind (arith, common_steps)
+pub returns-clause-empty : goal.returns-clause-empty
+returns-clause-empty c =
+    let among = zip_length (λ (input : Bor Input) place. IsResultAt (input_view input.now) place) c.args.inputs.now c.args.places.now.items c.requires in
+    rw (← c.of_job.view_is) (λ d. empty_there c.args.places.now.items c.of_job.inside.job c.index.result.now (omega (arith, among, c.if-at-inputs.false)) c.index.ensures (sym c.is_some.ensures ∙ c.if-is_some.false) d)
 
 pub index_mut-requires : goal.index_mut-requires
-index_mut-requires c = grind (arith, common_steps)
+index_mut-requires c =
+    let among = zip_length (λ (input : Bor Input) place. IsResultAt (input_view input.now) place) c.args.inputs.now c.args.places.now.items c.requires in
+    omega (arith, among, c.if-at-inputs.false)

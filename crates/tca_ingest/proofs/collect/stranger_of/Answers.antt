@@ -1,13 +1,14 @@
 use Rattle.std.proofs.lemmas.Grind.{common_steps}
-use Rattle.std.proofs.Common.{arith}
+use Rattle.std.proofs.Common.{◌≡◌, ◌≢◌, ◌==◌, ◌∙◌, ℕ, Bool, true, false, arith, inr, length, rules, sym, vec_len}
+use Rattle.std.proofs.lemmas.Bool.{eq-eqb}
 use Rattle.tca_ingest.specs.Works.{views_of, all_calls, entries_in}
-use Rattle.tca_ingest.proofs.Collecting.{strike_more}
+use Rattle.tca_ingest.proofs.Collecting.{have_more, strike_more}
 use Rattle.tca_ingest.proofs.collect.stranger_of.Goals as goal
 
 pub loop-job-preserved : goal.loop-job-preserved
 loop-job-preserved g c =
     strike_more c.args.done.now c.loop-job.job c.index-done-job.result (views_of c.loop-job.left.items) (views_of c.strike.new.left.items) (all_calls c.args.passes.now)
-    c.loop-job-test.true c.loop-job.invariant (c.strike.ensures c.if-not-strike.false)
+    c.loop-job-test.true c.loop-job.invariant (c.strike.ensures.struck c.if-not-strike.false)
 
 pub returns-in_default-clause-entries : goal.returns-in_default-clause-entries
 unfolding entries_in
@@ -64,3 +65,17 @@ returns-clause-own g c = grind (arith, common_steps)
 pub returns-clause-fault : goal.returns-clause-fault
 unfolding entries_in
 returns-clause-fault g c = grind (arith, common_steps)
+
+some_left : (n m : ℕ) (b : Bool) → b ≡ (n == 0) → b ≡ false → m ≡ n → m ≢ 0
+some_left n m b is not same none = other (sym not ∙ is ∙ eq-eqb n 0 (sym same ∙ none)) where
+  other : false ≡ true → ⊥
+  other e = cc
+
+pub returns-clause-stranger : goal.returns-clause-stranger
+returns-clause-stranger g c =
+    let left = c.loop-job.left in
+    let n : vec_len left ≡ length left.items = search rules in
+    λ small. inr (
+      c.number_of-else-is_empty.ensures small,
+      have_more c.args.done.now c.args.passes.now c.loop-job.job left.items c.loop-job-test.false c.loop-job.invariant (some_left (vec_len left) (length left.items) c.is_empty.result c.is_empty.ensures c.if-is_empty.false (sym n)),
+    )

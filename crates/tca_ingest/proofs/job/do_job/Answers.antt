@@ -1,5 +1,4 @@
-use Rattle.std.proofs.lemmas.Grind.{common_steps}
-use Rattle.std.proofs.Common.{◌≡◌, ◌≢◌, ◌∙◌, ℕ, List, Err, rules, sym, subst, ap, arith}
+use Rattle.std.proofs.Common.{◌≡◌, ◌≢◌, ◌∙◌, ℕ, List, Err, rules, sym, subst, ap}
 use Rattle.tca_report.specs.input.Inputs.{input_view}
 use Rattle.tca_report.specs.input.Wants.{WantsMemory}
 use Rattle.tca_report.specs.declared.input.InputFault.TheVariants.{Memory}
@@ -19,6 +18,3 @@ invariant_of-result g c = elim c.match-gather.branch [
       subst (IsResult (input_view c.args.input.now)) (sym is) (own, wanted)
   | in-Ok w ↦ elim w.match-take_inside.branch [ in-Ok-take_inside w' ↦ search rules | in-Err-take_inside w' ↦ search rules ]
 ]
-
-pub returns : goal.returns
-returns g c = grind (arith, common_steps)

@@ -1,5 +1,6 @@
 use Rattle.std.proofs.Common.{arith}
 use Rattle.std.proofs.lemmas.Grind.{common_steps}
+use Rattle.tca_ingest.proofs.Collecting.{run_of_jobs}
 use Rattle.tca_ingest.proofs.workers.results_of.Goals as goal
 
 pub jobs_of-requires : goal.jobs_of-requires
@@ -61,3 +62,6 @@ returns-clause-kept g c = grind (arith, common_steps)
 
 pub returns-clause-fault : goal.returns-clause-fault
 returns-clause-fault g c = grind (arith, common_steps)
+
+pub returns-in_err-run_all-clause-missing : goal.returns-in_err-run_all-clause-missing
+returns-in_err-run_all-clause-missing g c = grind (arith, common_steps, run_of_jobs)

@@ -1,5 +1,5 @@
 use Rattle.std.proofs.lemmas.Grind.{common_steps}
-use Rattle.std.proofs.Common.{◌≡◌, ◌+◌, refl, sym, ap, ◌∙◌, arith}
+use Rattle.std.proofs.Common.{◌≡◌, ◌+◌, ℕ, List, refl, sym, ap, subst, ◌∙◌, arith}
 use Rattle.std.proofs.lemmas.Result.{err_from_is_err_and}
 use Rattle.std.specs.Prelude.{Some, Err, true, false}
 use Rattle.std.specs.Option.{is_some}
@@ -11,6 +11,7 @@ use Rattle.tca_templates.specs.Specifiers.{template_front}
 use Rattle.tca_templates.specs.Records.{data_front}
 use Rattle.tca_templates.specs.Reading.{body_of}
 use Rattle.tca_templates.specs.Wants.{TemplateSet, OptionsTemplateSet, DataSet}
+use Rattle.tca_templates.specs.Refusals.{OfTemplates, OfOptionsTemplates, OfData, StopsBehind}
 use Rattle.tca_templates.proofs.TakingSteps.{set_changes, set_records}
 use Rattle.tca_templates.proofs.Wanting.{wanted_at, none_is}
 use Rattle.tca_templates.proofs.reading.read_set.Goals as goal
@@ -128,6 +129,39 @@ returns-in_err-count-clause-wanted g c =
     (wanted_at (data_front c.args.source t) given.records given.records (c.args.set.at + 4) (body_of m.octets.now c.args.set) c.set_body-body.result.now refl (sym c.set_body-body.ensures)
     (c.in_err-count.ensures.wanted (ap (λ f. Err f) same) start given.records (come.records, come.count))))
 
+pub returns-in_err-read_templates-clause-held : goal.returns-in_err-read_templates-clause-held
+returns-in_err-read_templates-clause-held g c =
+    let p = err_from_is_err_and c.from_residual.result c.from_residual.ensures.1 in
+    rw (p.1, p.2) (λ start given come. record {
+      records = given.records;
+      in_front = OfTemplates c.if-set-eq2.true refl;
+      held = come.records;
+    })
+
+pub returns-in_err-read_templates-2-clause-held : goal.returns-in_err-read_templates-2-clause-held
+returns-in_err-read_templates-2-clause-held g c =
+    let p = err_from_is_err_and c.from_residual-in_err-read_templates-2.result c.from_residual-in_err-read_templates-2.ensures.1 in
+    rw (p.1, p.2) (λ start given come. record {
+      records = given.records;
+      in_front = OfOptionsTemplates c.if-set-eq3.true refl;
+      held = come.records;
+    })
+
+pub returns-in_err-count-clause-held : goal.returns-in_err-count-clause-held
+returns-in_err-count-clause-held g c =
+    let m = c.args.message.now in
+    let t = template_of c.in-Some.template.now in
+    let p = err_from_is_err_and c.from_residual-in_err-count.result c.from_residual-in_err-count.ensures.1 in
+    rw (p.1, p.2) (λ start given come.
+    let h = c.in_err-count.ensures.held start given.records (come.records, come.count) in
+    record {
+      records = h.records;
+      in_front = OfData c.if-set-lt256.false (come.unplaced ∙ none_is c.args.aside.unplaced (sym c.is_some.ensures ∙ c.if-is_some.false)) t
+          (ap (λ (ts : Templates). known (c.args.source.domain, c.args.set.id) ts) come.templates ∙ sym c.in-Some.ensures)
+          (subst (λ (o : List ℕ). StopsBehind (data_front c.args.source t) Memory c.in_err-count.field-0.0 given.records (c.args.set.at + 4) o h.records) c.set_body-body.ensures h.stops);
+      held = h.held;
+    })
+
 pub returns-in_err-read_templates-clause-few : goal.returns-in_err-read_templates-clause-few
 returns-in_err-read_templates-clause-few g c = grind (arith, common_steps)
 
@@ -241,3 +275,21 @@ returns-clause-before g c = grind (arith, common_steps)
 
 pub returns-clause-memory : goal.returns-clause-memory
 returns-clause-memory g c = grind (arith, common_steps)
+
+pub returns-then-set-eq2-clause-held : goal.returns-then-set-eq2-clause-held
+returns-then-set-eq2-clause-held g c = grind (arith, common_steps)
+
+pub returns-then-set-eq3-clause-held : goal.returns-then-set-eq3-clause-held
+returns-then-set-eq3-clause-held g c = grind (arith, common_steps)
+
+pub returns-then-set-lt256-clause-held : goal.returns-then-set-lt256-clause-held
+returns-then-set-lt256-clause-held g c = grind (arith, common_steps)
+
+pub returns-then-is_some-clause-held : goal.returns-then-is_some-clause-held
+returns-then-is_some-clause-held g c = grind (arith, common_steps)
+
+pub returns-in_default-clause-held : goal.returns-in_default-clause-held
+returns-in_default-clause-held g c = grind (arith, common_steps)
+
+pub returns-clause-held : goal.returns-clause-held
+returns-clause-held g c = grind (arith, common_steps)

@@ -9,6 +9,7 @@ use Rattle.tca_templates.specs.Reading.{set_of, before}
 use Rattle.tca_templates.specs.declared.fault.DecodeFault.TheVariants.{Memory}
 use Rattle.tca_templates.specs.Fields.{templates_of}
 use Rattle.tca_templates.specs.Wants.{IsWantedInSet}
+use Rattle.tca_templates.specs.Refusals.{HoldsInSet}
 use Rattle.tca_templates.proofs.SessionLaws.{templates_have, reading_found}
 use Rattle.tca_templates.proofs.Wanting.{sets_more, none_read, three_parts}
 use Rattle.tca_templates.proofs.Sets.{sets_step, sets_all}
@@ -107,6 +108,26 @@ returns-in_err-aside-clause-wanted g c =
       wanted = subst (λ (s : SetSpan). IsWantedInSet c.args.source m.octets.now w.0 s) here (c.in_err-aside.ensures.wanted (ap (λ f. Err f) same) start w.0 w.1);
     })
 
+pub returns-in_err-aside-clause-held : goal.returns-in_err-aside-clause-held
+returns-in_err-aside-clause-held g c =
+    let m = c.args.message.now in
+    let i = c.loop-set.set-index in
+    let lt : i < length m.sets.items = omega (arith, c.loop-set-test.true, ap length c.deref-set-items.ensures.value) in
+    let here : get_or c.deref-set-items.result.now i blank_set ≡ get_or m.sets.items i blank_set = ap (λ (l : List SetSpan). get_or l i blank_set) c.deref-set-items.ensures.value in
+    let p = err_from_is_err_and c.from_residual.result c.from_residual.ensures.1 in
+    rw (p.1, p.2) (λ start taken.
+    let w = c.loop-set.invariant.so_far start taken in
+    record {
+      before = take i m.sets.items;
+      set = get_or m.sets.items i blank_set;
+      behind = drop (suc i) m.sets.items;
+      given = w.0;
+      whole = three_parts m.sets.items i lt;
+      read = reading_found (templates_of c.args.templates.now) c.args.source m.octets.now (take i m.sets.items) w.0 (templates_have c.args.templates.now) w.3;
+      refused = λ other. ap (λ (s : SetSpan). set_of c.args.source m.octets.now w.0 s) (sym here) ∙ c.in_err-aside.ensures.exact start w.0 w.1 other;
+      holds = subst (λ (s : SetSpan). HoldsInSet g.T.TakesRecords.took start c.read_set.new.taker c.args.source m.octets.now w.0 s c.in_err-aside.field-0.0) here (c.in_err-aside.ensures.held start w.0 w.1);
+    })
+
 pub returns-in_err-aside-clause-few : goal.returns-in_err-aside-clause-few
 returns-in_err-aside-clause-few g c = grind (arith, common_steps)
 
@@ -130,3 +151,6 @@ returns-clause-before g c = grind (arith, common_steps)
 
 pub returns-clause-memory : goal.returns-clause-memory
 returns-clause-memory g c = grind (arith, common_steps)
+
+pub returns-clause-held : goal.returns-clause-held
+returns-clause-held g c = grind (arith, common_steps)

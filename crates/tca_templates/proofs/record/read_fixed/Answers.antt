@@ -8,7 +8,7 @@ use Rattle.tca_templates.specs.Layouts.{fields_in}
 use Rattle.tca_templates.specs.Fields.{template_of}
 use Rattle.tca_templates.proofs.Records.{data_ends}
 use Rattle.tca_templates.proofs.LayoutLaws.{found_fixed, size_fixed}
-use Rattle.tca_templates.proofs.TakingSteps.{walked_first, walked_more, walked_wants}
+use Rattle.tca_templates.proofs.TakingSteps.{walked_first, walked_more, walked_wants, walked_full}
 use Rattle.tca_templates.proofs.record.read_fixed.Goals as goal
 
 pub loop-rest-init : goal.loop-rest-init
@@ -36,7 +36,7 @@ loop-rest-preserved g c =
           let w = c.loop-rest.invariant.so_far start records at taken in (
             w.0 + t.shortest,
             rw c.split_at.ensures.back (walked_more g.T.TakesRecords.took c.args.source (template_of t) start c.loop-rest.taker c.take.new.self c.loop-rest.count w.0 t.shortest rest _ _ _ some w.1 le read
-                (c.in_ok-take.ensures start w.1.all w.1.holds)),
+                (c.in_ok-take.ensures.ok start w.1.all w.1.holds)),
           );
       few = rw c.split_at.ensures.back (omega (arith, length-drop t.shortest rest, c.loop-rest.invariant.few, t.some, c.loop-rest-test.true));
       size = refl;
@@ -60,6 +60,17 @@ returns-in_err-take-clause-wanted g c =
     let w = c.loop-rest.invariant.so_far start records at taken in
     walked_wants g.T.TakesRecords.took c.args.source (template_of t) start c.loop-rest.taker c.loop-rest.count w.0 _ rest _ _ _ w.1 le (size_fixed t.specs.items rest c.requires.laid.fixed le))
 
+pub returns-in_err-take-clause-held : goal.returns-in_err-take-clause-held
+returns-in_err-take-clause-held g c =
+    let t = c.args.template.now in
+    let rest = c.loop-rest.rest.now in
+    let le : shortest_of t.specs.items ≤ length rest = omega (arith, c.loop-rest-test.true, t.right) in
+    let p = err_from_is_err_and c.from_residual.result c.from_residual.ensures.1 in
+    rw p.1 (λ start records at taken.
+    let w = c.loop-rest.invariant.so_far start records at taken in
+    walked_full g.T.TakesRecords.took c.args.source (template_of t) start c.loop-rest.taker c.take.new.self c.loop-rest.count w.0 _ rest _ _ _ w.1 le (size_fixed t.specs.items rest c.requires.laid.fixed le)
+    (c.in_err-take.ensures.err start w.1.all w.1.holds))
+
 pub returns-in_err-take-clause-exact : goal.returns-in_err-take-clause-exact
 returns-in_err-take-clause-exact g c = grind (arith, common_steps)
 
@@ -71,3 +82,6 @@ returns-clause-wanted g c = grind (arith, common_steps)
 
 pub returns-clause-few : goal.returns-clause-few
 returns-clause-few g c = grind (arith, common_steps)
+
+pub returns-clause-held : goal.returns-clause-held
+returns-clause-held g c = grind (arith, common_steps)

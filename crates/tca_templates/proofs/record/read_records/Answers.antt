@@ -5,14 +5,5 @@ use Rattle.tca_templates.proofs.record.read_records.Goals as goal
 pub returns-in_ok-read_fixed-in-Some-clause-exact : goal.returns-in_ok-read_fixed-in-Some-clause-exact
 returns-in_ok-read_fixed-in-Some-clause-exact g c = λ start records taken. c.in_ok-read_fixed-in-Some.ensures.exact start records c.args.at taken
 
-pub returns-in-None-clause-exact : goal.returns-in-None-clause-exact
-returns-in-None-clause-exact g c = grind (arith, common_steps)
-
-pub returns-in-None-clause-wanted : goal.returns-in-None-clause-wanted
-returns-in-None-clause-wanted g c = grind (arith, common_steps)
-
-pub returns-in-None-clause-few : goal.returns-in-None-clause-few
-returns-in-None-clause-few g c = grind (arith, common_steps)
-
 pub returns-in_ok-read_fixed-in-Some-clause-few : goal.returns-in_ok-read_fixed-in-Some-clause-few
 returns-in_ok-read_fixed-in-Some-clause-few g c = grind (arith, common_steps)

@@ -2,6 +2,7 @@ use Rattle.std.proofs.lemmas.Grind.{common_steps}
 use Rattle.std.proofs.Common.{[], ◌<◌, ◌≤◌, List, refl, sym, ap, ◌∙◌, arith, length}
 use Rattle.std.specs.Prelude.{option_map}
 use Rattle.std.proofs.lemmas.List.{length-drop}
+use Rattle.std.proofs.lemmas.Result.{err_from_is_err_and}
 use Rattle.tca_templates.specs.declared.template.FieldSpec.{FieldSpec}
 use Rattle.tca_templates.specs.Templates.{shortest_of}
 use Rattle.tca_templates.specs.Records.{fields_on}
@@ -10,7 +11,7 @@ use Rattle.tca_templates.specs.Fields.{template_of}
 use Rattle.tca_templates.proofs.Fields.{fields_holds}
 use Rattle.tca_templates.proofs.Records.{data_ends, data_bad}
 use Rattle.tca_templates.proofs.LayoutLaws.{found_located, size_located, none_located}
-use Rattle.tca_templates.proofs.TakingSteps.{walked_first, walked_more, walked_wants}
+use Rattle.tca_templates.proofs.TakingSteps.{walked_first, walked_more, walked_wants, walked_full, walked_cut}
 use Rattle.tca_templates.proofs.record.read_variable.Goals as goal
 
 pub loop-rest-init : goal.loop-rest-init
@@ -84,7 +85,7 @@ loop-rest-preserved g c =
       so_far = λ start records taken.
           let w = c.loop-rest.invariant.so_far start records taken in
           rw c.split_at.ensures.back (walked_more g.T.TakesRecords.took c.args.source (template_of t) start c.loop-rest.taker c.take.new.self c.loop-rest.count c.loop-rest.at n rest _ _ _ some w le read
-          (c.in_ok-take.ensures start w.all w.holds));
+          (c.in_ok-take.ensures.ok start w.all w.holds));
       few = rw c.split_at.ensures.back (omega (arith, length-drop n rest, c.loop-rest.invariant.few, holds.least, holds.within, some));
       place = rw c.split_at.ensures.back (omega (arith, length-drop n rest, c.loop-rest.invariant.place, holds.within));
       shortest = refl;
@@ -107,6 +108,26 @@ returns-in_err-take-clause-wanted g c =
     λ memory start records taken.
     walked_wants g.T.TakesRecords.took c.args.source (template_of t) start c.loop-rest.taker c.loop-rest.count c.loop-rest.at _ rest _ _ _ (c.loop-rest.invariant.so_far start records taken) le read
 
+pub returns-in_default-clause-held : goal.returns-in_default-clause-held
+returns-in_default-clause-held g c = λ start records taken.
+    let t = c.args.template.now in
+    let rest = c.loop-rest.rest.now in
+    let le : shortest_of t.specs.items ≤ length rest = omega (arith, c.loop-rest-test.true, t.right) in
+    let none = none_located t.specs.items rest (c.in_default.ensures.whole ∙ ap (λ (ss : List FieldSpec). option_map (λ x. x.1) (fields_on [] 0 ss rest)) c.deref.ensures.value) in
+    walked_cut g.T.TakesRecords.took c.args.source (template_of t) start c.loop-rest.taker c.loop-rest.count c.loop-rest.at rest _ _ _ (c.loop-rest.invariant.so_far start records taken) le none
+
+pub returns-in_err-take-clause-held : goal.returns-in_err-take-clause-held
+returns-in_err-take-clause-held g c =
+    let t = c.args.template.now in
+    let rest = c.loop-rest.rest.now in
+    let le : shortest_of t.specs.items ≤ length rest = omega (arith, c.loop-rest-test.true, t.right) in
+    let read = size_located t.specs.items rest c.in-Some.size (c.in-Some.ensures.whole ∙ ap (λ (ss : List FieldSpec). option_map (λ x. x.1) (fields_on [] 0 ss rest)) c.deref.ensures.value) in
+    let p = err_from_is_err_and c.from_residual.result c.from_residual.ensures.1 in
+    rw (p.1, p.2) (λ start records taken.
+    let w = c.loop-rest.invariant.so_far start records taken in
+    walked_full g.T.TakesRecords.took c.args.source (template_of t) start c.loop-rest.taker c.take.new.self c.loop-rest.count c.loop-rest.at _ rest _ _ _ w le read
+    (c.in_err-take.ensures.err start w.all w.holds))
+
 pub returns-in_default-clause-few : goal.returns-in_default-clause-few
 returns-in_default-clause-few g c = grind (arith, common_steps)
 
@@ -121,3 +142,6 @@ returns-clause-wanted g c = grind (arith, common_steps)
 
 pub returns-clause-few : goal.returns-clause-few
 returns-clause-few g c = grind (arith, common_steps)
+
+pub returns-clause-held : goal.returns-clause-held
+returns-clause-held g c = grind (arith, common_steps)

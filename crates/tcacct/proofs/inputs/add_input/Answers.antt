@@ -29,13 +29,13 @@ returns-in-Ok-add_all-clause-noted c =
     let so_far = gathered_ok _ _ (rw c.deref.ensures.value at c.in-Ok.ensures.exact) in
     record { so_far = so_far.0; read = so_far.1; notes_are = so_far.3 }
 
-pub returns-in-Err-clause-exact : goal.returns-in-Err-clause-exact
-returns-in-Err-clause-exact c =
-    refused_as c.args.n c.args.log.now (read_input (input_view c.args.input.now)) c.in-Err.fault c.input.result c.input.ensures.fault (rw c.deref.ensures.value at c.in-Err.ensures.exact)
-
 pub returns-in-Err-clause-memory_last : goal.returns-in-Err-clause-memory_last
 returns-in-Err-clause-memory_last c =
     memory_of_gather c.args.n (input_view c.args.input.now) c.in-Err.fault c.input.result c.input.ensures.fault (λ m. rw c.deref.ensures.value at (c.in-Err.ensures.memory_wanted (ap Err m)))
+
+pub returns-in-Err-clause-exact : goal.returns-in-Err-clause-exact
+returns-in-Err-clause-exact c =
+    refused_as c.args.n c.args.log.now (read_input (input_view c.args.input.now)) c.in-Err.fault c.input.result c.input.ensures.fault (rw c.deref.ensures.value at c.in-Err.ensures.exact)
 
 pub returns-in-Err-clause-named : goal.returns-in-Err-clause-named
 returns-in-Err-clause-named c = grind (arith, common_steps)

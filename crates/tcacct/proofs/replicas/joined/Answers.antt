@@ -2,11 +2,13 @@ use Rattle.std.proofs.lemmas.Grind.{common_steps}
 use Rattle.std.proofs.Common.{◌≡◌, ◌∙◌, ◌+◌, [], ◌∷◌, ◌++◌, take, ap, sym, subst, rules, arith}
 use Rattle.std.specs.List.{All}
 use Rattle.std.proofs.lemmas.List.{map-append, take_all, take_more}
-use Rattle.std.proofs.lemmas.Result.{IfOk-weaker}
+use Rattle.std.proofs.lemmas.Result.{IfErr-weaker, IfOk-weaker}
 use Rattle.tca_gossip.specs.Replicas.{ReplicaView}
 use Rattle.tca_ingest.specs.Closed.{ClosedView, replicas_of}
 use Rattle.tca_ingest.specs.Passes.{AreClosing, calls_of}
 use Rattle.tcacct.specs.Absorbs.{Absorbs, AbsorbsEach, HasAbsorbed}
+use Rattle.tcacct.specs.Replicated.{IsReadingRefused, IsRunRefused}
+use Rattle.tcacct.proofs.RefusalLaws.{in_run}
 use Rattle.tcacct.proofs.AbsorbLaws.{all_last, one_more, same_number}
 use Rattle.tcacct.proofs.replicas.joined.Goals as goal
 
@@ -69,4 +71,4 @@ pub returns-clause-replayed : goal.returns-clause-replayed
 returns-clause-replayed g c = grind (arith, common_steps)
 
 pub returns-clause-refused : goal.returns-clause-refused
-returns-clause-refused g c = grind (arith, common_steps)
+returns-clause-refused g c = IfErr-weaker c.closed.result IsReadingRefused IsRunRefused (λ e h. in_run e h) c.closed.ensures.refused

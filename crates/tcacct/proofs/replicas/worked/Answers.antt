@@ -1,5 +1,6 @@
-use Rattle.std.proofs.Common.{arith}
+use Rattle.std.proofs.Common.{◌≡◌, Err, rules, arith}
 use Rattle.std.proofs.lemmas.Grind.{common_steps}
+use Rattle.tcacct.proofs.RefusalLaws.{of_stranger}
 use Rattle.tcacct.proofs.replicas.worked.Goals as goal
 
 pub share_of-requires : goal.share_of-requires
@@ -21,7 +22,10 @@ pub put_answers-requires-clause-apart : goal.put_answers-requires-clause-apart
 put_answers-requires-clause-apart g c = grind (arith, common_steps)
 
 pub returns-in_err-put_answers : goal.returns-in_err-put_answers
-returns-in_err-put_answers g c = grind (arith, common_steps)
+returns-in_err-put_answers g c =
+    let e = c.in_err-put_answers.field-0.0 in
+    let is : c.from_residual-in_err-put_answers.result ≡ Err e = search rules in
+    rw is (of_stranger e c.in_err-put_answers.ensures.refused)
 
 pub returns : goal.returns
 returns g c = grind (arith, common_steps)

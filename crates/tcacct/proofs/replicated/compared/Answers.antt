@@ -1,11 +1,16 @@
 use Rattle.std.proofs.lemmas.Grind.{common_steps}
-use Rattle.std.proofs.lemmas.Result.{IfOk-weaker}
-use Rattle.std.proofs.Common.{◌≡◌, ◌≤◌, ◌∙◌, List, length, subst, sym, arith}
+use Rattle.std.proofs.lemmas.Result.{IfErr-weaker, IfOk-weaker}
+use Rattle.std.proofs.Common.{◌≡◌, ◌≢◌, ◌≤◌, ◌∙◌, None, List, length, subst, sym, arith}
 use Rattle.std.specs.List.Sorted.{IsStrictlySortedBy}
 use Rattle.tca_join.proofs.Sets.{rises_in_order}
 use Rattle.tca_report.specs.report.Reports.{PacketReport, report_cmp}
 use Rattle.tca_report.specs.export.Spelling.{most_reports}
 use Rattle.tca_report.proofs.lemmas.report.Order.{report_total}
+use Rattle.tca_ingest.specs.declared.fault.CloseFault.TheVariants.{Clash}
+use Rattle.tcacct.specs.Replicated.{IsRunRefused}
+use Rattle.tcacct.specs.Runs.{refusal}
+use Rattle.tcacct.specs.declared.fault.Family.TheVariants as family
+use Rattle.tcacct.proofs.RefusalLaws.{in_run, of_close}
 use Rattle.tcacct.proofs.replicated.compared.Goals as goal
 
 pub returns-clause-whole : goal.returns-clause-whole
@@ -21,6 +26,11 @@ returns-clause-rises c =
 pub returns-clause-limit : goal.returns-clause-limit
 returns-clause-limit c =
     IfOk-weaker c.held_by.result _ _ (λ x h. subst (λ (rs : List PacketReport). length rs ≤ most_reports) (sym h.1) c.held_by.ensures.limit) c.held_by.ensures.held
+
+pub returns-clause-refused : goal.returns-clause-refused
+returns-clause-refused c =
+    IfErr-weaker c.held_by.result (λ e. (e ≡ refusal None family.Close 3) × (c.in_ok-reports.reports.items ≢ c.log.result.now)) IsRunRefused
+    (λ e h. in_run e (of_close e (Clash 0) h.0)) c.held_by.ensures.differs
 
 pub returns-in_err-reports-clause-whole : goal.returns-in_err-reports-clause-whole
 returns-in_err-reports-clause-whole c = grind (arith, common_steps)

@@ -1,7 +1,10 @@
 //! What two shared replicas tell each other, absorbs that are refused, and closed replicas that don't agree.
 ghost use Rattle.std.specs.Prelude.{◌≡◌};
 
-use super::{FIRST, PARTS, SECOND, THIRD, alone, closed_with, plan, reports, states_three, take};
+use super::{
+    FIRST, PARTS, SECOND, THIRD, alone, closed_with, has_rows, has_three, plan, reports,
+    states_three, take,
+};
 use std::alloc::{AllocError, Global};
 use std::marker::Brand;
 use std::sync::Wait;
@@ -61,13 +64,107 @@ pub(super) fn both(alloc: Global, one: Closed, two: Closed) -> Result<Vec<Closed
     Ok(both)
 }
 
-// Whether two closed replicas have three reports each, and agree.
-pub(super) fn are_of_three(both: &[Closed]) -> bool {
+// Whether two closed replicas have just the three rows and their statement each, and agree.
+pub(super) fn are_of_three(alloc: Global, both: &[Closed]) -> bool {
     let are_whole = match both {
-        [one, two] => one.replica.log().len() == 3 && two.replica.log().len() == 3,
+        [one, two] => has_three(alloc, &one.replica) && has_three(alloc, &two.replica),
         _ => false,
     };
     are_whole && close_all(both).is_ok()
+}
+
+// Each takes two rows by its pass, the second row both. They tell each other twice, and state the same.
+fn tell_by_one_pass<I: Side, F: Side, R: Wait>(
+    rt: &R,
+    alloc: Global,
+    one: (&Shared<I>, &mut Pass<I>),
+    two: (&Shared<F>, &mut Pass<F>),
+) -> bool {
+    let ((into, mine), (from, theirs)) = (one, two);
+    let taken = take(rt, alloc, into, mine, &[FIRST, SECOND]);
+    let other_taken = take(rt, alloc, from, theirs, &[SECOND, THIRD]);
+    let there = tells(rt, (into, mine), (from, theirs), 3, 2);
+    let back = tells(rt, (from, theirs), (into, mine), 4, 2);
+    let again = tells(rt, (into, mine), (from, theirs), 6, 0);
+    let back_again = tells(rt, (from, theirs), (into, mine), 7, 0);
+    let ended = ends(rt, into, mine, 8);
+    let other_ended = ends(rt, from, theirs, 8);
+    let told = there && back && again && back_again;
+    (taken, other_taken) == (Some(1), Some(1)) && told && ended && other_ended
+}
+
+// The passes by which they told each other.
+fn told_by_one_pass<I: Side, F: Side, R: Wait>(
+    rt: &R,
+    alloc: Global,
+    into: &Shared<I>,
+    from: &Shared<F>,
+) -> Option<(Pass<I>, Pass<F>)> {
+    let Ok(mut mine) = into.pass(rt) else {
+        return None;
+    };
+    let Ok(mut theirs) = from.pass(rt) else {
+        return None;
+    };
+    if !tell_by_one_pass(rt, alloc, (into, &mut mine), (from, &mut theirs)) {
+        return None;
+    }
+    Some((mine, theirs))
+}
+
+// Whether both close with the three rows.
+fn close_with_three<I: Side, F: Side, R: Wait>(
+    rt: &R,
+    alloc: Global,
+    into: Shared<I>,
+    from: Shared<F>,
+) -> bool {
+    let Some((mine, theirs)) = told_by_one_pass(rt, alloc, &into, &from) else {
+        return false;
+    };
+    let Some(one) = closed(alloc, into, mine) else {
+        return false;
+    };
+    let Some(two) = closed(alloc, from, theirs) else {
+        return false;
+    };
+    let Ok(both) = both(alloc, one, two) else {
+        return false;
+    };
+    are_of_three(alloc, &both)
+}
+
+fn tells_by_one_pass<I: Side, F: Side, R: Wait>(
+    rt: &R,
+    alloc: Global,
+    one: (Blank, u32, Plan),
+    two: (Blank, u32, Plan),
+) -> bool
+    requires name { (one.0.name ≡ I.name) × (two.0.name ≡ F.name) }
+    requires parts { (one.0.parts ≡ I.parts) × (I.parts ≡ 65537) × (two.0.parts ≡ F.parts) × (F.parts ≡ 65537) }
+    requires called { (one.1 ≡ I.called) × (two.1 ≡ F.called) }
+    requires plan { (one.2 ≡ I.plan) × (two.2 ≡ F.plan) }
+{
+    let Ok(into) = Shared::<I>::new(alloc, one.0, one.1, one.2) else {
+        return false;
+    };
+    let Ok(from) = Shared::<F>::new(alloc, two.0, two.1, two.2) else {
+        return false;
+    };
+    close_with_three(rt, alloc, into, from)
+}
+
+#[test]
+fn two_replicas_with_a_pass_each_tell_each_other(rt: HostRuntime) {
+    let Ok(first) = plan(rt.alloc()) else {
+        panic!(rt; "a plan");
+    };
+    let Ok(second) = plan(rt.alloc()) else {
+        panic!(rt; "a plan");
+    };
+    let one = (Blank::new(PARTS), 1, first);
+    let two = (Blank::new(PARTS), 2, second);
+    assert!(rt; tells_by_one_pass::<Brand, Brand, _>(&rt, rt.alloc(), one, two));
 }
 
 // A delta of one run.
@@ -146,6 +243,14 @@ fn refuses_both<L: Side, R: Wait>(
     taken == Some(1) && far && ahead
 }
 
+// Whether the own chain has the first two rows.
+fn has_chain(alloc: Global, closed: &Closed) -> bool {
+    match reports(alloc, &[FIRST, SECOND]) {
+        Some(list) => closed.replica.chain(1) == list.as_slice(),
+        None => false,
+    }
+}
+
 // Whether what is refused leaves the take alone.
 fn stays<L: Side, R: Wait>(rt: &R, alloc: Global, shared: Shared<L>) -> bool {
     let Ok(mut pass) = shared.pass(rt) else {
@@ -155,7 +260,7 @@ fn stays<L: Side, R: Wait>(rt: &R, alloc: Global, shared: Shared<L>) -> bool {
     let Some(closed) = closed(alloc, shared, pass) else {
         return false;
     };
-    let same = closed.replica.log().len() == 2 && closed.replica.chain(1).len() == 2;
+    let same = has_rows(alloc, &closed.replica, &[FIRST, SECOND]) && has_chain(alloc, &closed);
     refused && same && closed.journal.len() == 3
 }
 

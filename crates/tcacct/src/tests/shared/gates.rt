@@ -1,5 +1,5 @@
 //! Workers that are held by gates: two jobs are begun before either is done, as many as there are workers, and a replica that is held
-//! holds no other one. Each wait has a limit, so that the tests end where it is not so.
+//! holds no other one; and a lock that is held as a job's take begins, and neither before nor after it. Each wait has a limit, so that the tests end where it is not so.
 ghost use Rattle.std.specs.Prelude.{◌≡◌, ◌≤◌, IfSome, length};
 
 use super::jobs::exports;
@@ -13,9 +13,9 @@ use std::sync::atomic::{AtomicU64, Ordering};
 use std::sync::ledger::Blank;
 use std::thread;
 use std::thread::Threads;
-use std::time::Clock;
+use std::time::{Clock, Duration};
 use tca_accounts::Plan;
-use tca_ingest::{Gate, Shared, Side, work};
+use tca_ingest::{Entry, Gate, Pass, Shared, Side, work};
 use tca_report::Input;
 
 // The counts of results, entries and reports after workers took inputs, where the replica closes.
@@ -300,4 +300,155 @@ fn a_replica_that_is_held_holds_no_other(rt: HostRuntime) {
     let one = (Blank::new(PARTS), 1, first);
     let two = (Blank::new(PARTS), 2, second);
     assert!(rt; holds_one::<Brand, Brand, _>(&rt, rt.alloc(), one, two));
+}
+
+// A job that waits, before it and after it, for another caller's statement; and under the lock until that caller asks for one.
+#[derive(Drop)]
+struct Watching<'a, R: Clock> {
+    rt: &'a R,
+    // how far the job is: 1 before its take, 2 in it, 3 after it
+    stage: AtomicU64,
+    // how many statements were asked for, and how many were answered
+    asked: AtomicU64,
+    answered: AtomicU64,
+    // how many waits ended before the limit
+    in_time: AtomicU64,
+}
+
+impl<'a, R: Clock> Watching<'a, R> {
+    // The job comes to a stage, and waits for a count.
+    fn comes_to(&self, stage: u64, count: &AtomicU64) {
+        self.stage.store(stage, Ordering::SeqCst);
+        if reaches(self.rt, count, stage) {
+            self.in_time.fetch_add(1, Ordering::SeqCst);
+        }
+    }
+}
+
+impl<'a, R: Clock + Sync> Gate for Watching<'a, R> {
+    fn before(&self, _job: u32) {
+        self.comes_to(1, &self.answered);
+    }
+
+    fn inside(&self, _job: u32) {
+        self.comes_to(2, &self.asked);
+        // so that the caller is at the lock, were it free
+        thread::sleep(self.rt, Duration::from_millis(100));
+    }
+
+    fn after(&self, _job: u32) {
+        self.comes_to(3, &self.answered);
+    }
+}
+
+// Whether a job took its report.
+fn takes_one<L: Side + Send + Sync, R: Threads + Wait + Clock + Sync>(
+    rt: &R,
+    alloc: Global,
+    shared: &Shared<L>,
+    inputs: &[Input],
+    gate: &Watching<'_, R>,
+) -> bool {
+    if inputs.len() > 1 {
+        return false;
+    }
+    match work(rt, alloc, shared, inputs, gate, 1) {
+        Ok(worked) => worked.done.len() == 1,
+        Err(_) => false,
+    }
+}
+
+// How many reports a statement counts.
+fn counted<L: Side, R: Wait>(rt: &R, shared: &Shared<L>, pass: &mut Pass<L>) -> Option<u32> {
+    let Ok(receipt) = shared.statement(rt, pass) else {
+        return None;
+    };
+    match &receipt.entry {
+        Entry::Answered { bill, .. } => Some(bill.reports),
+        _ => None,
+    }
+}
+
+// How many reports a statement counts that is asked for once the job is at a stage.
+fn counted_at<L: Side, R: Wait + Clock>(
+    rt: &R,
+    shared: &Shared<L>,
+    pass: &mut Pass<L>,
+    gate: &Watching<'_, R>,
+    stage: u64,
+) -> Option<u32> {
+    if !reaches(rt, &gate.stage, stage) {
+        return None;
+    }
+    gate.asked.store(stage, Ordering::SeqCst);
+    let count = counted(rt, shared, pass);
+    gate.answered.store(stage, Ordering::SeqCst);
+    count
+}
+
+// How many reports the statements count that are asked for before the job's take, in it, and after it.
+fn asks_meanwhile<L: Side, R: Wait + Clock>(
+    rt: &R,
+    shared: &Shared<L>,
+    gate: &Watching<'_, R>,
+) -> [Option<u32>; 3] {
+    let Ok(mut pass) = shared.pass(rt) else {
+        return [None; 3];
+    };
+    let before = counted_at(rt, shared, &mut pass, gate, 1);
+    let inside = counted_at(rt, shared, &mut pass, gate, 2);
+    let after = counted_at(rt, shared, &mut pass, gate, 3);
+    [before, inside, after]
+}
+
+// Whether statements are answered before a job's take and after it, and one that is asked for in it has the job's report.
+fn is_watched<L: Side + Send + Sync, R: Threads + Wait + Clock + Sync>(
+    rt: &R,
+    alloc: Global,
+    shared: &Shared<L>,
+) -> bool {
+    let Some(inputs) = exports(alloc, &[FIRST]) else {
+        return false;
+    };
+    let gate = Watching {
+        rt,
+        stage: AtomicU64::new(0),
+        asked: AtomicU64::new(0),
+        answered: AtomicU64::new(0),
+        in_time: AtomicU64::new(0),
+    };
+    let (list, gates) = (inputs.as_slice(), &gate);
+    let (done, counts) = thread::join(
+        rt,
+        move || takes_one(rt, alloc, shared, list, gates),
+        move || asks_meanwhile(rt, shared, gates),
+    );
+    let in_time = gate.in_time.load(Ordering::SeqCst);
+    done && counts == [Some(0), Some(1), Some(1)] && in_time == 3
+}
+
+fn watches<L: Side + Send + Sync, R: Threads + Wait + Clock + Sync>(
+    rt: &R,
+    alloc: Global,
+    blank: Blank,
+    name: u32,
+    plan: Plan,
+) -> bool
+    requires name { blank.name ≡ L.name }
+    requires parts { (blank.parts ≡ L.parts) × (L.parts ≡ 65537) }
+    requires called { name ≡ L.called }
+    requires plan { plan ≡ L.plan }
+{
+    let Ok(shared) = Shared::<L>::new(alloc, blank, name, plan) else {
+        return false;
+    };
+    is_watched(rt, alloc, &shared)
+}
+
+#[test]
+fn a_job_holds_the_lock_inside_alone(rt: HostRuntime) {
+    let Ok(plan) = plan(rt.alloc()) else {
+        panic!(rt; "a plan");
+    };
+    assert!(rt; watches::<Brand, _>(&rt, rt.alloc(), Blank::new(PARTS), 1, plan));
 }

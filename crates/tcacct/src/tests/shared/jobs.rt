@@ -200,7 +200,7 @@ fn agree<I: Side + Send + Sync, F: Side + Send + Sync, R: Threads + Wait + Abort
     let Ok(both) = both(alloc, one, two) else {
         return false;
     };
-    are_of_three(&both)
+    are_of_three(alloc, &both)
 }
 
 fn agreed<I: Side + Send + Sync, F: Side + Send + Sync, R: Threads + Wait + Abort + Sync>(

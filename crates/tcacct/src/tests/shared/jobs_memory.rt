@@ -1,22 +1,22 @@
-//! Workers that may be refused a growth. The test is run with each growth refused in turn: whatever is refused, the passes that are
-//! handed back close the replica, and it holds what its journal says.
+//! Workers that may be refused a growth, and the same workers again. The test is run with each growth refused in turn, once each: whatever
+//! is refused, the jobs are done whole one of the two times, and the passes that are handed back close the replica.
 ghost use Rattle.std.specs.Prelude.{◌≡◌, ◌≤◌, length};
 
 use super::jobs::exports;
-use super::{FIRST, PARTS, SECOND, closed_with, plan};
+use super::{FIRST, PARTS, SECOND, closed_with, has_list, plan, reports, whole};
 use std::alloc::{AllocError, Global};
 use std::marker::Brand;
 use std::sync::Wait;
 use std::sync::ledger::Blank;
 use std::test::Fail;
 use std::thread::Threads;
-use tca_accounts::Plan;
+use tca_accounts::{Bill, Plan};
 use tca_ingest::{
-    Closed, Done, Entry, JobFault, NoGate, Pass, ShareFault, Shared, Side, WorkFault, WorkRefused,
-    Worked, work,
+    Done, Entry, JobFault, NoGate, Pass, ShareFault, Shared, Side, WorkFault, WorkRefused, Worked,
+    work,
 };
-use tca_log::{Log, LogFault};
-use tca_report::{Input, InputFault, Report};
+use tca_log::LogFault;
+use tca_report::{Input, InputFault};
 
 // Whether a job was done, or was refused for memory.
 fn is_done(done: &Done) -> bool {
@@ -35,31 +35,11 @@ fn is_refused(fault: WorkFault) -> bool {
     fault == WorkFault::Memory || fault == WorkFault::NoThread
 }
 
-fn has_all(log: &Log, reports: &[Report]) -> bool {
-    for report in reports {
-        if !log.contains(report) {
-            return false;
-        }
-    }
-    true
-}
-
-// How many reports the replica holds, where they are those of the journal's takes, none of which is there twice.
-fn held(closed: &Closed) -> Option<usize> {
-    let mut taken: usize = 0;
-    for entry in &closed.journal {
-        let Entry::Took { reports, .. } = entry else {
-            return None;
-        };
-        if !has_all(closed.replica.log(), reports) {
-            return None;
-        }
-        taken = taken.saturating_add(reports.len());
-    }
-    if taken == closed.replica.log().len() as usize {
-        Some(taken)
-    } else {
-        None
+// Whether a job took all reports of its input.
+fn is_whole(done: &Done) -> bool {
+    match &done.result {
+        Ok((_, receipt)) => whole(&receipt.entry) == Some(1),
+        Err(_) => false,
     }
 }
 
@@ -68,27 +48,50 @@ fn are_done(done: &[Done]) -> bool {
     done.len() == 2 && done.iter().all(is_done)
 }
 
-// The workers' passes, where what came of their work is right.
+// The workers' passes, and whether both jobs took all of their input, where what came of their work is right.
 fn passes_of<L: Side + Send + Sync, R: Threads + Wait + Sync>(
     rt: &R,
     alloc: Global,
     shared: &Shared<L>,
     inputs: &[Input],
-) -> Option<Vec<Pass<L>>>
+) -> Option<(bool, Vec<Pass<L>>)>
     requires { length inputs.now ≤ 3 }
 {
-    let (is_right, passes) = match work(rt, alloc, shared, inputs, &NoGate, 2) {
-        Ok(Worked { done, passes }) => (are_done(&done), passes),
-        Err(WorkRefused { fault, passes }) => (is_refused(fault), passes),
+    let (is_right, all, passes) = match work(rt, alloc, shared, inputs, &NoGate, 2) {
+        Ok(Worked { done, passes }) => (are_done(&done), done.iter().all(is_whole), passes),
+        Err(WorkRefused { fault, passes }) => (is_refused(fault), false, passes),
     };
-    if is_right { Some(passes) } else { None }
+    if is_right { Some((all, passes)) } else { None }
 }
 
-// Whether a closed replica holds what its journal says, and its bill is of that.
-fn is_as_noted(closed: &Closed) -> Result<bool, AllocError> {
-    match held(closed) {
-        Some(held) => Ok(closed.replica.totals()?.reports as usize == held),
-        None => Ok(false),
+// The passes of workers who did the jobs twice, one after the other, where one time they did them whole: one refusal spoils one time.
+fn passes_of_twice<L: Side + Send + Sync, R: Threads + Wait + Sync>(
+    rt: &R,
+    alloc: Global,
+    shared: &Shared<L>,
+    inputs: &[Input],
+) -> Result<Vec<Pass<L>>, Fail>
+    requires { length inputs.now ≤ 3 }
+{
+    let (first, mut passes) = passes_of(rt, alloc, shared, inputs).ok_or("workers")?;
+    let (again, others) = passes_of(rt, alloc, shared, inputs).ok_or("workers")?;
+    for pass in others {
+        passes.push(pass)?;
+    }
+    if !first && !again {
+        return Err(Fail::from("neither time the jobs were done"));
+    }
+    Ok(passes)
+}
+
+// Whether a bill is that of the first two rows, or was refused for memory.
+fn is_of_two(bill: &Result<Bill, AllocError>) -> bool {
+    let Ok(bill) = bill else {
+        return true;
+    };
+    match bill.accounts.as_slice().first() {
+        Some(tally) => (tally.total.octets(), bill.reports) == ([1500, 1000, 0], 2),
+        None => false,
     }
 }
 
@@ -105,10 +108,11 @@ fn works_and_closes<L: Side + Send + Sync, R: Threads + Wait + Sync>(
     requires plan { plan ≡ L.plan }
 {
     let inputs = exports(alloc, &[FIRST, SECOND]).ok_or("inputs")?;
+    let list = reports(alloc, &[FIRST, SECOND]).ok_or("reports")?;
     let shared = Shared::<L>::new(alloc, blank, name, plan)?;
-    let passes = passes_of(rt, alloc, &shared, &inputs).ok_or("workers")?;
+    let passes = passes_of_twice(rt, alloc, &shared, &inputs)?;
     let closed = closed_with(shared, passes).ok_or("a close")?;
-    Ok(is_as_noted(&closed)?)
+    Ok(has_list(&closed.replica, &list) && is_of_two(&closed.replica.totals()))
 }
 
 #[test]

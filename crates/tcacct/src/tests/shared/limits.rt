@@ -7,7 +7,9 @@ use std::marker::Brand;
 use std::sync::Wait;
 use std::sync::ledger::Blank;
 use tca_accounts::Plan;
+use tca_gossip::{Delta, Summary};
 use tca_ingest::{Pass, ShareFault, Shared, Side};
+use tca_join::ByKey;
 
 // Makes passes, and answers whether they have the numbers from 0 on.
 pub(super) fn makes<L: Side, R: Wait>(rt: &R, shared: &Shared<L>, count: u32) -> bool {
@@ -63,23 +65,49 @@ fn asks<L: Side, R: Wait>(rt: &R, shared: &Shared<L>, pass: &mut Pass<L>, times:
     true
 }
 
-// Whether the journal has no room for a summary and for a take.
-fn is_full<L: Side, R: Wait>(rt: &R, shared: &Shared<L>, pass: &mut Pass<L>) -> bool {
-    let asked = shared.summary(rt, pass).err();
-    let taken = shared.take(rt, pass, &[]).err();
-    asked == Some(ShareFault::JournalFull) && taken == asked
+// What each call that makes an entry is refused for. The summary and the delta that are given have nothing.
+fn refusals<L: Side, R: Wait>(
+    rt: &R,
+    shared: &Shared<L>,
+    pass: &mut Pass<L>,
+    given: (&Summary, &Delta),
+) -> [Option<ShareFault>; 5] {
+    let (since, delta) = given;
+    [
+        shared.take(rt, pass, &[]).err(),
+        shared.statement(rt, pass).err(),
+        shared.absorb(rt, pass, delta).err(),
+        shared.summary(rt, pass).err(),
+        shared.delta(rt, pass, since).err(),
+    ]
+}
+
+// Whether the journal has no room for an entry of any call, and the pass stays as it was.
+fn is_full<L: Side, R: Wait>(
+    rt: &R,
+    alloc: Global,
+    shared: &Shared<L>,
+    pass: &mut Pass<L>,
+) -> bool {
+    let since: Summary = ByKey::new(alloc);
+    let Some(delta) = Delta::of(Vec::new(alloc)) else {
+        return false;
+    };
+    let refused = refusals(rt, shared, pass, (&since, &delta));
+    refused == [Some(ShareFault::JournalFull); 5] && pass.calls().len() == 524_288
 }
 
 // Whether two passes fill the journal, and then no more is noted.
 fn is_filled<L: Side, R: Wait>(
     rt: &R,
+    alloc: Global,
     shared: &Shared<L>,
     first: &mut Pass<L>,
     second: &mut Pass<L>,
 ) -> bool {
     let half = asks(rt, shared, first, 524_288);
     let other = asks(rt, shared, second, 524_288);
-    half && other && is_full(rt, shared, first)
+    half && other && is_full(rt, alloc, shared, first)
 }
 
 // The passes that filled the journal.
@@ -90,7 +118,7 @@ fn filled<L: Side, R: Wait>(rt: &R, alloc: Global, shared: &Shared<L>) -> Option
     let Ok(mut second) = shared.pass(rt) else {
         return None;
     };
-    if !is_filled(rt, shared, &mut first, &mut second) {
+    if !is_filled(rt, alloc, shared, &mut first, &mut second) {
         return None;
     }
     let Ok(one) = alone(alloc, first) else {

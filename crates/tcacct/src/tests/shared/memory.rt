@@ -1,15 +1,15 @@
-//! Takes that may be refused a growth, and the same takes again. They are run with each growth refused in turn: where no entry was
-//! made nothing changed, else the entry names what is held; and the replica can be closed.
+//! Takes that may be refused a growth, and the same takes again. They are run with each growth refused in turn, once each: where no entry
+//! was made nothing changed, else the entry names what is held; one of the two takes is completed; and the replica can be closed.
 ghost use Rattle.std.specs.Prelude.{◌≡◌};
 
-use super::{FIRST, PARTS, SECOND, THIRD, closed_with, is_of_three, plan, reports};
+use super::{FIRST, PARTS, SECOND, THIRD, closed_with, has_list, is_of_three, plan, reports};
 use std::alloc::{AllocError, Global};
 use std::marker::Brand;
 use std::sync::Wait;
 use std::sync::ledger::Blank;
 use std::test::Fail;
-use tca_accounts::Plan;
-use tca_ingest::{Closed, Entry, Pass, Receipt, ShareFault, Shared, Side};
+use tca_accounts::{Bill, Plan};
+use tca_ingest::{Entry, Pass, Receipt, ShareFault, Shared, Side};
 use tca_log::LogFault;
 use tca_report::Report;
 
@@ -52,33 +52,36 @@ fn takes<L: Side, R: Wait>(
     held(&receipt)
 }
 
-// Whether a closed replica has so many of the three rows.
-fn has(closed: &Closed, count: usize) -> Result<bool, AllocError> {
-    let bill = closed.replica.totals()?;
-    Ok(closed.replica.log().len() as usize == count && (count != 3 || is_of_three(&bill)))
+// Whether a bill may be refused for memory, or is that of the first three rows.
+fn is_right(bill: &Result<Bill, AllocError>) -> bool {
+    match bill {
+        Ok(bill) => is_of_three(bill),
+        Err(_) => true,
+    }
 }
 
-// Takes the three rows twice by a pass that is put to the others; answers how many are held then.
+// Takes the three rows twice by a pass that is put to the others; answers how many the takes held.
 fn takes_twice<L: Side, R: Wait>(
     rt: &R,
-    alloc: Global,
     shared: &Shared<L>,
     passes: &mut Vec<Pass<L>>,
-) -> Result<usize, Fail> {
-    let list = reports(alloc, &[FIRST, SECOND, THIRD]).ok_or("reports")?;
+    list: &[Report],
+) -> Result<(usize, usize), Fail> {
     let mut pass = shared.pass(rt)?;
-    let first = takes(rt, shared, &mut pass, &list).ok_or("a take")?;
-    let again = takes(rt, shared, &mut pass, &list).ok_or("a take")?;
+    let first = takes(rt, shared, &mut pass, list).ok_or("a take")?;
+    let again = takes(rt, shared, &mut pass, list).ok_or("a take")?;
     passes.push(pass)?;
-    Ok(first.max(again))
+    Ok((first, again))
 }
 
-// Takes the three rows twice, and closes.
+// Takes the three rows twice, and closes. One refusal leaves one of the two takes whole.
 fn twice<L: Side, R: Wait>(rt: &R, alloc: Global, shared: Shared<L>) -> Result<bool, Fail> {
     let mut passes = Vec::with_capacity(alloc, 1)?;
-    let count = takes_twice(rt, alloc, &shared, &mut passes)?;
+    let list = reports(alloc, &[FIRST, SECOND, THIRD]).ok_or("reports")?;
+    let (first, again) = takes_twice(rt, &shared, &mut passes, &list)?;
     let closed = closed_with(shared, passes).ok_or("a close")?;
-    Ok(has(&closed, count)?)
+    let held = has_list(&closed.replica, &list);
+    Ok((first == 3 || again == 3) && held && is_right(&closed.replica.totals()))
 }
 
 fn takes_again<L: Side, R: Wait>(

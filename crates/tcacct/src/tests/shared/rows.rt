@@ -1,4 +1,4 @@
-//! Worked rows: one pass that takes and asks, and passes that are held back from a close.
+//! Worked rows: one pass that takes and asks, two that call in turn, and passes that are held back from a close.
 ghost use Rattle.std.specs.Prelude.{◌≡◌};
 
 use super::{FIRST, PARTS, SECOND, THIRD, alone, plan, states_three, take, with_one_more};
@@ -7,7 +7,9 @@ use std::marker::Brand;
 use std::sync::Wait;
 use std::sync::ledger::Blank;
 use tca_accounts::Plan;
+use tca_gossip::{Delta, Summary};
 use tca_ingest::{CloseFault, Pass, Shared, Side, Unclosed};
+use tca_join::ByKey;
 
 // One pass takes the three rows, and asks.
 fn asks<L: Side, R: Wait>(rt: &R, alloc: Global, shared: &Shared<L>) -> bool {
@@ -124,21 +126,22 @@ fn a_close_wants_each_pass(rt: HostRuntime) {
     assert!(rt; holds_one_back::<Brand, _>(&rt, rt.alloc(), Blank::new(PARTS), 1, plan));
 }
 
-// One pass takes, and is held back.
-fn all_back<L: Side, R: Wait>(rt: &R, alloc: Global, shared: Shared<L>) -> bool {
-    let Ok(mut pass) = shared.pass(rt) else {
-        return false;
-    };
-    let taken = take(rt, alloc, &shared, &mut pass, &[FIRST]);
-    let fault = CloseFault::Missing {
-        journal: 1,
-        given: 0,
-    };
-    let wanted = wants(shared, Vec::new(alloc), fault, pass);
-    taken == Some(1) && wanted
+// The fronts of the receipts of all calls of a pass, beside another pass that took once and asks last.
+fn fronts<L: Side, R: Wait>(rt: &R, alloc: Global, shared: &Shared<L>) -> Option<[u64; 6]> {
+    let mut first = shared.pass(rt).ok()?;
+    let mut pass = shared.pass(rt).ok()?;
+    let since: Summary = ByKey::new(alloc);
+    let nothing = Delta::of(Vec::new(alloc))?;
+    let taken = take(rt, alloc, shared, &mut first, &[FIRST])?;
+    let asked = shared.summary(rt, &mut pass).ok()?.front;
+    let sent = shared.delta(rt, &mut pass, &since).ok()?.front;
+    let stated = shared.statement(rt, &mut pass).ok()?.front;
+    let absorbed = shared.absorb(rt, &mut pass, &nothing).ok()?.front;
+    let last = shared.statement(rt, &mut first).ok()?.front;
+    Some([taken, asked, sent, stated, absorbed, last])
 }
 
-fn holds_all_back<L: Side, R: Wait>(
+fn counts_all_entries<L: Side, R: Wait>(
     rt: &R,
     alloc: Global,
     blank: Blank,
@@ -153,13 +156,67 @@ fn holds_all_back<L: Side, R: Wait>(
     let Ok(shared) = Shared::<L>::new(alloc, blank, name, plan) else {
         return false;
     };
-    all_back(rt, alloc, shared)
+    fronts(rt, alloc, &shared) == Some([1, 2, 3, 4, 5, 6])
+}
+
+#[test]
+fn fronts_count_the_entries_of_all_passes(rt: HostRuntime) {
+    let Ok(plan) = plan(rt.alloc()) else {
+        panic!(rt; "a plan");
+    };
+    assert!(rt; counts_all_entries::<Brand, _>(&rt, rt.alloc(), Blank::new(PARTS), 1, plan));
+}
+
+// A replica whose pass takes a row. Closed without it, it is refused and hands back all; with it, it closes.
+fn all_back<L: Side, R: Wait>(
+    rt: &R,
+    alloc: Global,
+    shared: Shared<L>,
+    row: (u32, u32, u32),
+) -> bool {
+    let Ok(mut pass) = shared.pass(rt) else {
+        return false;
+    };
+    let taken = take(rt, alloc, &shared, &mut pass, &[row]);
+    let fault = CloseFault::Missing {
+        journal: 1,
+        given: 0,
+    };
+    let wanted = wants(shared, Vec::new(alloc), fault, pass);
+    taken == Some(1) && wanted
+}
+
+// Of two replicas each is closed with its own pass alone. The pass of the other one has another type.
+fn holds_all_back<I: Side, F: Side, R: Wait>(
+    rt: &R,
+    alloc: Global,
+    one: (Blank, u32, Plan),
+    two: (Blank, u32, Plan),
+) -> bool
+    requires name { (one.0.name ≡ I.name) × (two.0.name ≡ F.name) }
+    requires parts { (one.0.parts ≡ I.parts) × (I.parts ≡ 65537) × (two.0.parts ≡ F.parts) × (F.parts ≡ 65537) }
+    requires called { (one.1 ≡ I.called) × (two.1 ≡ F.called) }
+    requires plan { (one.2 ≡ I.plan) × (two.2 ≡ F.plan) }
+{
+    let Ok(first) = Shared::<I>::new(alloc, one.0, one.1, one.2) else {
+        return false;
+    };
+    let Ok(second) = Shared::<F>::new(alloc, two.0, two.1, two.2) else {
+        return false;
+    };
+    let other = all_back(rt, alloc, second, SECOND);
+    all_back(rt, alloc, first, FIRST) && other
 }
 
 #[test]
 fn a_close_wants_its_pass(rt: HostRuntime) {
-    let Ok(plan) = plan(rt.alloc()) else {
+    let Ok(first) = plan(rt.alloc()) else {
         panic!(rt; "a plan");
     };
-    assert!(rt; holds_all_back::<Brand, _>(&rt, rt.alloc(), Blank::new(PARTS), 1, plan));
+    let Ok(second) = plan(rt.alloc()) else {
+        panic!(rt; "a plan");
+    };
+    let one = (Blank::new(PARTS), 1, first);
+    let two = (Blank::new(PARTS), 2, second);
+    assert!(rt; holds_all_back::<Brand, Brand, _>(&rt, rt.alloc(), one, two));
 }

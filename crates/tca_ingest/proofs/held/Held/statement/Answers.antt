@@ -1,8 +1,8 @@
 use Rattle.std.proofs.lemmas.Grind.{common_steps}
-use Rattle.std.proofs.Common.{◌∙◌, subst, arith}
-use Rattle.tca_accounts.specs.Bills.{bill_of}
+use Rattle.std.proofs.Common.{subst, sym, arith}
+use Rattle.tca_gossip.specs.Replicas.{ReplicaView}
 use Rattle.tca_ingest.specs.Journals.{IsHistory}
-use Rattle.tca_ingest.specs.Shares.{HeldView}
+use Rattle.tca_ingest.specs.EntryViews.{entry_views}
 use Rattle.tca_ingest.proofs.Histories.{push_answered}
 use Rattle.tca_ingest.proofs.held.Held.statement.Goals as goal
 
@@ -10,9 +10,10 @@ pub append-requires-clause-right : goal.append-requires-clause-right
 append-requires-clause-right g c =
     let plan = g.L.Side.plan in
     let name = g.L.Side.called in
-    let now = c.args.self.now in
-    let history = subst (λ (h : HeldView). IsHistory plan name h.replica h.journal) c.self.view_is c.self.invariant.0 in
-    push_answered plan name now.replica now.journal history c.append.inside.number c.in_ok-bill.bill (c.in_ok-bill.ensures ∙ (λ i. bill_of (c.self.view_is i).replica.plan (c.self.view_is i).replica.log))
+    let journal = entry_views c.self.inside.journal.items in
+    let replica = c.keep_book-without.new.self in
+    let history = subst (λ (v : ReplicaView). IsHistory plan name v journal) (sym c.keep_book-without.ensures) c.self.invariant.0 in
+    push_answered plan name replica journal history c.append.inside.number c.in_ok-bill.bill c.in_ok-bill.ensures
 
 pub same-self : goal.same-self
 same-self g c = grind (arith, common_steps)
@@ -25,9 +26,6 @@ returns-then-is_full-clause-fault g c = grind (arith, common_steps)
 
 pub returns-then-is_full-clause-err : goal.returns-then-is_full-clause-err
 returns-then-is_full-clause-err g c = grind (arith, common_steps)
-
-pub same-self-in_err-bill : goal.same-self-in_err-bill
-same-self-in_err-bill g c = grind (arith, common_steps)
 
 pub returns-in_err-bill-clause-appends : goal.returns-in_err-bill-clause-appends
 returns-in_err-bill-clause-appends g c = grind (arith, common_steps)
@@ -43,9 +41,6 @@ returns-in_err-bill-clause-fault g c = grind (arith, common_steps)
 
 pub returns-in_err-bill-clause-err : goal.returns-in_err-bill-clause-err
 returns-in_err-bill-clause-err g c = grind (arith, common_steps)
-
-pub same-self-2 : goal.same-self-2
-same-self-2 g c = grind (arith, common_steps)
 
 pub same-append : goal.same-append
 same-append g c = grind (arith, common_steps)

@@ -1,5 +1,5 @@
 use Rattle.std.proofs.lemmas.Grind.{common_steps}
-use Rattle.std.proofs.Common.{◌≡◌, ◌+◌, ℕ, List, ◌∷◌, ◌++◌, [], length, ap, arith, ◌∙◌}
+use Rattle.std.proofs.Common.{◌≡◌, ◌+◌, ℕ, List, ◌∷◌, ◌++◌, [], length, refl, ap, arith, ◌∙◌}
 use Rattle.std.specs.Prelude.{Option, Some, None, is_some, if◌then◌else◌}
 use Rattle.std.specs.Map.{lookup}
 use Rattle.tca_templates.specs.declared.template.Template.{Template}
@@ -8,7 +8,8 @@ use Rattle.tca_templates.specs.Fields.{SlotsView, template_of, entries_of}
 use Rattle.tca_templates.specs.Slotted.{place_of, filled}
 use Rattle.tca_templates.proofs.Stored.{templates-insert}
 use Rattle.tca_templates.proofs.SlotLaws.{placed, filled_push}
-use Rattle.tca_templates.proofs.StepLaws.{kept_as, kept_room, kept_push, before_push}
+use Rattle.tca_templates.proofs.StepLaws.{kept_as, kept_room, kept_tight, kept_push, before_push}
+use Rattle.tca_templates.proofs.CoverLaws.{covered_push, covered_wider, covered_as}
 use Rattle.tca_templates.proofs.slots.Slots.push.Goals as goal
 
 pub invariant_of-self-2 : goal.invariant_of-self-2
@@ -18,19 +19,22 @@ invariant_of-self-2 c =
     let key : Key = c.args.key in
     let known = ap (λ (v : SlotsView). v.known) (c.self.view_is ∙ c.close_up.ensures) in
     let place : place_of key ss ≡ None = placed key ss (ap (lookup (same_key key)) known ∙ c.requires) in
-    let room = kept_room ss _ ps _ _ _ _ c.self.invariant c.make_room.ensures.places c.make_room.ensures.steps c.make_room.ensures.spare in
+    let room = kept_room ss _ ps _ _ _ _ c.self.invariant.0 c.make_room.ensures.places c.make_room.ensures.steps c.make_room.ensures.spare in
     let last : c.len-place.result ≡ length ss = omega (arith, c.len-place.ensures, c.reserve.ensures.len) in
     let new : c.in_ok-insert.field-0 ≡ None = c.in_ok-insert.ensures.old ∙ room.slotted.found key ∙ place in
     let more = c.in_ok-insert.ensures.len ∙ ap (λ (o : Option ℕ). length ps + (if is_some o then 0 else 1)) new in
-    let all = c.in_ok-push.ensures.items ∙ ap (λ (ts : List (Option (Key × Template))). ts ++ Some (key, c.args.template) ∷ []) c.reserve.ensures.items in
-    kept_as _ _ _ _ _ _ all c.note.ensures
-    (kept_push key c.args.template ss ps c.insert.new.self.entries _ _ _ _ room place last
-    (λ j. c.in_ok-insert.ensures.updates.0 j ∙ ap (λ n. if same_key key j then Some n else lookup (same_key j) ps) last) more c.in_ok-make_room.ensures.room c.insert.ensures.spare)
+    let all = c.in_ok-push.ensures.items ∙ ap (λ (ts : List (Option (Key × Template))). ts ++ Some (key, c.args.template) ∷ []) c.reserve.ensures.items in (
+      kept_as _ _ _ _ _ _ all c.note.ensures
+          (kept_push key c.args.template ss ps c.insert.new.self.entries _ _ _ _ room place last
+          (λ j. c.in_ok-insert.ensures.updates.0 j ∙ ap (λ n. if same_key key j then Some n else lookup (same_key j) ps) last) more c.in_ok-make_room.ensures.room c.insert.ensures.spare),
+      covered_push ss _ _ _ _ _ c.len-place.result (Some (key, c.args.template)) all c.note.ensures c.make_room.ensures.steps last
+          (covered_wider ss _ _ _ c.widen.ensures.wider c.self.invariant.1) c.in_ok-widen.ensures.ok,
+    )
 
 pub returns-clause-before : goal.returns-clause-before
 returns-clause-before c =
     let ss = c.self.inside.slots.items in
-    let room = kept_room ss _ c.make_room.new.places.entries _ _ _ _ c.self.invariant c.make_room.ensures.places c.make_room.ensures.steps c.make_room.ensures.spare in
+    let room = kept_room ss _ c.make_room.new.places.entries _ _ _ _ c.self.invariant.0 c.make_room.ensures.places c.make_room.ensures.steps c.make_room.ensures.spare in
     let last : c.len-place.result ≡ length ss = omega (arith, c.len-place.ensures, c.reserve.ensures.len) in
     let all = c.in_ok-push.ensures.items ∙ ap (λ (ts : List (Option (Key × Template))). ts ++ Some (c.args.key, c.args.template) ∷ []) c.reserve.ensures.items in
     before_push _ _ _ ss _ _ (c.args.key, c.args.template) c.note.ensures last all c.make_room.ensures.steps room.steps_back
@@ -71,8 +75,20 @@ returns-in_err-reserve-clause-err c = grind (arith, common_steps)
 pub returns-in_err-reserve-clause-before : goal.returns-in_err-reserve-clause-before
 returns-in_err-reserve-clause-before c = grind (arith, common_steps)
 
+pub invariant_of-self-in_err-widen : goal.invariant_of-self-in_err-widen
+invariant_of-self-in_err-widen c =
+    let ss = c.self.inside.slots.items in (
+      kept_as ss _ _ _ _ _ c.reserve.ensures.items refl (kept_room ss _ _ _ _ _ _ c.self.invariant.0 c.make_room.ensures.places c.make_room.ensures.steps c.make_room.ensures.spare),
+      covered_as ss _ _ _ _ c.reserve.ensures.items c.make_room.ensures.steps (covered_wider ss _ _ _ c.widen.ensures.wider c.self.invariant.1),
+    )
+
 pub invariant_of-self-in_err-insert : goal.invariant_of-self-in_err-insert
-invariant_of-self-in_err-insert c = grind (arith, common_steps)
+invariant_of-self-in_err-insert c =
+    let ss = c.self.inside.slots.items in
+    let room = kept_room ss _ _ _ _ _ _ c.self.invariant.0 c.make_room.ensures.places c.make_room.ensures.steps c.make_room.ensures.spare in (
+      kept_as ss _ _ _ _ _ c.reserve.ensures.items refl (kept_tight ss _ _ _ _ _ room c.in_err-insert.ensures.err c.in_ok-make_room.ensures.room c.insert.ensures.spare),
+      covered_as ss _ _ _ _ c.reserve.ensures.items c.make_room.ensures.steps (covered_wider ss _ _ _ c.widen.ensures.wider c.self.invariant.1),
+    )
 
 pub returns-in_err-insert-clause-ok : goal.returns-in_err-insert-clause-ok
 returns-in_err-insert-clause-ok c = grind (arith, common_steps)

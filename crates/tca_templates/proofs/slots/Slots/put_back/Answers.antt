@@ -5,9 +5,11 @@ use Rattle.std.proofs.lemmas.Option.{slice_get_read}
 use Rattle.indexmap.specs.IndexMap.{spare}
 use Rattle.tca_templates.specs.declared.template.Template.{Template}
 use Rattle.tca_templates.specs.Templates.{Key}
-use Rattle.tca_templates.specs.Slotted.{filled, place_of, IsApart, IsSlotted, Step, undone, AreSteps}
+use Rattle.tca_templates.specs.Slotted.{Kind, IsCovered, filled, place_of, IsApart, IsSlotted, Step, undone, AreSteps}
 use Rattle.tca_templates.proofs.SlotLaws.{leads_back, slotted_out, on_ok, grown}
 use Rattle.tca_templates.proofs.StepLaws.{undone_last, steps_last, alone, slotted_in, emptied, kept_as, kept_back}
+use Rattle.tca_templates.specs.declared.slots.Extent.{Extent}
+use Rattle.tca_templates.proofs.CoverLaws.{covered_as, covered_back}
 use Rattle.tca_templates.proofs.slots.Slots.put_back.Goals.{in-Some-index, in_default-index, in-Some-slot, in_default-slot}
 use Rattle.tca_templates.proofs.slots.Slots.put_back.Goals as goal
 
@@ -83,7 +85,13 @@ loop-place-preserved-after-slot c =
             out.3,
           )
     ] in
+    let ext : c.match-slot.self-inside.extents.entries ≡ c.loop-place.self-inside.extents.entries = elim c.match-slot.branch [
+      | in-Some-slot w ↦ rw w.self-inside-is (elim c.match-index.branch [ in-Some-index v ↦ rw v.self-inside-is refl | in_default-index v ↦ rw v.self-inside-is refl ])
+      | in_default-slot w ↦ rw w.self-inside-is (elim c.match-index.branch [ in-Some-index v ↦ rw v.self-inside-is refl | in_default-index v ↦ rw v.self-inside-is refl ])
+    ] in
     record {
+      covered = covered_as (set ss p s) _ _ _ _ (ap (λ zs. set zs p s) after.0) refl (subst (λ (xs : List (Kind × Extent)). IsCovered (set ss p s) xs (Some us)) (sym ext)
+          (covered_back ss _ us _ p s items c.loop-place.invariant.covered));
       kept = kept_as _ _ _ _ _ _ (ap (λ zs. set zs p s) after.0) refl (kept_back us p s ss c.match-slot.self-inside.places.entries (spare c.match-slot.self-inside.places) all after.1 after.2);
       before = ap (λ (zs : List (Option (Key × Template))). filled (undone us (set zs p s))) after.0 ∙ sym (ap filled (undone_last us p s ss))
           ∙ ap (λ (vs : List (Step Template)). filled (undone vs ss)) (sym items) ∙ c.loop-place.invariant.before;
@@ -136,7 +144,13 @@ loop-place-preserved c =
             out.3,
           )
     ] in
+    let ext : c.match-slot.self-inside.extents.entries ≡ c.loop-place.self-inside.extents.entries = elim c.match-slot.branch [
+      | in-Some-slot w ↦ rw w.self-inside-is (elim c.match-index.branch [ in-Some-index v ↦ rw v.self-inside-is refl | in_default-index v ↦ rw v.self-inside-is refl ])
+      | in_default-slot w ↦ rw w.self-inside-is (elim c.match-index.branch [ in-Some-index v ↦ rw v.self-inside-is refl | in_default-index v ↦ rw v.self-inside-is refl ])
+    ] in
     record {
+      covered = covered_as (set ss p s) _ _ _ _ (ap (λ zs. set zs p s) after.0) refl (subst (λ (xs : List (Kind × Extent)). IsCovered (set ss p s) xs (Some us)) (sym ext)
+          (covered_back ss _ us _ p s items c.loop-place.invariant.covered));
       kept = kept_as _ _ _ _ _ _ (ap (λ zs. set zs p s) after.0) refl (kept_back us p s ss c.match-slot.self-inside.places.entries (spare c.match-slot.self-inside.places) all after.1 after.2);
       before = ap (λ (zs : List (Option (Key × Template))). filled (undone us (set zs p s))) after.0 ∙ sym (ap filled (undone_last us p s ss))
           ∙ ap (λ (vs : List (Step Template)). filled (undone vs ss)) (sym items) ∙ c.loop-place.invariant.before;

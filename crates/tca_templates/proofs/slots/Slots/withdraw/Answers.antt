@@ -8,13 +8,14 @@ use Rattle.tca_templates.specs.Slotted.{place_of, filled}
 use Rattle.tca_templates.proofs.Stored.{templates-remove}
 use Rattle.tca_templates.proofs.SlotLaws.{stands, filled_out, absent_out, unknown}
 use Rattle.tca_templates.proofs.StepLaws.{kept_as, kept_room, kept_out, before_put}
+use Rattle.tca_templates.proofs.CoverLaws.{covered_put}
 use Rattle.tca_templates.proofs.slots.Slots.withdraw.Goals as goal
 
 pub put-requires-clause-place : goal.put-requires-clause-place
 put-requires-clause-place c =
     let ss = c.self.inside.slots.items in
     let key : Key = (c.args.domain, c.args.id) in
-    let room = kept_room ss _ c.make_room.new.places.entries _ _ _ _ c.self.invariant c.make_room.ensures.places c.make_room.ensures.steps c.make_room.ensures.spare in
+    let room = kept_room ss _ c.make_room.new.places.entries _ _ _ _ c.self.invariant.0 c.make_room.ensures.places c.make_room.ensures.steps c.make_room.ensures.spare in
     let place : place_of key ss ≡ Some c.in-Some.place = sym (c.in-Some.ensures.value ∙ room.slotted.found key) in
     (stands key ss c.in-Some.place place).within
 
@@ -22,10 +23,12 @@ pub invariant_of-self-in-Some : goal.invariant_of-self-in-Some
 invariant_of-self-in-Some c =
     let ss = c.self.inside.slots.items in
     let key : Key = (c.args.domain, c.args.id) in
-    let room = kept_room ss _ c.make_room.new.places.entries _ _ _ _ c.self.invariant c.make_room.ensures.places c.make_room.ensures.steps c.make_room.ensures.spare in
-    let place : place_of key ss ≡ Some c.in-Some.place = sym (c.in-Some.ensures.value ∙ room.slotted.found key) in
-    kept_as _ _ _ _ _ _ c.put.ensures.slots c.put.ensures.steps
-    (kept_out key ss _ _ _ _ _ c.in-Some.place room place c.swap_remove.ensures.updates.0 c.in-Some.ensures.len c.in_ok-make_room.ensures.room c.swap_remove.ensures.room.0)
+    let room = kept_room ss _ c.make_room.new.places.entries _ _ _ _ c.self.invariant.0 c.make_room.ensures.places c.make_room.ensures.steps c.make_room.ensures.spare in
+    let place : place_of key ss ≡ Some c.in-Some.place = sym (c.in-Some.ensures.value ∙ room.slotted.found key) in (
+      kept_as _ _ _ _ _ _ c.put.ensures.slots c.put.ensures.steps
+          (kept_out key ss _ _ _ _ _ c.in-Some.place room place c.swap_remove.ensures.updates.0 c.in-Some.ensures.len c.in_ok-make_room.ensures.room c.swap_remove.ensures.room.0),
+      covered_put ss _ _ _ _ _ c.in-Some.place None c.put.ensures.slots c.put.ensures.steps c.make_room.ensures.steps (stands key ss c.in-Some.place place).within c.self.invariant.1 tt,
+    )
 
 pub returns-in-Some-clause-before : goal.returns-in-Some-clause-before
 returns-in-Some-clause-before c =
@@ -36,7 +39,7 @@ pub returns-in-Some-clause-ok : goal.returns-in-Some-clause-ok
 returns-in-Some-clause-ok c =
     let ss = c.self.inside.slots.items in
     let key : Key = (c.args.domain, c.args.id) in
-    let room = kept_room ss _ c.make_room.new.places.entries _ _ _ _ c.self.invariant c.make_room.ensures.places c.make_room.ensures.steps c.make_room.ensures.spare in
+    let room = kept_room ss _ c.make_room.new.places.entries _ _ _ _ c.self.invariant.0 c.make_room.ensures.places c.make_room.ensures.steps c.make_room.ensures.spare in
     let place : place_of key ss ≡ Some c.in-Some.place = sym (c.in-Some.ensures.value ∙ room.slotted.found key) in
     let known = ap (λ (v : SlotsView). v.known) c.self.view_is in
     ap (λ ts. entries_of (filled ts)) c.put.ensures.slots ∙ ap entries_of (filled_out key ss c.in-Some.place place) ∙ templates-remove _ key
@@ -46,7 +49,7 @@ pub returns-in_default-clause-ok : goal.returns-in_default-clause-ok
 returns-in_default-clause-ok c =
     let ss = c.self.inside.slots.items in
     let key : Key = (c.args.domain, c.args.id) in
-    let room = kept_room ss _ c.make_room.new.places.entries _ _ _ _ c.self.invariant c.make_room.ensures.places c.make_room.ensures.steps c.make_room.ensures.spare in
+    let room = kept_room ss _ c.make_room.new.places.entries _ _ _ _ c.self.invariant.0 c.make_room.ensures.places c.make_room.ensures.steps c.make_room.ensures.spare in
     let none = unknown key ss (sym (c.in_default.ensures.value ∙ room.slotted.found key)) in
     let known = ap (λ (v : SlotsView). v.known) c.self.view_is in
     ap entries_of (sym (absent_out key (filled ss) none)) ∙ templates-remove (filled ss) key ∙ ap (λ (es : List (Key × Template)). withdraw key (entries_of es)) known

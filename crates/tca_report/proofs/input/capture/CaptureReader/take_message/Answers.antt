@@ -1,9 +1,10 @@
 use Rattle.std.proofs.lemmas.Grind.{common_steps}
 use Rattle.std.proofs.Common.{◌≡◌, ◌+◌, ◌^◌, ◌<◌, ◌++◌, [], List, ℕ, ◌∙◌, arith, ap, sym, subst, take, length, refl}
-use Rattle.std.specs.Prelude.{Ok, Err}
+use Rattle.std.specs.Prelude.{Result, Ok, Err}
 use Rattle.std.specs.Int.{from_bool}
 use Rattle.std.proofs.lemmas.List.{append-nil}
 use Rattle.tca_wire.specs.declared.message.Header.{Header}
+use Rattle.tca_wire.specs.declared.message.SetSpan.{SetSpan}
 use Rattle.tca_wire.specs.declared.fault.WireFault.{WireFault}
 use Rattle.tca_wire.specs.declared.fault.WireFault.TheVariants as wire
 use Rattle.tca_templates.specs.Templates.{Templates}
@@ -12,7 +13,7 @@ use Rattle.tca_templates.specs.Wants.{WantsMemory}
 use Rattle.tca_templates.specs.declared.fault.DecodeFault.{DecodeFault}
 use Rattle.tca_templates.specs.declared.fault.DecodeFault.TheVariants as decode
 use Rattle.tca_report.specs.input.Wants.{ARecord}
-use Rattle.tca_report.specs.input.Inputs.{with_message, counts_of, one_if}
+use Rattle.tca_report.specs.input.Inputs.{with_message, with_split, counts_of, one_if}
 use Rattle.tca_report.specs.declared.input.InputFault.{InputFault}
 use Rattle.tca_report.specs.declared.input.extraction.NotReport.{NotReport}
 use Rattle.tca_report.specs.declared.input.capture.Extracted.{Extracted}
@@ -93,7 +94,10 @@ pub returns-clause-frame : goal.returns-clause-frame
 returns-clause-frame c = front_frame c.args.octets.now c.in-Ok.message.header c.in-Ok.message.sets.items c.in-Ok.ensures.found
 
 pub returns-in-Err-clause-exact : goal.returns-in-Err-clause-exact
-returns-in-Err-clause-exact c = grind (arith, common_steps)
+returns-in-Err-clause-exact c = λ so_far k other.
+    let fault = c.wire_fault.ensures.fault other in
+    ap (λ (x : Result (Header × List SetSpan) WireFault). with_split c.args.self.at so_far c.args.octets.now x) (c.in-Err.ensures.exact fault.0)
+    ∙ ap (λ (e : InputFault). Err e) (sym fault.1)
 
 pub returns-in-Err-clause-at : goal.returns-in-Err-clause-at
 returns-in-Err-clause-at c = grind (arith, common_steps)

@@ -23,8 +23,8 @@ no_report r reason records e = reports_more records r ∙ ap (λ (x : Result Pac
 with_reason : (r : PlacedView) (reason : NotReport) (records : List PlacedView) → Err reason ≡ extract_of r → reasons_of (records ++ r ∷ []) ≡ reasons_of records ++ reason ∷ []
 with_reason r reason records e = reasons_more records r ∙ ap (λ (x : Result PacketReport NotReport). reasons_of records ++ or_taken x []) (sym e)
 
-pub returns-in_ok-push-in-Ok : goal.returns-in_ok-push-in-Ok
-returns-in_ok-push-in-Ok c = λ start records taken.
+pub returns-in_ok-push-in-Ok-clause-ok : goal.returns-in_ok-push-in-Ok-clause-ok
+returns-in_ok-push-in-Ok-clause-ok c = λ start records taken.
     let r = c.args.next.now in
     let q = c.in-Ok.report in (
       c.in_ok-push-in-Ok.ensures.items ∙ ap (λ (l : List PacketReport). l ++ q ∷ []) taken.0 ∙ append_assoc start.reports.items (reports_of records) (q ∷ [])
@@ -34,8 +34,8 @@ returns-in_ok-push-in-Ok c = λ start records taken.
           ∙ ap (λ (l : List NotReport). counts_of (reasons ++ l)) (sym (no_reason r q records c.in-Ok.ensures)),
     )
 
-pub returns-in-Err : goal.returns-in-Err
-returns-in-Err c = λ start records taken.
+pub returns-in-Err-clause-ok : goal.returns-in-Err-clause-ok
+returns-in-Err-clause-ok c = λ start records taken.
     let r = c.args.next.now in
     let reason = c.in-Err.reason in (
       taken.0 ∙ ap (λ (l : List PacketReport). start.reports.items ++ l) (sym (no_report r reason records c.in-Err.ensures)),

@@ -1,0 +1,11 @@
+pub mod Kept
+pub mod Sides
+pub mod AddedUp
+pub mod Owned
+pub mod Shards
+pub mod ManyShards
+pub mod Windows
+pub mod SpanBySpan
+pub mod AnyOrder
+pub mod AllWindows
+pub mod DomainsApart
