@@ -5,7 +5,7 @@ use native.Mathlib.Decide.{ℕ_discrete}
 use Rattle.std.specs.Prelude.{slice_get, slice_set}
 use Rattle.std.proofs.lemmas.Option.{slice_get_within}
 use Rattle.tca_report.specs.input.Inputs.{InputView}
-use Rattle.tcacct.specs.declared.fault.RunFault.{RunFault}
+use Rattle.tca_program.specs.declared.fault.RunFault.{RunFault}
 use Rattle.tcacct.specs.Replicated.{AnswerView, AreAnswered, AreAnswersRefused, IsAnswerAt, refusal_of, stranger_refusal}
 use Rattle.tcacct.proofs.ShareLaws.{get_there}
 

@@ -5,9 +5,9 @@ use Rattle.tca_accounts.specs.Plans.{AccountPlan}
 use Rattle.tca_audit.specs.Audits.{IsPlanText, IsRefused, IsRefusedUnder}
 use Rattle.tca_audit.specs.declared.fault.AuditFault.{AuditFault}
 use Rattle.tca_audit.specs.declared.fault.AuditFault.TheVariants.{Plan, Export, Memory}
-use Rattle.tcacct.specs.declared.fault.RunFault.{RunFault}
-use Rattle.tcacct.specs.Audited.{IsAuditUnmade, IsPlanUnread, IsUnmadeUnder, audit_refusal}
-use Rattle.tcacct.specs.Runs.{is_write}
+use Rattle.tca_program.specs.declared.fault.RunFault.{RunFault}
+use Rattle.tcacct.specs.Audited.{IsAuditUnmade, IsPlanUnread, IsUnmadeUnder}
+use Rattle.tca_program.specs.Runs.{audit_refusal, is_write}
 
 no_write : (fault : AuditFault) → is_write (audit_refusal fault) ≡ false
 no_write (Plan f) = refl

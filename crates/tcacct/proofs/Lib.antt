@@ -1,11 +1,6 @@
-pub mod LineLemmas
 pub mod NumberLemmas
 pub mod LineExamples
 pub mod Metering
-pub mod Uniting
-pub mod UnionLaws
-pub mod InputLaws
-pub mod NotedLaws
 pub mod BillLemmas
 pub mod ReadLaws
 pub mod RefusalLaws
@@ -13,6 +8,4 @@ pub mod ReplicatedLaws
 pub mod AbsorbLaws
 pub mod ShareLaws
 pub mod AnswerLaws
-pub mod Splitting
-pub mod Asking
 pub mod AuditLaws

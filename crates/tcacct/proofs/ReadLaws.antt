@@ -15,11 +15,11 @@ use Rattle.tca_ingest.specs.Shares.{IsTake}
 use Rattle.tca_ingest.specs.EntryViews.{entry_view}
 use Rattle.tca_ingest.specs.declared.entry.Receipt.{Receipt}
 use Rattle.tca_ingest.specs.Works.{IsResult, contents_of}
-use Rattle.tcacct.specs.declared.fault.RunFault.{RunFault}
-use Rattle.tcacct.specs.Noted.{AreNotes, IsNoted}
+use Rattle.tca_program.specs.declared.fault.RunFault.{RunFault}
+use Rattle.tca_program.specs.Noted.{AreNotes, IsNoted}
 use Rattle.tcacct.specs.Replicated.{AreReplicasRefused, AreSound, IsInputFault, IsOwnFault}
-use Rattle.tcacct.specs.Runs.{HoldsReports, HoldReports, input_refusal}
-use Rattle.tcacct.proofs.InputLaws.{gathered_err, gathered_ok}
+use Rattle.tca_program.specs.Runs.{HoldsReports, HoldReports, input_refusal}
+use Rattle.tca_program.proofs.InputLaws.{gathered_err, gathered_ok}
 
 -- a take that didn't stop lists all reports that it was given
 pub all_taken : (reports list : List PacketReport) (number pass fresh : ℕ) → IsTake reports number (Took pass list fresh None) → list ≡ reports

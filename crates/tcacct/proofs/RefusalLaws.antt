@@ -7,11 +7,11 @@ use Rattle.tca_ingest.specs.declared.fault.CloseFault.{CloseFault}
 use Rattle.tca_ingest.specs.declared.fault.ShareFault.{ShareFault}
 use Rattle.tca_ingest.specs.declared.fault.WorkFault.{WorkFault}
 use Rattle.tca_ingest.specs.declared.fault.WorkFault.TheVariants.{Stranger}
-use Rattle.tcacct.specs.declared.fault.RunFault.{RunFault}
-use Rattle.tcacct.specs.declared.fault.Family.{Family}
-use Rattle.tcacct.specs.declared.fault.Family.TheVariants as family
+use Rattle.tca_program.specs.declared.fault.RunFault.{RunFault}
+use Rattle.tca_program.specs.declared.fault.Family.{Family}
+use Rattle.tca_program.specs.declared.fault.Family.TheVariants as family
 use Rattle.tcacct.specs.Replicated.{IsReadingNumber, IsReadingRefused, IsRunNumber, IsRunRefused, stranger_refusal}
-use Rattle.tcacct.specs.Runs.{refusal}
+use Rattle.tca_program.specs.Runs.{refusal}
 
 pub of_share : (e : RunFault) (fault : ShareFault) → e ≡ refusal None family.Share (share_number fault) → IsReadingRefused e
 of_share e fault is = rw is (refl, (fault, refl))
@@ -40,6 +40,8 @@ reading_number family.Share n h = h
 reading_number family.Work n h = h
 reading_number family.Close n h = h
 reading_number family.Absorb n h = absurd h
+reading_number family.Statement n h = absurd h
+reading_number family.Limits n h = absurd h
 reading_number family.Write n h = absurd h
 reading_number family.Memory n h = h
 

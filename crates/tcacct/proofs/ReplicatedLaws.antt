@@ -3,12 +3,12 @@ use Rattle.std.proofs.Common.{◌≡◌, ◌∙◌, ◌⊎◌, ℕ, List, true, 
 use Rattle.tca_report.specs.declared.input.InputFault.{InputFault}
 use Rattle.tca_report.specs.declared.input.InputFault.TheVariants.{Export, Wire, Decode, Memory}
 use Rattle.tca_report.specs.input.Inputs.{InputView}
-use Rattle.tcacct.specs.declared.fault.RunFault.{RunFault}
-use Rattle.tcacct.specs.declared.fault.Family.{Family}
-use Rattle.tcacct.specs.declared.fault.Family.TheVariants as family
+use Rattle.tca_program.specs.declared.fault.RunFault.{RunFault}
+use Rattle.tca_program.specs.declared.fault.Family.{Family}
+use Rattle.tca_program.specs.declared.fault.Family.TheVariants as family
 use Rattle.tcacct.specs.Replicated.{AreReplicasRefused, IsInputFault, IsLogRefusal, IsReplicatedUnmade, IsRunNumber, IsShareRefusal}
 use Rattle.tcacct.proofs.RefusalLaws.{in_run}
-use Rattle.tcacct.specs.Runs.{input_refusal, is_family, is_write}
+use Rattle.tca_program.specs.Runs.{input_refusal, is_family, is_write}
 
 of_run : (f : Family) (n : ℕ) → IsRunNumber f n → is_family f family.Write ≡ false
 of_run family.Read n h = refl

@@ -8,22 +8,16 @@ use Rattle.tca_audit.specs.declared.fault.AuditFault.{AuditFault}
 use Rattle.tca_audit.specs.declared.fault.AuditFault.TheVariants as fault
 use Rattle.tca_audit.specs.declared.verdict.Verdict.{Verdict}
 use Rattle.tca_audit.specs.declared.verdict.Verdict.TheVariants.{Agrees, Differs}
-use Rattle.tcacct.specs.declared.fault.RunFault.{RunFault}
-use Rattle.tcacct.specs.declared.fault.Family.TheVariants as family
-use Rattle.tcacct.specs.Devices.{Device, IsCutOff, Receives}
+use Rattle.tca_program.specs.declared.fault.RunFault.{RunFault}
+use Rattle.tca_program.specs.declared.fault.Family.TheVariants as family
+use Rattle.tca_program.specs.Devices.{Device, IsCutOff, Receives}
 use Rattle.tcacct.specs.Texts.{audit_text}
-use Rattle.tcacct.specs.Runs.{is_write, memory_refusal, refusal, write_refusal}
+use Rattle.tca_program.specs.Runs.{is_write, memory_refusal, refusal, write_refusal}
 
 -- whether a verdict is that the statement agrees
 abbrev pub is_agreement : Verdict → Bool
 is_agreement Agrees = true
 is_agreement (Differs at) = false
-
--- the refusal of an audit by its fault: that of the plan or of the export, which is no input
-abbrev pub audit_refusal : AuditFault → RunFault
-audit_refusal (fault.Plan f) = refusal None family.Plan (plan_number f)
-audit_refusal (fault.Export f) = refusal None family.Export (export_number f)
-audit_refusal fault.Memory = memory_refusal
 
 -- a text isn't read as a plan: it has this fault, or memory ran out as it was read
 abbrev pub IsPlanUnread : List ℕ → RunFault → Type 0

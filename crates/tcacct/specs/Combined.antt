@@ -3,10 +3,10 @@ use Rattle.std.specs.Prelude.{◌≡◌, ◌⊎◌, ℕ, true, false, List, leng
 use Rattle.tca_report.specs.report.Reports.{PacketReport}
 use Rattle.tca_report.specs.export.Spelling.{export}
 use Rattle.tca_report.specs.input.Inputs.{InputView}
-use Rattle.tcacct.specs.Devices.{Device, IsCutOff, Receives}
+use Rattle.tca_program.specs.Devices.{Device, IsCutOff, Receives}
 use Rattle.tcacct.specs.Texts.{combine_text}
-use Rattle.tcacct.specs.declared.fault.RunFault.{RunFault}
-use Rattle.tcacct.specs.Runs.{IsUnion, IsUnitingRefused, is_write, united, write_refusal}
+use Rattle.tca_program.specs.declared.fault.RunFault.{RunFault}
+use Rattle.tca_program.specs.Runs.{IsUnion, IsUnitingRefused, is_write, united, write_refusal}
 
 -- Each input is a log export or a capture; the export of the union of them all was written, and a line with the number of its
 -- reports.

@@ -1,18 +1,8 @@
 -- The commands of the program, as clap sees them.
 use Rattle.std.specs.Prelude.{ℕ, [], ◌∷◌, Some, true, codes}
 use Rattle.clap.specs.Words.{App, Rule, Text, new_app, new_rule, with_rule, with_subcommand}
+use Rattle.tca_program.specs.Arguments.{many_words, one_word, option_word}
 use Rattle.clap.specs.declared.builder.value_parser.ValueParser.TheVariants as parser
-
--- a word that has to be given once
-abbrev pub one_word : Text → Rule
-one_word id = record (new_rule id) { required = true }
-
--- a word that has to be given, from once to `most` times
-abbrev pub many_words : Text → ℕ → Rule
-many_words id most = record (new_rule id) {
-  required = true;
-  range = Some (record { start_inclusive = 1; end_inclusive = most });
-}
 
 -- `meter SPEC A [B]`
 abbrev pub meter_command : App
@@ -21,10 +11,6 @@ meter_command = with_rule (with_rule (new_app (codes "meter")) (one_word (codes 
 -- `combine OUT INPUT...`, with fewer than 2^32 inputs
 abbrev pub combine_command : App
 combine_command = with_rule (with_rule (new_app (codes "combine")) (one_word (codes "OUT"))) (many_words (codes "INPUT") 4294967295)
-
--- `--id WORD`, which may be left out; help has a name of its own for the word
-abbrev pub option_word : Text → Rule
-option_word id = record (new_rule id) { long = Some id; value_names = 1 }
 
 -- `--id N`, where N is from 1 to `most`, and 2 unless it is given
 abbrev pub number_up_to : Text → ℕ → Rule

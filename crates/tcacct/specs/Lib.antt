@@ -1,10 +1,6 @@
 pub mod Commands
 pub mod Lines
 pub mod Texts
-pub mod Devices
-pub mod Faults
-pub mod Runs
-pub mod Reads
 pub mod Noted
 pub mod Metered
 pub mod Combined
@@ -13,4 +9,3 @@ pub mod Replicated
 pub mod Absorbs
 pub mod Endings
 pub mod Audited
-pub mod Words

@@ -1,16 +1,15 @@
 -- What the words of a command line ask for, by clap's meaning of the commands.
-use Rattle.std.specs.Prelude.{ℕ, List, [], ◌∷◌, ◌&&◌, Option, Some, None, codes, length, map, nat_le, option_and_then, option_map, if◌then◌else◌}
-use Rattle.std.specs.Borrow.{Bor}
+use Rattle.std.specs.Prelude.{ℕ, List, [], ◌∷◌, ◌&&◌, Option, Some, None, codes, length, nat_le, option_and_then, option_map, if◌then◌else◌}
 use Rattle.std.specs.Str.{bytes_eq}
 use Rattle.std.specs.Str.Parse.{digits_value, without_leading_plus}
-use Rattle.clap.specs.Words.{Kinds, Row, Text, all_of, fault_of, first_of, one_of, subcommand_of}
+use Rattle.clap.specs.Words.{Row, Text, all_of, fault_of, first_of, one_of, subcommand_of}
 use Rattle.clap.specs.ValueTests.{is_unsigned_in}
+use Rattle.tca_program.specs.Arguments.{order_met}
+use Rattle.tca_program.specs.Words.{texts}
 use Rattle.tcacct.specs.Commands.{most_billed, most_replicas, most_workers, program}
 use Rattle.tcacct.specs.Replicated.{IsWithinLimits}
 use Rattle.tcacct.specs.declared.line.Line.{Line}
 use Rattle.tcacct.specs.declared.line.Line.TheVariants as line
-use Rattle.tcacct.specs.declared.line.LineFault.{LineFault}
-use Rattle.tcacct.specs.declared.line.LineFault.TheVariants.{Usage, Help, Memory}
 
 -- a command line that was read, with texts in the place of references
 pub data Order : Type 0 where
@@ -18,9 +17,6 @@ pub data Order : Type 0 where
   combine : (out : Text) → (inputs : List Text) → Order
   bill : (replicas workers : ℕ) → (export : Option Text) → (plan : Text) → (inputs : List Text) → Order
   audit : (plan export statement : Text) → Order
-
-abbrev pub texts : List (Bor Text) → List Text
-texts = map (λ s. s.now)
 
 abbrev pub order_of : Line → Order
 order_of (line.Meter spec inputs) = meter spec.now (texts inputs.items)
@@ -88,22 +84,11 @@ order_from name rows =
     else (if bytes_eq name (codes "bill") then bill_of rows
     else (if bytes_eq name (codes "audit") then audit_of rows else None)))
 
--- none where clap has a fault to find
-abbrev pub order_met : Kinds → Option (Text × List Row) → Option Order
-order_met [] met = option_and_then (λ p. order_from p.0 p.1) met
-order_met (k ∷ ks) met = None
-
 -- the order that the words give, the program's own name first
 abbrev pub order_in : List Text → Option Order
-order_in words = order_met (fault_of program words) (subcommand_of program words)
+order_in words = order_met order_from (fault_of program words) (subcommand_of program words)
 
 -- the replicas, workers and inputs of a bill are within their limits
 abbrev pub IsWithin : Order → Type 0
 IsWithin (bill replicas workers export plan inputs) = IsWithinLimits replicas workers (length inputs)
 IsWithin other = Unit {0}
-
--- the number of each fault
-abbrev pub line_number : LineFault → ℕ
-line_number (Usage text) = 1
-line_number (Help text) = 2
-line_number Memory = 3

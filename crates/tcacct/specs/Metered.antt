@@ -12,11 +12,11 @@ use Rattle.tca_meters.specs.MeterSpecs.{spec_in}
 use Rattle.tca_log.specs.Disputes.{undisputed}
 use Rattle.tca_accounts.specs.Sums.{packet_of, sums_of}
 use Rattle.tca_report.specs.input.Inputs.{InputView}
-use Rattle.tcacct.specs.declared.fault.RunFault.{RunFault}
-use Rattle.tcacct.specs.declared.fault.Family.TheVariants as family
-use Rattle.tcacct.specs.Devices.{Device, IsCutOff, Receives}
+use Rattle.tca_program.specs.declared.fault.RunFault.{RunFault}
+use Rattle.tca_program.specs.declared.fault.Family.TheVariants as family
+use Rattle.tca_program.specs.Devices.{Device, IsCutOff, Receives}
 use Rattle.tcacct.specs.Texts.{meter_text}
-use Rattle.tcacct.specs.Runs.{IsInTurn, IsRefusedAs, IsUnion, is_family, is_write, refusal, united, write_refusal}
+use Rattle.tca_program.specs.Runs.{IsInTurn, IsRefusedAs, IsUnion, is_family, is_write, refusal, united, write_refusal}
 
 -- the lines of a set: the sums of its undisputed reports in order, with the colours that the meter gives them from time 0 on,
 -- where the precolour of a code point that has none is green

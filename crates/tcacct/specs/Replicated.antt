@@ -28,14 +28,15 @@ use Rattle.tca_ingest.specs.declared.job.JobFault.{JobFault}
 use Rattle.tca_ingest.specs.declared.job.JobFault.TheVariants as job
 use Rattle.tca_log.specs.Faults.{fault_number}
 use Rattle.tca_log.specs.declared.fault.LogFault.{LogFault}
-use Rattle.tcacct.specs.declared.fault.RunFault.{RunFault}
-use Rattle.tcacct.specs.declared.fault.Family.{Family}
-use Rattle.tcacct.specs.declared.fault.Family.TheVariants as family
-use Rattle.tcacct.specs.Billed.{IsPlanOf, RefusesPlan, statement_under}
+use Rattle.tca_program.specs.declared.fault.RunFault.{RunFault}
+use Rattle.tca_program.specs.declared.fault.Family.{Family}
+use Rattle.tca_program.specs.declared.fault.Family.TheVariants as family
+use Rattle.tca_program.specs.Planned.{IsPlanOf, IsPlanRefused}
+use Rattle.tcacct.specs.Billed.{statement_under}
 use Rattle.tcacct.specs.Commands.{most_billed, most_replicas, most_workers}
-use Rattle.tcacct.specs.Devices.{Device, IsCutOff, IsCutOffIfGiven, ReceivesIfGiven}
-use Rattle.tcacct.specs.Noted.{AreNotes}
-use Rattle.tcacct.specs.Runs.{HoldReports, IsUnion, input_refusal, is_write, memory_refusal, refusal, write_refusal}
+use Rattle.tca_program.specs.Devices.{Device, IsCutOff, IsCutOffIfGiven, ReceivesIfGiven}
+use Rattle.tca_program.specs.Noted.{AreNotes}
+use Rattle.tca_program.specs.Runs.{HoldReports, IsUnion, input_refusal, is_write, memory_refusal, refusal, write_refusal}
 
 -- how many replicas, workers of each and inputs there may be
 pub record IsWithinLimits (replicas workers inputs : ℕ) : Type 0 where
@@ -171,10 +172,6 @@ pub record IsInputRefused (inputs : List InputView) (e : RunFault) : Type 0 wher
 -- other what they hold
 abbrev pub AreReplicasRefused : List InputView → RunFault → Type 0
 AreReplicasRefused inputs e = IsReadingRefused e ⊎ (IsInputRefused inputs e ⊎ (AreSound inputs × IsRunRefused e))
-
--- the plan's refusal
-abbrev pub IsPlanRefused : List ℕ → RunFault → Type 0
-IsPlanRefused plan e = (f : PlanFault) × RefusesPlan plan f × (e ≡ refusal None family.Plan (plan_number f))
 
 -- why there is no statement: the plan's refusal, or where the text is a plan that of an input or of the run
 abbrev pub IsReplicatedUnmade : List ℕ → List InputView → RunFault → Type 0

@@ -3,14 +3,14 @@ ghost use Rattle.std.specs.List.{flat_map};
 ghost use Rattle.std.specs.Prelude.{◌≡◌, ◌≢◌, ℕ, ◌++◌, ◌+◌, ◌*◌, ◌<◌, ◌≤◌, ◌^◌, IfOk, IfErr, OnOk, OnErr, None, Some, length, map, slice_get, slice_set};
 ghost use Rattle.tca_ingest.specs.Works.{AreLentResults};
 ghost use Rattle.tca_report.specs.input.Inputs.{input_view};
-ghost use Rattle.tcacct.specs.Noted.{IsNoted};
+ghost use Rattle.tca_program.specs.Noted.{IsNoted};
 ghost use Rattle.tcacct.specs.Replicated.{AnswerView, AreAnswersRefused, ArePut, AreRead, AreReplicasRefused, IsInputFault, answers_of, refusal_of, stranger_refusal};
-ghost use Rattle.tcacct.specs.Runs.{HoldsReports, views_of, union_of};
+ghost use Rattle.tca_program.specs.Runs.{HoldsReports, views_of, union_of};
 
-use crate::fault::RunFault;
 use std::alloc::{AllocError, Global};
 use std::marker::Model;
 use tca_ingest::{Done, Entry, JobFault, Receipt};
+use tca_program::RunFault;
 use tca_report::{Input, Notes, Report};
 
 /// An input, and what came of it.

@@ -2,14 +2,14 @@
 ghost use Rattle.std.specs.Prelude.{◌≡◌, IfOk, IfErr, string_bytes};
 ghost use Rattle.tca_audit.specs.Audits.{IsAudited, IsAuditedUnder, IsPlanText};
 ghost use Rattle.tcacct.specs.Audited.{IsAuditDone, IsAuditRefused, IsAuditUnmade, IsPlanUnread, IsUnmadeUnder, is_agreement};
-ghost use Rattle.tcacct.specs.Devices.{device};
+ghost use Rattle.tca_program.specs.Devices.{device};
 ghost use Rattle.tcacct.specs.Texts.{audit_text};
 
-use crate::fault::RunFault;
 use crate::texts::audit_line;
 use std::alloc::{AllocError, Global};
 use tca_accounts::{Plan, PlanFault};
 use tca_audit::{AuditFault, Verdict, audit_under};
+use tca_program::RunFault;
 use tca_report::{Write, put_all};
 
 // The plan of a text.

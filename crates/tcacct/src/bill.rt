@@ -1,16 +1,16 @@
 //! The command `bill`.
 ghost use Rattle.std.specs.Prelude.{◌≡◌, ◌<◌, ◌^◌, OnOk, IfOk, IfErr, IsOk, None, Some, length};
 ghost use Rattle.tca_accounts.specs.Plans.{AccountPlan};
-ghost use Rattle.tcacct.specs.Billed.{IsBillDone, IsBillRefused, IsBillUnmade, IsPlanOf, statement_under};
-ghost use Rattle.tcacct.specs.Devices.{after, before, device};
-ghost use Rattle.tcacct.specs.Noted.{IsUniting};
-ghost use Rattle.tcacct.specs.Runs.{views_of};
+ghost use Rattle.tca_program.specs.Planned.{IsPlanOf, IsPlannedRefused};
+ghost use Rattle.tcacct.specs.Billed.{IsBillDone, IsBillRefused, statement_under};
+ghost use Rattle.tca_program.specs.Devices.{after, before, device};
+ghost use Rattle.tca_program.specs.Noted.{IsUniting};
+ghost use Rattle.tca_program.specs.Runs.{views_of};
 
-use crate::fault::RunFault;
-use crate::inputs::unite;
 use std::alloc::{AllocError, Global};
 use tca_accounts::{Plan, bill_all};
 use tca_log::Log;
+use tca_program::{RunFault, unite};
 use tca_report::{Input, Notes, Write, write_export};
 use tca_statements::{Statement, render};
 
@@ -31,7 +31,7 @@ fn made(
     requires { length inputs.now < 2 ^ 32 }
     ensures stated { IfOk result (λ x. (p : AccountPlan) × IsPlanOf plan.now p × (x.0 ≡ statement_under p x.1)) }
     ensures united { IfOk result (λ x. IsUniting (views_of inputs.now) x.1 x.2.items) }
-    ensures unmade { IfErr result (IsBillUnmade plan.now (views_of inputs.now)) }
+    ensures unmade { IfErr result (IsPlannedRefused plan.now (views_of inputs.now)) }
 {
     let plan = Plan::from_text(alloc, plan)?;
     let (log, notes) = unite(alloc, inputs)?;

@@ -3,15 +3,14 @@ ghost use Rattle.std.specs.Prelude.{◌≡◌, ◌<◌, ◌≤◌, ◌^◌, Ok, 
 ghost use Rattle.std.specs.List.Sorted.{IsStrictlySortedBy};
 ghost use Rattle.tca_report.specs.report.Reports.{report_cmp};
 ghost use Rattle.tcacct.specs.Combined.{IsCombineDone, IsCombineRefused};
-ghost use Rattle.tcacct.specs.Devices.{device};
+ghost use Rattle.tca_program.specs.Devices.{device};
 ghost use Rattle.tcacct.specs.Texts.{combine_text};
-ghost use Rattle.tcacct.specs.Runs.{IsUnion, IsUnitingRefused, views_of, united};
+ghost use Rattle.tca_program.specs.Runs.{IsUnion, IsUnitingRefused, views_of, united};
 ghost use Rattle.tca_report.specs.export.Spelling.{most_reports};
 
-use crate::fault::RunFault;
-use crate::inputs::unite;
 use crate::texts::combine_line;
 use std::alloc::Global;
+use tca_program::{RunFault, unite};
 use tca_report::{Input, Report, Write, put_all, write_export};
 
 // The reports and the line that go out.

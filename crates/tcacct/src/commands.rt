@@ -1,12 +1,13 @@
 //! The commands of the program, for `clap`.
 ghost use Rattle.std.specs.Prelude.{◌≡◌, ◌≤◌, IfOk, false};
-ghost use Rattle.clap.specs.Words.{app_of, new_app, rule_of};
+ghost use Rattle.clap.specs.Words.{app_of, rule_of};
 ghost use Rattle.clap.specs.declared.builder.command.Command.TheViews.{out-Command as fields_of};
-ghost use Rattle.tcacct.specs.Commands.{audit_command, many_words, number_up_to, one_word, option_word, bill_command, combine_command, meter_command, program};
+ghost use Rattle.tcacct.specs.Commands.{audit_command, number_up_to, bill_command, combine_command, meter_command, program};
 
 use clap::builder::ValueParser;
 use clap::{Arg, Command};
 use std::alloc::{AllocError, Global};
+use tca_program::{many_words, named, one_word, option_word};
 
 const ABOUT: &str = "Usage accounting by three-colour meters (RFC 2697, RFC 2698, RFC 4115)";
 
@@ -98,31 +99,6 @@ shorter text. Exit status: 0 agrees, 1 differs or refused.
 
 Example: tcacct audit plan.toml week.tcax statement.txt";
 
-fn one_word<'a>(alloc: Global, id: &'a str, help: &'a str) -> Arg<'a>
-    ensures rule { rule_of result ≡ one_word id.entry.now }
-    ensures local { result.global ≡ false }
-{
-    Arg::new(alloc, id).required(true).help(help)
-}
-
-fn many_words<'a>(alloc: Global, id: &'a str, most: usize, help: &'a str) -> Arg<'a>
-    requires { 1 ≤ most }
-    ensures rule { rule_of result ≡ many_words id.entry.now most }
-    ensures local { result.global ≡ false }
-{
-    Arg::new(alloc, id)
-        .required(true)
-        .num_args(1..=most)
-        .help(help)
-}
-
-fn option_word<'a>(alloc: Global, id: &'a str, name: &'a str, help: &'a str) -> Arg<'a>
-    ensures rule { rule_of result ≡ option_word id.entry.now }
-    ensures local { result.global ≡ false }
-{
-    Arg::new(alloc, id).long(id).value_name(name).help(help)
-}
-
 fn number_up_to<'a>(alloc: Global, id: &'a str, most: u32, help: &'a str) -> Arg<'a>
     ensures rule { rule_of result ≡ number_up_to id.entry.now most }
     ensures local { result.global ≡ false }
@@ -133,14 +109,6 @@ fn number_up_to<'a>(alloc: Global, id: &'a str, most: u32, help: &'a str) -> Arg
         .default_value("2")
         .value_parser(ValueParser::unsigned(1, u64::from(most)))
         .help(help)
-}
-
-// A command without words, and what help says of it.
-fn named<'a>(alloc: Global, name: &'a str, about: &'a str, after: &'a str) -> Command<'a>
-    ensures command { app_of result ≡ new_app name.entry.now }
-    ensures local { (fields_of result).has_globals ≡ false }
-{
-    Command::new(alloc, name).about(about).after_help(after)
 }
 
 fn meter<'a>(alloc: Global) -> Result<Command<'a>, AllocError>

@@ -1,14 +1,14 @@
 //! The words of a command line.
 ghost use Rattle.std.specs.Prelude.{◌≡◌, ◌≢◌, ◌≤◌, ◌∷◌, [], IfOk, IfErr, IfSome, Some, None, codes, length, map, option_and_then, option_map, slice_get};
-ghost use Rattle.clap.specs.Words.{all_of, first_of, found_of, kind_of, rows_of};
+ghost use Rattle.clap.specs.Words.{all_of, first_of, found_of, rows_of};
+ghost use Rattle.tca_program.specs.Words.{texts};
 ghost use Rattle.tcacct.specs.Commands.{most_billed};
-ghost use Rattle.tcacct.specs.Lines.{IsWithin, bill, bill_of, billed, number_at, combine, combine_of, command_of, inputs_of, line_number, meter, meter_of, order_from, order_in, order_of, texts, audit, audit_of, files_of};
+ghost use Rattle.tcacct.specs.Lines.{IsWithin, bill, bill_of, billed, number_at, combine, combine_of, command_of, inputs_of, meter, meter_of, order_from, order_in, order_of, audit, audit_of, files_of};
 
 use crate::commands::{self, MOST_BILLED, MOST_REPLICAS, MOST_WORKERS};
 use clap::ArgMatches;
-use clap::error::ErrorKind;
-use std::alloc::{AllocError, AllocFailed, Global};
-use thiserror::Error;
+use std::alloc::{AllocError, Global};
+use tca_program::{LineFault, text, texts};
 
 /// What the words of a command line ask for. The words of inputs are those of `split_word`; OUT, PLAN, EXPORT, STATEMENT and the file of
 /// an export are paths.
@@ -34,19 +34,6 @@ pub enum Line<'a> {
         export: &'a str,
         statement: &'a str,
     },
-}
-
-/// Why the words of a command line ask for nothing.
-#[derive(Debug, Drop, Error)]
-pub enum LineFault {
-    /// They are wrong; the text says how, for standard error.
-    #[error("{text}")]
-    Usage { text: String },
-    /// They ask for help; the text is it, for standard output.
-    #[error("{text}")]
-    Help { text: String },
-    #[error("no memory is left")]
-    Memory,
 }
 
 impl<'a> Line<'a> {
@@ -93,65 +80,6 @@ impl<'a> Line<'a> {
             },
         }
     }
-}
-
-impl LineFault {
-    /// The number of the fault, from 1.
-    pub fn number(&self) -> u8
-        ensures { result ≡ line_number self.now }
-    {
-        match self {
-            LineFault::Usage { .. } => 1,
-            LineFault::Help { .. } => 2,
-            LineFault::Memory => 3,
-        }
-    }
-}
-
-impl<T: Drop> From<AllocFailed<T>> for LineFault {
-    ghost use Rattle.std.specs.Prelude.{◌≡◌};
-    ghost use Rattle.tcacct.specs.declared.line.LineFault.TheVariants.{Memory};
-
-    ghost from_gives = { λ _ e. e ≡ Memory };
-
-    fn from(_fault: AllocFailed<T>) -> LineFault {
-        LineFault::Memory
-    }
-}
-
-impl From<AllocError> for LineFault {
-    ghost use Rattle.std.specs.Prelude.{◌≡◌};
-    ghost use Rattle.tcacct.specs.declared.line.LineFault.TheVariants.{Memory};
-
-    ghost from_gives = { λ _ e. e ≡ Memory };
-
-    fn from(_fault: AllocError) -> LineFault {
-        LineFault::Memory
-    }
-}
-
-fn text<'a>(matches: &ArgMatches<'a>, id: &str) -> Option<&'a str>
-    ensures { option_map (λ s. s.now) result ≡ first_of id.now (rows_of (found_of matches.now)) }
-{
-    matches.get_str(id)
-}
-
-fn texts<'a>(
-    alloc: Global,
-    matches: &ArgMatches<'a>,
-    id: &str,
-) -> Result<Option<Vec<&'a str>>, AllocError>
-    ensures { IfOk result (λ o. option_map (λ v. texts v.items) o
-        ≡ all_of id.now (rows_of (found_of matches.now))) }
-{
-    let Some(words) = matches.get_raw(id) else {
-        return Ok(None);
-    };
-    let mut list = Vec::new(alloc);
-    for word in words {
-        list.push(*word)?;
-    }
-    Ok(Some(list))
 }
 
 fn meter_line<'a>(alloc: Global, matches: &ArgMatches<'a>) -> Result<Option<Line<'a>>, AllocError>
@@ -264,28 +192,6 @@ fn line_from<'a>(
     }
 }
 
-// What no command line gives, since clap has found each word that is required.
-fn nothing_asked(alloc: Global) -> LineFault
-    ensures { result ≢ LineFault.Memory }
-{
-    LineFault::Usage {
-        text: String::new(alloc),
-    }
-}
-
-fn fault_of(alloc: Global, error: &clap::Error) -> LineFault
-    ensures { kind_of error.now ≡ ErrorKind.OutOfMemory → result ≡ LineFault.Memory }
-{
-    if error.kind() == ErrorKind::OutOfMemory {
-        return LineFault::Memory;
-    }
-    match format!(in alloc; "{error}") {
-        Ok(text) if error.use_stderr() => LineFault::Usage { text },
-        Ok(text) => LineFault::Help { text },
-        Err(_) => LineFault::Memory,
-    }
-}
-
 /// Reads the words of a command line, of which the first is the program's own name. Ok is what
 /// they ask for by clap's meaning of the commands; words that have such a meaning are refused for
 /// want of memory alone. A bill that is read has 1 to 16 replicas, 1 to 64 workers of each and 1 to 256 inputs.
@@ -301,14 +207,14 @@ pub fn read_line<'a>(alloc: Global, words: &'a [&'a str]) -> Result<Line<'a>, Li
     };
     let matches = match command.try_get_matches_from(words) {
         Ok(matches) => matches,
-        Err(error) => return Err(fault_of(alloc, &error)),
+        Err(error) => return Err(LineFault::of(alloc, &error)),
     };
     let Some((name, inner)) = matches.subcommand() else {
-        return Err(nothing_asked(alloc));
+        return Err(LineFault::nothing_asked(alloc));
     };
     match line_from(alloc, name, inner) {
         Ok(Some(line)) => Ok(line),
-        Ok(None) => Err(nothing_asked(alloc)),
+        Ok(None) => Err(LineFault::nothing_asked(alloc)),
         Err(_) => Err(LineFault::Memory),
     }
 }

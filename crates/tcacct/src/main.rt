@@ -11,9 +11,6 @@ mod bill;
 mod combine;
 mod commands;
 mod ending;
-mod fault;
-mod files;
-mod inputs;
 mod laws;
 mod line;
 mod meter;
@@ -25,19 +22,25 @@ mod shell;
 #[cfg(test)]
 mod tests;
 mod texts;
-mod word;
 
-use ending::Ending;
-use shell::{end, run_words, words_of};
+use shell::{NAME, run_words};
 use std::io;
 use std::process::ExitCode;
+pub use tca_program::{Asked, Family, RunFault, asked_by, split_word, unite};
+use tca_program::{Ending, end, words_of};
 use tca_report::Host;
 
 fn main(rt: HostRuntime) -> ExitCode {
     let mut errors = rt.stderr();
     let status = match words_of(&rt) {
         Ok(words) => run_words(&rt, &words, &mut Host::new(io::writer(&rt)), &mut errors),
-        Err(fault) => end(&Ending::NoCommand(fault), &mut errors),
+        Err(fault) => end(
+            &Ending::NoCommand {
+                program: NAME,
+                fault,
+            },
+            &mut errors,
+        ),
     };
     ExitCode::from(status)
 }

@@ -6,18 +6,17 @@ ghost use Rattle.tca_meters.specs.declared.colour.Colour.TheVariants.{Green};
 ghost use Rattle.tca_meters.specs.AnyMeters.{any_rule};
 ghost use Rattle.tca_meters.specs.Packets.{colours};
 ghost use Rattle.tca_accounts.specs.Sums.{packet_of, sums_of};
-ghost use Rattle.tcacct.specs.Devices.{device};
+ghost use Rattle.tca_program.specs.Devices.{device};
 ghost use Rattle.tcacct.specs.Metered.{AreMeterLines, IsMeterDone, IsMeterRefused, IsMeterUnmade, metering};
-ghost use Rattle.tcacct.specs.Runs.{views_of};
+ghost use Rattle.tca_program.specs.Runs.{views_of};
 ghost use Rattle.tca_report.specs.export.Spelling.{most_reports};
 
-use crate::fault::RunFault;
-use crate::inputs::unite;
 use crate::texts::meter_lines;
 use std::alloc::Global;
 use tca_accounts::{Sums, meter_next, no_reports};
 use tca_log::Settled;
 use tca_meters::{AnyMeter, Colour, Meter, meter_spec};
+use tca_program::{RunFault, unite};
 use tca_report::{Input, Write, put_all};
 
 // The sums of the reports, metered in their order from time 0 on, each with the precolour of its code

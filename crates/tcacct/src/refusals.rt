@@ -4,12 +4,12 @@ ghost use Rattle.std.specs.Prelude.{◌≡◌, ◌≢◌, None, Ok, Err, IfOk, I
 ghost use Rattle.tca_gossip.specs.Answers.{absorb_number};
 ghost use Rattle.tca_ingest.specs.Faults.{close_number, work_number};
 ghost use Rattle.tcacct.specs.Replicated.{IsReadingRefused, IsRunRefused};
-ghost use Rattle.tcacct.specs.Runs.{refusal};
-ghost use Rattle.tcacct.specs.declared.fault.Family.TheVariants as family;
+ghost use Rattle.tca_program.specs.Runs.{refusal};
+ghost use Rattle.tca_program.specs.declared.fault.Family.TheVariants as family;
 
-use crate::fault::RunFault;
 use tca_gossip::AbsorbFault;
 use tca_ingest::{Closed, Side, Unclosed, WorkRefused, Worked};
+use tca_program::RunFault;
 
 /// What the workers of a replica did.
 pub(crate) fn of_workers<L: Side>(

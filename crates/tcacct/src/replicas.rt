@@ -6,11 +6,10 @@ ghost use Rattle.tca_ingest.specs.Passes.{AreClosing};
 ghost use Rattle.tca_ingest.specs.Shares.{IsReplayed};
 ghost use Rattle.tcacct.specs.Absorbs.{Absorbs, AreAgreed, AreJoined, HasAbsorbed, HasRightJournal, closed_with, names_of, with_lacking};
 ghost use Rattle.tcacct.specs.Replicated.{AreRead, AreReplicasRefused, IsReadingRefused, IsRunRefused, IsWithinLimits, share_of};
-ghost use Rattle.tcacct.specs.Runs.{views_of};
+ghost use Rattle.tca_program.specs.Runs.{views_of};
 ghost use Rattle.tca_report.specs.input.Inputs.{input_view};
 
 use crate::answers::{Answer, Contents, contents_of, empty_places, put_answers};
-use crate::fault::RunFault;
 use crate::refusals::{of_absorb, of_close, of_workers};
 use std::alloc::{AllocError, Global};
 use std::marker::Brand;
@@ -20,6 +19,7 @@ use std::thread::Threads;
 use tca_accounts::Plan;
 use tca_gossip::Replica;
 use tca_ingest::{Closed, Entry, Gate, Pass, Shared, Side, close_all, work_on};
+use tca_program::RunFault;
 use tca_report::Input;
 
 /// The parts of a replica's ledger: one for each pass, and one that stays.

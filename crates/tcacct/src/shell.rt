@@ -1,45 +1,29 @@
 //! The program over a file system, standard output and standard error that are given: what `main` does,
 //! so that tests can do it too.
-ghost use Rattle.std.specs.Prelude.{◌≡◌, ◌≢◌, ◌≤◌, IfErr, IfOk, None, length, map, string_bytes};
-ghost use Rattle.tcacct.specs.Endings.{status_of};
-ghost use Rattle.tcacct.specs.declared.ending.Ending.TheVariants as endings;
+ghost use Rattle.std.specs.Prelude.{◌≢◌, ◌≤◌, None, length, map, string_bytes};
 ghost use Rattle.tcacct.specs.Lines.{IsWithin, order_in, order_of};
 ghost use Rattle.tcacct.specs.Replicated.{IsWithinLimits};
 
 use crate::audit::run_audit;
 use crate::combine::run_combine;
-use crate::ending::{Ending, word_of};
-use crate::fault::RunFault;
-use crate::files::{create, read_inputs, read_numbered, read_plan};
-use crate::line::{Line, LineFault, read_line};
+use crate::ending::word_of;
+use crate::line::{Line, read_line};
 use crate::meter::run_meter;
 use crate::notes::NotesLine;
 use crate::replicated::run_bill;
-use std::alloc::{AllocError, Global};
-use std::env::Env;
+use std::io;
 use std::rt::Files;
 use std::sync::Wait;
 use std::thread::Threads;
-use std::{env, io};
 use tca_ingest::NoGate;
-use tca_report::{Input, Notes, Write, put_all};
+use tca_program::{
+    Ending, LineFault, RunFault, create, end, print_help, read_inputs, read_numbered, read_plan,
+    texts_of,
+};
+use tca_report::{Input, Notes, Write};
 
-const NOT_TEXT: &str = "error: a word of the command line is not UTF-8\n";
-
-/// The words of the command line, of which the first is the program's own name. They are refused where
-/// one isn't UTF-8, or where there is no memory for them.
-pub fn words_of<R: Env + AllocGlobal>(rt: &R) -> Result<Vec<String>, LineFault>
-    ensures { IfErr result (λ fault. 1 ≤ status_of (endings.NoCommand fault)) }
-{
-    match env::args(rt) {
-        Ok(args) => Ok(args.collect(rt.alloc())?),
-        Err(error) if error.kind() == io::ErrorKind::InvalidData => {
-            let text = String::from_str(rt.alloc(), NOT_TEXT)?;
-            Err(LineFault::Usage { text })
-        }
-        Err(_) => Err(LineFault::Memory),
-    }
-}
+/// The name of the program in its fault lines.
+pub(crate) const NAME: &str = "tcacct";
 
 /// Runs the words of a command line, as `run` does, with the same exit status.
 pub fn run_words<R: Files + Threads + Wait + Sync + AllocGlobal, W: Write, V: io::Write>(
@@ -51,20 +35,15 @@ pub fn run_words<R: Files + Threads + Wait + Sync + AllocGlobal, W: Write, V: io
     ensures { order_in (map (λ s. string_bytes s) words.now) ≢ None → result ≤ 1 }
 {
     let Ok(texts) = texts_of(rt.alloc(), words) else {
-        return end(&Ending::NoCommand(LineFault::Memory), errors);
+        return end(
+            &Ending::NoCommand {
+                program: NAME,
+                fault: LineFault::Memory,
+            },
+            errors,
+        );
     };
     run(rt, &texts, out, errors)
-}
-
-// The words as texts.
-fn texts_of(alloc: Global, words: &[String]) -> Result<Vec<&str>, AllocError>
-    ensures { IfOk result (λ texts. map (λ s. s.now) texts.items ≡ map (λ s. string_bytes s) words.now) }
-{
-    let mut texts = Vec::new(alloc);
-    for word in words {
-        texts.push(word.as_str())?;
-    }
-    Ok(texts)
 }
 
 /// Runs the words of a command line, of which the first is the program's own name, and gives the exit
@@ -83,7 +62,13 @@ pub fn run<R: Files + Threads + Wait + Sync + AllocGlobal, W: Write, V: io::Writ
         Ok(line) => line,
         Err(fault) => {
             print_help(&fault, out);
-            return end(&Ending::NoCommand(fault), errors);
+            return end(
+                &Ending::NoCommand {
+                    program: NAME,
+                    fault,
+                },
+                errors,
+            );
         }
     };
     match run_line(rt, &line, out) {
@@ -95,23 +80,15 @@ pub fn run<R: Files + Threads + Wait + Sync + AllocGlobal, W: Write, V: io::Writ
         Ok(Outcome::Differs) => end(&Ending::Differs, errors),
         Err(fault) => {
             let word = word_of(&line, fault);
-            end(&Ending::Refused { word, fault }, errors)
+            end(
+                &Ending::Refused {
+                    program: NAME,
+                    word,
+                    fault,
+                },
+                errors,
+            )
         }
-    }
-}
-
-/// Prints an ending to `errors`, as far as that goes, and gives its exit status.
-pub fn end<V: io::Write>(ending: &Ending<'_>, errors: &mut V) -> u8
-    ensures { result ≡ status_of ending.now }
-{
-    let _unwritten = write!(errors, "{ending}");
-    ending.status()
-}
-
-// Prints the text of help that was asked for, as far as that goes.
-fn print_help<W: Write>(fault: &LineFault, out: &mut W) {
-    if let LineFault::Help { text } = fault {
-        let _unwritten = put_all(text.as_bytes(), out);
     }
 }
 
@@ -146,12 +123,12 @@ fn run_line<R: Files + Threads + Wait + Sync + AllocGlobal, W: Write>(
 {
     match line {
         Line::Meter { spec, .. } => {
-            let inputs = read_inputs(rt, line)?;
+            let inputs = read_inputs(rt, line.inputs())?;
             run_meter(rt.alloc(), *spec, &inputs, out)?;
             Ok(Outcome::Done)
         }
         Line::Combine { out: path, .. } => {
-            let inputs = read_inputs(rt, line)?;
+            let inputs = read_inputs(rt, line.inputs())?;
             let mut export = create(rt, *path)?;
             run_combine(rt.alloc(), &inputs, &mut export, out)?;
             Ok(Outcome::Done)
@@ -164,7 +141,7 @@ fn run_line<R: Files + Threads + Wait + Sync + AllocGlobal, W: Write>(
             ..
         } => {
             let plan = read_plan(rt, *plan)?;
-            let inputs = read_inputs(rt, line)?;
+            let inputs = read_inputs(rt, line.inputs())?;
             let numbers = (*replicas, *workers);
             billed(rt, numbers, *export, &plan, &inputs, out)
         }

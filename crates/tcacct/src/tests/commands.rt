@@ -1,10 +1,10 @@
 use crate::bill::run_bill_plain;
 use crate::combine::run_combine;
-use crate::fault::{Family, RunFault};
 use crate::meter::run_meter;
 use std::alloc::{AllocError, Global};
 use std::io;
 use std::test::*;
+use tca_program::{Family, RunFault};
 use tca_report::{Host, Input, Notes};
 
 const START: u64 = 1_700_000_000_000;

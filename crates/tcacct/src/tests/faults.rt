@@ -1,15 +1,13 @@
-use crate::ending::Ending;
-use crate::fault::{Family, RunFault};
-use crate::line::LineFault;
 use crate::notes::NotesLine;
 use std::alloc::{AllocError, Global};
 use std::fmt::Display;
 use std::test::*;
 use tca_ingest::{CloseFault, JobFault, ShareFault, WorkFault};
+use tca_program::{Ending, Family, LineFault, RunFault};
 use tca_report::{InputFault, Notes};
 
 // Each family with its name, in the order of the enum.
-const FAMILIES: [(Family, &str); 13] = [
+const FAMILIES: [(Family, &str); 15] = [
     (Family::Read, "read"),
     (Family::Export, "export"),
     (Family::Wire, "wire"),
@@ -21,6 +19,8 @@ const FAMILIES: [(Family, &str); 13] = [
     (Family::Work, "work"),
     (Family::Close, "close"),
     (Family::Absorb, "absorb"),
+    (Family::Statement, "statement"),
+    (Family::Limits, "limits"),
     (Family::Write, "write"),
     (Family::Memory, "memory"),
 ];
@@ -40,6 +40,7 @@ fn prints(alloc: Global, family: Family, name: &str, number: u8) -> bool {
         number,
     };
     let refused = Ending::Refused {
+        program: "tcacct",
         word: "a file",
         fault,
     };
@@ -98,7 +99,10 @@ fn prints_and_numbers_line_faults(rt: HostRuntime) {
     ] {
         assert!(rt; fault.number() == number);
         assert!(rt; says(alloc, &fault, text));
-        let ending = Ending::NoCommand(fault);
+        let ending = Ending::NoCommand {
+            program: "tcacct",
+            fault,
+        };
         assert!(rt; says(alloc, &ending, line));
         assert!(rt; ending.status() == status);
     }

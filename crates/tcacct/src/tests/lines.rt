@@ -1,6 +1,7 @@
-use crate::line::{Line, LineFault, read_line};
+use crate::line::{Line, read_line};
 use std::alloc::Global;
 use std::test::*;
+use tca_program::LineFault;
 
 #[test]
 fn reads_lines(rt: HostRuntime) {

@@ -1,6 +1,5 @@
 //! The bill by replicas and workers: the same as by one thread, for every number of both.
 use crate::bill::run_bill_plain;
-use crate::fault::{Family, RunFault};
 use crate::replicated::run_bill;
 use crate::tests::commands::{
     EXPORT_OF_THREE, FIRST, Full, OPENING, PLAN, Row, SECOND, TEMPLATE_AND_RECORD, THIRD,
@@ -12,6 +11,7 @@ use std::sync::Wait;
 use std::test::*;
 use std::thread::Threads;
 use tca_ingest::NoGate;
+use tca_program::{Family, RunFault};
 use tca_report::{Host, Input};
 
 // What was billed: how many notes, the export, and the statement.

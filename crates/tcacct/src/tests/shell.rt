@@ -1,6 +1,4 @@
-use crate::ending::Ending;
-use crate::line::LineFault;
-use crate::shell::{end, run, words_of};
+use crate::shell::{NAME, run};
 use crate::tests::commands::{
     EXAMPLE_CAPTURE, EXPORT_OF_THREE, FIRST, Full, OLD_EXPORT_OF_THREE, OPENING, PLAN, SECOND,
     SPEC, TEMPLATE_AND_RECORD, THIRD, THREE_LINES, THREE_REPORTS, export, old_export,
@@ -13,6 +11,7 @@ use std::sync::Wait;
 use std::test::*;
 use std::thread::Threads;
 use std::{env, fs, io, process};
+use tca_program::{Ending, LineFault, end, words_of};
 use tca_report::Host;
 
 // Makes a new folder the current one, each test being a process of its own, with three reports in two
@@ -425,12 +424,28 @@ impl Env for NotText {
 fn refuses_words_that_are_no_text(rt: HostRuntime) {
     let mut errors = Vec::new(rt.alloc());
     match words_of(&(NotText, rt.alloc())) {
-        Err(fault) => assert!(rt; end(&Ending::NoCommand(fault), &mut errors) == 2),
+        Err(fault) => assert!(rt;
+            end(
+                &Ending::NoCommand {
+                    program: NAME,
+                    fault
+                },
+                &mut errors
+            ) == 2
+        ),
         Ok(_) => panic!(rt; "words"),
     }
     let text = b"error: a word of the command line is not UTF-8\n";
     assert!(rt; errors.as_slice() == text.as_slice());
     let mut errors = Vec::new(rt.alloc());
-    assert!(rt; end(&Ending::NoCommand(LineFault::Memory), &mut errors) == 1);
+    assert!(rt;
+        end(
+            &Ending::NoCommand {
+                program: NAME,
+                fault: LineFault::Memory
+            },
+            &mut errors
+        ) == 1
+    );
     assert!(rt; errors.as_slice() == b"tcacct: tcacct: memory 1\n".as_slice());
 }

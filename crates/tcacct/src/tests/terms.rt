@@ -1,6 +1,5 @@
 //! Plan terms: an account whose meter changes at a millisecond, billed with a late report, by each number of replicas, and audited.
 use crate::audit::run_audit;
-use crate::fault::{Family, RunFault};
 use crate::tests::commands::{EXPORT_OF_THREE, OPENING, PLAN, Row, THREE_REPORTS, export, plain};
 use crate::tests::replicated::{Written, billed_plainly, bills_as};
 use crate::tests::shell::{enter, gives, writes_three};
@@ -10,6 +9,7 @@ use std::sync::Wait;
 use std::test::*;
 use std::thread::Threads;
 use std::{fs, io};
+use tca_program::{Family, RunFault};
 use tca_report::{Host, Input};
 
 // From 100 milliseconds after the first report on: the same rate with smaller bursts.

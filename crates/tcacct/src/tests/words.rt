@@ -1,6 +1,6 @@
-use crate::word::{asked_by, split_word};
 use std::alloc::Global;
 use std::test::*;
+use tca_program::{asked_by, split_word};
 
 // Words with a session of 1 to 10 digits, an at sign and a path: the word, the session and the path.
 const NUMBERED: [(&str, u32, &str); 16] = [

@@ -4,14 +4,14 @@ use Rattle.std.proofs.Math.ListN.{drop_of_length-le}
 use Rattle.std.proofs.lemmas.List.{map-append}
 use Rattle.tca_report.specs.report.Reports.{PacketReport}
 use Rattle.tca_report.specs.input.Inputs.{input_view}
-use Rattle.tcacct.specs.Noted.{IsNoted}
+use Rattle.tca_program.specs.Noted.{IsNoted}
 use Rattle.tcacct.specs.Replicated.{IsInputFault}
-use Rattle.tcacct.specs.Runs.{HoldsReports, memory_refusal}
-use Rattle.tcacct.proofs.NotedLaws.{all_noted, one_noted}
+use Rattle.tca_program.specs.Runs.{HoldsReports, memory_refusal}
+use Rattle.tca_program.proofs.NotedLaws.{all_noted, one_noted}
 use Rattle.tcacct.proofs.AnswerLaws.{first_at, one_answered, still_behind, stranger_at}
 use Rattle.tcacct.proofs.RefusalLaws.{of_stranger}
 use Rattle.tcacct.proofs.ReadLaws.{all_held, found_at, one_held, one_sound, refused_at, sound_of}
-use Rattle.tcacct.proofs.Uniting.{cut}
+use Rattle.tca_program.proofs.Uniting.{cut}
 use Rattle.tcacct.proofs.answers.contents_of.Goals as goal
 
 pub returns-in_err-noted-clause-refused : goal.returns-in_err-noted-clause-refused

@@ -2,7 +2,7 @@ use Rattle.std.proofs.Common.{◌≡◌, ◌≤◌, ℕ, map, take, drop}
 use Rattle.std.specs.Prelude.{slice_get}
 use Rattle.tca_report.specs.input.Inputs.{input_view}
 use Rattle.tcacct.specs.Replicated.{AreAnswered, AreSound}
-use Rattle.tcacct.proofs.NotedLaws.{Completed}
+use Rattle.tca_program.proofs.NotedLaws.{Completed}
 use Rattle.tcacct.proofs.ReadLaws.{HoldCompleted}
 use Rattle.tcacct.proofs.answers.contents_of.Given as goal
 

@@ -8,8 +8,8 @@ use Rattle.tca_report.specs.export.Spelling.{most_reports}
 use Rattle.tca_report.proofs.lemmas.report.Order.{report_total}
 use Rattle.tca_ingest.specs.declared.fault.CloseFault.TheVariants.{Clash}
 use Rattle.tcacct.specs.Replicated.{IsRunRefused}
-use Rattle.tcacct.specs.Runs.{refusal}
-use Rattle.tcacct.specs.declared.fault.Family.TheVariants as family
+use Rattle.tca_program.specs.Runs.{refusal}
+use Rattle.tca_program.specs.declared.fault.Family.TheVariants as family
 use Rattle.tcacct.proofs.RefusalLaws.{in_run, of_close}
 use Rattle.tcacct.proofs.replicated.compared.Goals as goal
 

@@ -1,6 +1,6 @@
 use Rattle.std.proofs.lemmas.Grind.{common_steps}
 use Rattle.std.proofs.Common.{◌≡◌, Err, rules, inr, arith}
-use Rattle.tcacct.specs.Billed.{IsPlanOf}
+use Rattle.tca_program.specs.Planned.{IsPlanOf}
 use Rattle.tcacct.proofs.ReadLaws.{all_sound}
 use Rattle.tcacct.proofs.replicated.made.Goals as goal
 

@@ -1,0 +1,10 @@
+pub mod Words
+pub mod Arguments
+pub mod LineFaults
+pub mod Devices
+pub mod Faults
+pub mod Runs
+pub mod Reads
+pub mod Noted
+pub mod Planned
+pub mod Endings
