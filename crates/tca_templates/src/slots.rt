@@ -243,6 +243,7 @@ impl Slots {
         ensures err { OnErr result (self.new ≡ self.old) }
         ensures before { self.new.before ≡ self.old.before }
     {
+        self.close_up();
         self.list_anew(alloc)?;
         let key = (domain, id);
         if let Some(place) = self.places.get(&key) {
@@ -268,7 +269,6 @@ impl Slots {
         ensures err { OnErr result (self.new ≡ self.old) }
         ensures before { self.new.before ≡ self.old.before }
     {
-        self.close_up();
         make_room(&mut self.steps, &mut self.places)?;
         self.slots.reserve(1)?;
         let place = self.slots.len();
@@ -348,9 +348,9 @@ impl Slots {
         ensures before { self.new.before ≡ Some self.old.known }
     {
         self.steps = None;
+        self.close_up();
         // Where memory is wanting, the lists stay.
         let _ = self.list_anew(alloc);
-        self.close_up();
         self.steps = Some(Vec::new(alloc));
     }
 

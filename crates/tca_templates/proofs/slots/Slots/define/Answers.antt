@@ -32,14 +32,14 @@ invariant_of-self-in-Some c =
 pub returns-in-Some-clause-before : goal.returns-in-Some-clause-before
 returns-in-Some-clause-before c =
     before_put _ _ _ c.self.inside.slots.items _ c.in-Some.place.now (Some ((c.args.domain, c.args.id), c.args.template)) c.put.ensures.steps c.put.ensures.slots c.make_room.ensures.steps
-    ∙ ap (λ (v : SlotsView). v.before) (c.self.view_is ∙ c.list_anew.ensures)
+    ∙ ap (λ (v : SlotsView). v.before) (c.self.view_is ∙ c.list_anew.ensures ∙ c.close_up.ensures)
 
 pub returns-in-Some-clause-ok : goal.returns-in-Some-clause-ok
 returns-in-Some-clause-ok c =
     let ss = c.self.inside.slots.items in
     let key : Key = (c.args.domain, c.args.id) in
     let place : place_of key ss ≡ Some c.in-Some.place.now = sym (c.in-Some.ensures.value ∙ c.self.invariant.0.slotted.found key) in
-    let known = ap (λ (v : SlotsView). v.known) (c.self.view_is ∙ c.list_anew.ensures) in
+    let known = ap (λ (v : SlotsView). v.known) (c.self.view_is ∙ c.list_anew.ensures ∙ c.close_up.ensures) in
     ap (λ ts. entries_of (filled ts)) c.put.ensures.slots ∙ ap entries_of (filled_put key c.args.template ss c.in-Some.place.now place) ∙ templates-insert _ key c.args.template
     ∙ ap (λ (es : List (Key × Template)). define key (template_of c.args.template) (entries_of es)) known
 

@@ -17,7 +17,7 @@ invariant_of-self-2 c =
     let ss = c.self.inside.slots.items in
     let ps = c.make_room.new.places.entries in
     let key : Key = c.args.key in
-    let known = ap (λ (v : SlotsView). v.known) (c.self.view_is ∙ c.close_up.ensures) in
+    let known = ap (λ (v : SlotsView). v.known) c.self.view_is in
     let place : place_of key ss ≡ None = placed key ss (ap (lookup (same_key key)) known ∙ c.requires) in
     let room = kept_room ss _ ps _ _ _ _ c.self.invariant.0 c.make_room.ensures.places c.make_room.ensures.steps c.make_room.ensures.spare in
     let last : c.len-place.result ≡ length ss = omega (arith, c.len-place.ensures, c.reserve.ensures.len) in
@@ -38,13 +38,13 @@ returns-clause-before c =
     let last : c.len-place.result ≡ length ss = omega (arith, c.len-place.ensures, c.reserve.ensures.len) in
     let all = c.in_ok-push.ensures.items ∙ ap (λ (ts : List (Option (Key × Template))). ts ++ Some (c.args.key, c.args.template) ∷ []) c.reserve.ensures.items in
     before_push _ _ _ ss _ _ (c.args.key, c.args.template) c.note.ensures last all c.make_room.ensures.steps room.steps_back
-    ∙ ap (λ (v : SlotsView). v.before) (c.self.view_is ∙ c.close_up.ensures)
+    ∙ ap (λ (v : SlotsView). v.before) c.self.view_is
 
 pub returns-clause-ok : goal.returns-clause-ok
 returns-clause-ok c =
     let ss = c.self.inside.slots.items in
     let key : Key = c.args.key in
-    let known = ap (λ (v : SlotsView). v.known) (c.self.view_is ∙ c.close_up.ensures) in
+    let known = ap (λ (v : SlotsView). v.known) c.self.view_is in
     let place : place_of key ss ≡ None = placed key ss (ap (lookup (same_key key)) known ∙ c.requires) in
     let all = c.in_ok-push.ensures.items ∙ ap (λ (ts : List (Option (Key × Template))). ts ++ Some (key, c.args.template) ∷ []) c.reserve.ensures.items in
     ap (λ ts. entries_of (filled ts)) all ∙ ap entries_of (filled_push key c.args.template ss place)
