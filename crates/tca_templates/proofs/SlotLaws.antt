@@ -1,6 +1,6 @@
 -- Slots and what stands in them.
 use Rattle.std.proofs.Common.{◌≡◌, Bool, ℕ, zero, suc, ◌+◌, ◌<◌, ◌≤◌, true, false, cond, List, [], ◌∷◌, ◌++◌, length, take, set, Option, Some, None, Result, Ok, Err, ◌⊎◌, inl, inr, refl, sym, ap, subst, ◌∙◌, arith}
-use Rattle.std.specs.Prelude.{filter, slice_get}
+use Rattle.std.specs.Prelude.{filter, slice_get, ⊤}
 use Rattle.std.specs.Option.{option_map, is_some}
 use Rattle.std.specs.Result.{IsOk, OnOk, IfOk}
 use Rattle.std.specs.Map.{lookup}
@@ -301,6 +301,20 @@ leads_back (Some y ∷ ss) (suc i) x a e = go (same_key x.0 y.0) refl (leads_bac
         absurd cc
     go false q h = ap (option_map suc) h
 
+-- and the slot has that key
+pub has_key : {X : Type 0} (k : Key) (ss : Slots X) (i : ℕ) (x : Key × X) → place_of k ss ≡ Some i → slice_get ss i ≡ Some (Some x) → x.0 ≡ k
+has_key k [] i x e here = absurd cc
+has_key k (None ∷ ss) i x e here =
+    let b = behind (place_of k ss) i e in
+    has_key k ss b.0 x b.1 (ap (slice_get (None ∷ ss)) (sym b.2) ∙ here)
+has_key {X = X} k (Some y ∷ ss) i x e here = elim (hit (same_key k y.0) (place_of k ss) i e) [
+  | inl w ↦
+      let first : Some (Some y) ≡ Some (Some x) = ap (slice_get (Some y ∷ ss)) (sym w.1) ∙ here in
+      let is : y ≡ x = cc in
+      ap (λ (z : Key × X). z.0) (sym is) ∙ sym (same_is k y.0 w.0)
+  | inr w ↦ has_key k ss w.1 x w.2 (ap (slice_get (Some y ∷ ss)) (sym w.3) ∙ here)
+]
+
 -- and is found in no slot before it
 pub none_before : {X : Type 0} (ss : Slots X) (i : ℕ) (x : Key × X) → IsApart ss → slice_get ss i ≡ Some (Some x) → place_of x.0 (take i ss) ≡ None
 none_before [] i x a e = absurd cc
@@ -365,51 +379,65 @@ abbrev pub kept : {E : Type 0} → (E → Bool) → Option E → Option E
 kept test None = None
 kept test (Some e) = cond (test e) (Some e) None
 
--- The slots, of which so many from the left are emptied unless what stands there passes the test.
-abbrev pub kept_up_to : {X : Type 0} → (Key × X → Bool) → ℕ → Slots X → Slots X
-kept_up_to test zero ss = ss
-kept_up_to test (suc i) [] = []
-kept_up_to test (suc i) (s ∷ ss) = kept test s ∷ kept_up_to test i ss
+-- The slots, of which some are emptied whose templates don't pass the test.
+abbrev pub IsThinned : {X : Type 0} → (Key × X → Bool) → Slots X → Slots X → Type 0
+IsThinned test [] [] = ⊤
+IsThinned test [] (t ∷ ts) = ⊥
+IsThinned test (s ∷ ss) [] = ⊥
+IsThinned test (s ∷ ss) (t ∷ ts) = ((t ≡ s) ⊎ ((t ≡ None) × (kept test s ≡ None))) × IsThinned test ss ts
 
-pub kept_get : {X : Type 0} (test : Key × X → Bool) (i : ℕ) (ss : Slots X) → slice_get (kept_up_to test i ss) i ≡ slice_get ss i
-kept_get test zero ss = refl
-kept_get test (suc i) [] = refl
-kept_get test (suc i) (s ∷ ss) = kept_get test i ss
+pub thinned_same : {X : Type 0} (test : Key × X → Bool) (ss : Slots X) → IsThinned test ss ss
+thinned_same test [] = tt
+thinned_same test (s ∷ ss) = (inl refl, thinned_same test ss)
 
-pub kept_length : {X : Type 0} (test : Key × X → Bool) (i : ℕ) (ss : Slots X) → length (kept_up_to test i ss) ≡ length ss
-kept_length test zero ss = refl
-kept_length test (suc i) [] = refl
-kept_length test (suc i) (s ∷ ss) = ap suc (kept_length test i ss)
+-- one more is emptied
+pub thinned_out : {X : Type 0} (test : Key × X → Bool) (ss ts : Slots X) (i : ℕ) (e : Key × X) → IsThinned test ss ts → slice_get ts i ≡ Some (Some e) → test e ≡ false → IsThinned test ss (set ts i None)
+thinned_out test [] [] i e t here out = absurd cc
+thinned_out test [] (y ∷ ts) i e t here out = absurd t
+thinned_out test (s ∷ ss) [] i e t here out = absurd t
+thinned_out {X = X} test (s ∷ ss) (y ∷ ts) zero e t here out =
+    let is : y ≡ Some e = cc in
+    let none : kept test y ≡ None = ap (λ (z : Option (Key × X)). kept test z) is ∙ ap (λ b. cond b (Some e) None) out in
+    elim t.0 [
+      | inl w ↦ (inr (refl, sym (ap (λ (z : Option (Key × X)). kept test z) w) ∙ none), t.1)
+      | inr w ↦ (inr (refl, w.1), t.1)
+    ]
+thinned_out test (s ∷ ss) (y ∷ ts) (suc i) e t here out = (t.0, thinned_out test ss ts i e t.1 here out)
 
--- a slot stays as it is
-pub kept_stays : {X : Type 0} (test : Key × X → Bool) (i : ℕ) (ss : Slots X) (s : Option (Key × X)) → slice_get ss i ≡ Some s → kept test s ≡ s
-    → kept_up_to test (suc i) ss ≡ kept_up_to test i ss
-kept_stays test i [] s e k = absurd cc
-kept_stays {X = X} test zero (y ∷ ss) s e k =
-    let is : y ≡ s = cc in
-    ap (λ (z : Option (Key × X)). kept test z ∷ ss) is ∙ ap (λ z. z ∷ ss) k ∙ ap (λ z. z ∷ ss) (sym is)
-kept_stays test (suc i) (y ∷ ss) s e k = ap (λ zs. kept test y ∷ zs) (kept_stays test i ss s e k)
+-- what is left stood there
+pub thinned_from : {X : Type 0} (test : Key × X → Bool) (ss ts : Slots X) (i : ℕ) (e : Key × X) → IsThinned test ss ts → slice_get ts i ≡ Some (Some e) → slice_get ss i ≡ Some (Some e)
+thinned_from test [] [] i e t here = absurd cc
+thinned_from test [] (y ∷ ts) i e t here = absurd t
+thinned_from test (s ∷ ss) [] i e t here = absurd t
+thinned_from test (s ∷ ss) (y ∷ ts) zero e t here = elim t.0 [
+  | inl w ↦ ap (λ z. Some z) (sym w) ∙ here
+  | inr w ↦ let bad : Some None ≡ Some (Some e) = ap (λ z. Some z) (sym w.0) ∙ here in absurd cc
+]
+thinned_from test (s ∷ ss) (y ∷ ts) (suc i) e t here = thinned_from test ss ts i e t.1 here
 
--- a slot is emptied
-pub kept_goes : {X : Type 0} (test : Key × X → Bool) (i : ℕ) (ss : Slots X) (s : Option (Key × X)) → slice_get ss i ≡ Some s → kept test s ≡ None
-    → kept_up_to test (suc i) ss ≡ set (kept_up_to test i ss) i None
-kept_goes test i [] s e k = absurd cc
-kept_goes {X = X} test zero (y ∷ ss) s e k =
-    let is : y ≡ s = cc in
-    ap (λ (z : Option (Key × X)). kept test z ∷ ss) is ∙ ap (λ z. z ∷ ss) k
-kept_goes test (suc i) (y ∷ ss) s e k = ap (λ zs. kept test y ∷ zs) (kept_goes test i ss s e k)
-
-pub kept_all : {X : Type 0} (test : Key × X → Bool) (i : ℕ) (ss : Slots X) → length ss ≤ i → filled (kept_up_to test i ss) ≡ filter test (filled ss)
-kept_all test zero [] le = refl
-kept_all test zero (s ∷ ss) le = absurd (omega (arith, le))
-kept_all test (suc i) [] le = refl
-kept_all test (suc i) (None ∷ ss) le = kept_all test i ss (omega (arith, le))
-kept_all test (suc i) (Some x ∷ ss) le = go (test x) (kept_all test i ss (omega (arith, le)))
+-- all of them are emptied
+pub thinned_all : {X : Type 0} (test : Key × X → Bool) (ss ts : Slots X) → IsThinned test ss ts → ((j : ℕ) (e : Key × X) → slice_get ts j ≡ Some (Some e) → test e ≡ true) → filled ts ≡ filter test (filled ss)
+thinned_all test [] [] t all = refl
+thinned_all test [] (y ∷ ts) t all = absurd t
+thinned_all test (s ∷ ss) [] t all = absurd t
+thinned_all {X = X} test (s ∷ ss) (y ∷ ts) t all =
+    let rest = thinned_all test ss ts t.1 (λ j e here. all (suc j) e here) in
+    elim t.0 [
+      | inl w ↦ ap (λ (z : Option (Key × X)). filled (z ∷ ts)) w ∙ stays s (λ e is. all 0 e (ap (λ z. Some z) (w ∙ is))) rest
+      | inr w ↦ ap (λ (z : Option (Key × X)). filled (z ∷ ts)) w.0 ∙ rest ∙ goes s w.1
+    ]
   where
-    go : (b : Bool) → filled (kept_up_to test i ss) ≡ filter test (filled ss)
-        → filled (cond b (Some x) None ∷ kept_up_to test i ss) ≡ cond b (x ∷ filter test (filled ss)) (filter test (filled ss))
-    go true h = ap (λ es. x ∷ es) h
-    go false h = h
+    stays : (z : Option (Key × X)) → ((e : Key × X) → z ≡ Some e → test e ≡ true) → filled ts ≡ filter test (filled ss) → filled (z ∷ ts) ≡ filter test (filled (z ∷ ss))
+    stays None pass h = h
+    stays (Some e) pass h = ap (λ es. e ∷ es) h ∙ sym (ap (λ b. cond b (e ∷ filter test (filled ss)) (filter test (filled ss))) (pass e refl))
+
+    goes : (z : Option (Key × X)) → kept test z ≡ None → filter test (filled ss) ≡ filter test (filled (z ∷ ss))
+    goes None k = refl
+    goes (Some e) k = go (test e) refl k
+      where
+        go : (b : Bool) → test e ≡ b → cond b (Some e) None ≡ None → filter test (filled ss) ≡ cond (test e) (e ∷ filter test (filled ss)) (filter test (filled ss))
+        go true q bad = absurd cc
+        go false q ok = sym (ap (λ b. cond b (e ∷ filter test (filled ss)) (filter test (filled ss))) q)
 
 pub on_ok : {Y E : Type 0} (P : Type 0) (r : Result Y E) → IsOk r → OnOk r P → P
 on_ok P (Ok y) ok p = p

@@ -4,7 +4,7 @@ use Rattle.std.specs.Option.{option_map}
 use Rattle.std.specs.Map.{lookup}
 use mathlib.Core.Bool.{beq}
 use Rattle.tca_templates.specs.declared.template.Template.{Template}
-use Rattle.tca_templates.specs.declared.slots.Extent.{Extent}
+use Rattle.tca_templates.specs.declared.ids.Ids.{Ids}
 use Rattle.tca_templates.specs.Templates.{Key, same_key}
 
 -- what stands in the slots, without the empty ones
@@ -70,22 +70,36 @@ Kind = ℕ × Bool
 abbrev pub same_kind : Kind → Kind → Bool
 same_kind a b = (a.0 == b.0) && beq a.1 b.1
 
--- this place is in the extent
-abbrev pub IsWithin : Option Extent → ℕ → Type 0
-IsWithin None i = ⊥
-IsWithin (Some x) i = (x.first ≤ i) × (i ≤ x.last)
+-- this ID stands in a list, in this place or behind it
+abbrev pub StandsFrom : ℕ → List ℕ → ℕ → Type 0
+StandsFrom from ids id = (i : ℕ) × (from ≤ i) × (slice_get ids i ≡ Some id)
 
--- a template in this place is in the extent of its domain and kind
-abbrev pub IsListed : List (Kind × Extent) → ℕ → Option (Key × Template) → Type 0
-IsListed xs i None = ⊤
-IsListed xs i (Some e) = IsWithin (lookup (same_kind (e.0.0, e.1.options)) xs) i
+-- a withdrawal of all goes over this ID
+abbrev pub IsAhead : Option Ids → ℕ → Type 0
+IsAhead None id = ⊥
+IsAhead (Some l) id = StandsFrom l.from l.all.items id
 
--- so is each template of the steps
-abbrev pub AreListed : List (Kind × Extent) → List (Step Template) → Type 0
-AreListed xs [] = ⊤
-AreListed xs (u ∷ us) = IsListed xs u.0 u.1 × AreListed xs us
+-- this ID is listed, whether or not a withdrawal of all goes over it
+abbrev pub IsAmong : Option Ids → ℕ → Type 0
+IsAmong None id = ⊥
+IsAmong (Some l) id = StandsFrom 0 l.all.items id
 
--- Each template of the slots, and each that a step brings back, is in the extent of its domain and kind.
-pub record IsCovered (slots : List (Option (Key × Template))) (extents : List (Kind × Extent)) (steps : Option (List (Step Template))) : Type 0 where
-  pub slots_in : (i : ℕ) (s : Option (Key × Template)) → slice_get slots i ≡ Some s → IsListed extents i s
-  pub steps_in : IfSome steps (λ us. AreListed extents us)
+-- a withdrawal of all templates of its domain and kind goes over this template
+abbrev pub IsListed : List (Kind × Ids) → Option (Key × Template) → Type 0
+IsListed xs None = ⊤
+IsListed xs (Some e) = IsAhead (lookup (same_kind (e.0.0, e.1.options)) xs) e.0.1
+
+-- the ID of this template is listed
+abbrev pub IsNoted : List (Kind × Ids) → Option (Key × Template) → Type 0
+IsNoted xs None = ⊤
+IsNoted xs (Some e) = IsAmong (lookup (same_kind (e.0.0, e.1.options)) xs) e.0.1
+
+-- so is that of each template of the steps
+abbrev pub AreNoted : List (Kind × Ids) → List (Step Template) → Type 0
+AreNoted xs [] = ⊤
+AreNoted xs (u ∷ us) = IsNoted xs u.1 × AreNoted xs us
+
+-- A withdrawal of all goes over each template of its domain and kind, and the ID of each that a step brings back is listed.
+pub record IsCovered (slots : List (Option (Key × Template))) (kinds : List (Kind × Ids)) (steps : Option (List (Step Template))) : Type 0 where
+  pub slots_in : (i : ℕ) (s : Option (Key × Template)) → slice_get slots i ≡ Some s → IsListed kinds s
+  pub steps_in : IfSome steps (λ us. AreNoted kinds us)

@@ -11,7 +11,8 @@
 //!
 //! - `decoder`: a session; `reading`: the sets of one message;
 //! - `template`, `specifiers`, `store`: what a template says, the records that define and withdraw templates, and
-//!   the sets of these; `slots`: the templates that are known; `iter`: all of them in order;
+//!   the sets of these; `slots`: the templates that are known; `ids`: those of a domain and kind; `iter`: all of them in
+//!   order;
 //! - `layout`: which fields of a template are chosen, and where they stand in a record;
 //! - `source`: whose records a message has;
 //! - `record`, `outcome`: the records of data sets, in the message's octets and as values of their own;
@@ -20,6 +21,7 @@
 
 mod decoder;
 mod fault;
+mod ids;
 mod iter;
 mod layout;
 mod outcome;

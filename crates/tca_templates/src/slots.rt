@@ -4,21 +4,23 @@
 //! template comes and they are as many as the templates. So what a withdrawal and a definition cost on average doesn't
 //! depend on how many templates are known.
 //!
-//! For each domain and kind an extent of slots is noted, from the first of its templates to the last, which may be wider
-//! than need be. A withdrawal of all of them goes over that extent alone, and forgets it unless steps are noted. So it
-//! goes over no slot where there is no template of the kind, and over few where they were defined one after the other.
+//! For each domain and kind the IDs are listed that were defined so, one more with each definition. A withdrawal of all
+//! goes over those that were listed since the last one. So each definition is gone over once, whatever else is known.
+//! Where the lists have more than twice as many IDs as there are templates, each template is listed once, anew.
 //!
 //! While a message is read that may be refused, each change notes what stood in its slot before, and its step reserves
-//! what taking it back needs. So a refusal is undone without memory, from the last change to the first.
-ghost use Rattle.std.specs.Prelude.{◌≡◌, ◌+◌, ◌<◌, ◌≤◌, ◌^◌, ℕ, Bool, Option, Some, None, slice_get, IsOk, [], length, set, get_or, OnOk, OnErr, IfSome, vec_len, vec_capacity};
+//! what taking it back needs. So a refusal is undone without memory, from the last change to the first. A list that a
+//! template comes back to is gone over once more from its start.
+ghost use Rattle.std.specs.Prelude.{◌≡◌, ◌≢◌, ◌+◌, ◌<◌, ◌≤◌, ◌^◌, ℕ, Bool, false, Option, Some, None, slice_get, [], length, set, get_or, OnOk, OnErr, IfOk, IfSome, vec_len, vec_capacity};
 ghost use Rattle.std.specs.Option.{option_map};
 ghost use Rattle.std.specs.Map.{lookup};
 ghost use Rattle.indexmap.specs.IndexMap.{spare};
 ghost use Rattle.tca_templates.specs.declared.template.Template.{Template};
 ghost use Rattle.tca_templates.specs.Templates.{Key, known, define, withdraw, withdraw_all, same_key};
 ghost use Rattle.tca_templates.specs.Fields.{template_of, templates_of};
-ghost use Rattle.tca_templates.specs.Slotted.{filled, noted, same_kind, IsApart, IsSlotted, IsWithin, IsListed};
+ghost use Rattle.tca_templates.specs.Slotted.{filled, noted, same_kind, IsApart, IsSlotted, IsAhead, IsAmong, IsListed};
 
+use crate::ids::Ids;
 use crate::template::Template;
 use indexmap::IndexMap;
 use std::alloc::{AllocError, Global};
@@ -28,21 +30,20 @@ use std::mem;
 // The fewest empty slots that are taken away together.
 const FEWEST_EMPTY: usize = 64;
 
+// The fewest listed IDs of which all that aren't needed are taken away together.
+const FEWEST_LISTED: usize = 64;
+
 // A template under its observation domain and ID; `None` where it was withdrawn.
 pub(crate) type Slot = Option<((u32, u16), Template)>;
 
 // A step back: a slot's place, and what stood there.
 type Step = (usize, Slot);
 
-// Slots from the first of these to the last.
-#[derive(Clone, Copy)]
-struct Extent {
-    first: usize,
-    last: usize,
-}
+// The place of each domain and ID.
+type Places = IndexMap<(u32, u16), usize>;
 
-// The extents that hold the templates of a domain and kind.
-type Extents = IndexMap<(u32, bool), Extent>;
+// The IDs by domain and kind.
+type Kinds = IndexMap<(u32, bool), Ids>;
 
 // The templates of a session by observation domain and ID, in the order in which they were first seen.
 #[derive(Drop)]
@@ -50,9 +51,11 @@ pub(crate) struct Slots {
     /// The templates, and empty slots among them.
     slots: Vec<Slot>,
     /// In which slot the template of a domain and ID is; their order says nothing.
-    places: IndexMap<(u32, u16), usize>,
-    /// Among which slots all templates of a domain and kind are; others may be there too.
-    extents: Extents,
+    places: Places,
+    /// The IDs of all templates of a domain and kind; others may be there too.
+    kinds: Kinds,
+    /// How many IDs are listed in all.
+    listed: usize,
     /// The way back to the slots before a message that may be refused, while it is read. The map has room for each step.
     steps: Option<Vec<Step>>,
 }
@@ -68,11 +71,11 @@ impl Model for Slots {
     ghost view = { λ s. record { known = filled s.slots.items; before = before_of (option_map (λ l. l.items) s.steps) s.slots.items } };
 
     ghost invariant = { λ s. IsKept s.slots.items s.places.entries (spare s.places) (option_map (λ l. l.items) s.steps)
-        × IsCovered s.slots.items s.extents.entries (option_map (λ l. l.items) s.steps) };
+        × IsCovered s.slots.items s.kinds.entries (option_map (λ l. l.items) s.steps) };
 }
 
 // Notes the place of each template anew, in the room that the map has.
-fn number(slots: &[Slot], places: &mut IndexMap<(u32, u16), usize>)
+fn number(slots: &[Slot], places: &mut Places)
     requires apart { IsApart slots.now }
     requires room { length slots.now ≤ length places.old.entries + spare places.old }
     ensures { IsSlotted slots.now places.new.entries }
@@ -86,62 +89,73 @@ fn number(slots: &[Slot], places: &mut IndexMap<(u32, u16), usize>)
     }
 }
 
-// An extent with one slot more, whether or not there is one.
-fn with_slot(known: Option<Extent>, place: usize) -> Extent
-    ensures wider { (i : ℕ) → IsWithin known i → IsWithin (Some result) i }
-    ensures place { IsWithin (Some result) place }
+// Lists an ID of a domain and kind. An `Err` leaves all as it was.
+fn list(alloc: Global, kinds: &mut Kinds, kind: (u32, bool), id: u16) -> Result<(), AllocError>
+    ensures ahead { (k : ℕ × Bool) (i : ℕ) → IsAhead (lookup (same_kind k) kinds.old.entries) i → IsAhead (lookup (same_kind k) kinds.new.entries) i }
+    ensures among { (k : ℕ × Bool) (i : ℕ) → IsAmong (lookup (same_kind k) kinds.old.entries) i → IsAmong (lookup (same_kind k) kinds.new.entries) i }
+    ensures ok { OnOk result (IsAhead (lookup (same_kind kind) kinds.new.entries) id) }
 {
-    let Some(extent) = known else {
-        return Extent {
-            first: place,
-            last: place,
-        };
-    };
-    Extent {
-        first: extent.first.min(place),
-        last: extent.last.max(place),
+    if let Some(ids) = kinds.get_mut(&kind) {
+        ids.all.push(id)?;
+        return Ok(());
     }
-}
-
-// Where a walk over so many slots ends that takes in no slot behind the last.
-fn end_behind(last: usize, count: usize) -> usize
-    ensures within { result ≤ count }
-    ensures all { (i : ℕ) → result ≤ i → i < count → last < i }
-{
-    if last < count { last + 1 } else { count }
-}
-
-// Widens the extent of a domain and kind to a slot. An `Err` leaves all as it was.
-fn widen(extents: &mut Extents, kind: (u32, bool), place: usize) -> Result<(), AllocError>
-    ensures wider { (k : ℕ × Bool) (i : ℕ) → IsWithin (lookup (same_kind k) extents.old.entries) i → IsWithin (lookup (same_kind k) extents.new.entries) i }
-    ensures ok { OnOk result (IsWithin (lookup (same_kind kind) extents.new.entries) place) }
-    ensures succeeds { 0 < spare extents.old → IsOk result }
-    ensures spare { spare extents.old ≤ spare extents.new + 1 }
-{
-    let extent = with_slot(extents.get(&kind).copied(), place);
-    extents.insert(kind, extent)?;
+    let mut all = Vec::new(alloc);
+    all.push(id)?;
+    kinds.insert(kind, Ids { all, from: 0 })?;
     Ok(())
 }
 
-// Notes the extents anew, in the room that the map has.
-fn cover(slots: &[Slot], extents: &mut Extents)
-    requires { length slots.now ≤ spare extents.old }
-    ensures { (i : ℕ) (s : Option (Key × Template)) → slice_get slots.now i ≡ Some s → IsListed extents.new.entries i s }
+// The IDs of all templates in these slots.
+fn listed(alloc: Global, slots: &[Slot]) -> Result<Kinds, AllocError>
+    ensures { IfOk result (λ kinds. (i : ℕ) (s : Option (Key × Template)) → slice_get slots.now i ≡ Some s → IsListed kinds.entries s) }
 {
-    extents.clear();
-    for (place, slot) in slots.iter().enumerate() {
+    let mut kinds = IndexMap::new(alloc);
+    for slot in slots {
         if let Some((key, template)) = slot {
-            // It can't want memory, since the map has room.
-            let _ = widen(extents, (key.0, template.options), place);
+            list(alloc, &mut kinds, (key.0, template.options), key.1)?;
         }
+    }
+    Ok(kinds)
+}
+
+// A withdrawal of all goes over each ID of a domain and kind again.
+fn go_back(kinds: &mut Kinds, kind: (u32, bool))
+    ensures ahead { (k : ℕ × Bool) (i : ℕ) → IsAhead (lookup (same_kind k) kinds.old.entries) i → IsAhead (lookup (same_kind k) kinds.new.entries) i }
+    ensures among { (k : ℕ × Bool) (i : ℕ) → IsAmong (lookup (same_kind k) kinds.old.entries) i → IsAmong (lookup (same_kind k) kinds.new.entries) i }
+    ensures all { (i : ℕ) → IsAmong (lookup (same_kind kind) kinds.old.entries) i → IsAhead (lookup (same_kind kind) kinds.new.entries) i }
+{
+    if let Some(ids) = kinds.get_mut(&kind) {
+        ids.from = 0;
+    }
+}
+
+// A withdrawal of all goes over no ID of a domain and kind that is listed by now.
+fn pass_over(kinds: &mut Kinds, kind: (u32, bool))
+    ensures others { (k : ℕ × Bool) → same_kind kind k ≡ false → lookup (same_kind k) kinds.new.entries ≡ lookup (same_kind k) kinds.old.entries }
+    ensures among { (k : ℕ × Bool) (i : ℕ) → IsAmong (lookup (same_kind k) kinds.old.entries) i → IsAmong (lookup (same_kind k) kinds.new.entries) i }
+{
+    if let Some(ids) = kinds.get_mut(&kind) {
+        ids.from = ids.all.len();
+    }
+}
+
+// Where the template of a domain and ID is, if it is of this kind.
+fn place_of_kind(slots: &[Slot], places: &Places, key: (u32, u16), options: bool) -> Option<usize>
+    requires { IsSlotted slots.now places.now.entries }
+    ensures some { IfSome result (λ i. (t : Template) × (slice_get slots.now i ≡ Some (Some (key, t))) × (t.options ≡ options)) }
+    ensures none { result ≡ None → (i : ℕ) (t : Template) → slice_get slots.now i ≡ Some (Some (key, t)) → t.options ≢ options }
+{
+    let place = *places.get(&key)?;
+    let (_, template) = slots.get(place)?.as_ref()?;
+    if template.options == options {
+        Some(place)
+    } else {
+        None
     }
 }
 
 // Makes room for one step more and for one place more, where steps are noted.
-fn make_room(
-    steps: &mut Option<Vec<Step>>,
-    places: &mut IndexMap<(u32, u16), usize>,
-) -> Result<(), AllocError>
+fn make_room(steps: &mut Option<Vec<Step>>, places: &mut Places) -> Result<(), AllocError>
     ensures places { places.new.entries ≡ places.old.entries }
     ensures steps { option_map (λ l. l.items) steps.new ≡ option_map (λ l. l.items) steps.old }
     ensures spare { spare places.old ≤ spare places.new }
@@ -185,7 +199,8 @@ impl Slots {
         Slots {
             slots: Vec::new(alloc),
             places: IndexMap::new(alloc),
-            extents: IndexMap::new(alloc),
+            kinds: IndexMap::new(alloc),
+            listed: 0,
             steps: None,
         }
     }
@@ -219,6 +234,7 @@ impl Slots {
     // Defines an ID. A known one keeps its place, and a new one goes last. An `Err` leaves all as it was.
     pub(crate) fn define(
         &mut self,
+        alloc: Global,
         domain: u32,
         id: u16,
         template: Template,
@@ -227,10 +243,13 @@ impl Slots {
         ensures err { OnErr result (self.new ≡ self.old) }
         ensures before { self.new.before ≡ self.old.before }
     {
+        self.close_up();
+        self.list_anew(alloc)?;
         let key = (domain, id);
         if let Some(place) = self.places.get(&key) {
             let place = *place;
-            widen(&mut self.extents, (domain, template.options), place)?;
+            list(alloc, &mut self.kinds, (domain, template.options), id)?;
+            self.listed = self.listed.saturating_add(1);
             make_room(&mut self.steps, &mut self.places)?;
             put(
                 &mut self.slots,
@@ -240,42 +259,52 @@ impl Slots {
             );
             return Ok(());
         }
-        self.push(key, template)
+        self.push(alloc, key, template)
     }
 
     // Puts a new template last.
-    fn push(&mut self, key: (u32, u16), template: Template) -> Result<(), AllocError>
+    fn push(&mut self, alloc: Global, key: (u32, u16), template: Template) -> Result<(), AllocError>
         requires { lookup (same_key key) self.old.known ≡ None }
         ensures ok { OnOk result (templates_of self.new ≡ define key (template_of template) (templates_of self.old)) }
         ensures err { OnErr result (self.new ≡ self.old) }
         ensures before { self.new.before ≡ self.old.before }
     {
-        self.close_up()?;
         make_room(&mut self.steps, &mut self.places)?;
         self.slots.reserve(1)?;
         let place = self.slots.len();
-        widen(&mut self.extents, (key.0, template.options), place)?;
+        list(alloc, &mut self.kinds, (key.0, template.options), key.1)?;
+        self.listed = self.listed.saturating_add(1);
         self.places.insert(key, place)?;
         self.slots.push(Some((key, template)))?;
         note(&mut self.steps, place, None);
         Ok(())
     }
 
-    // Takes the empty slots away where they are many, unless steps are noted. An `Err` leaves them.
-    fn close_up(&mut self) -> Result<(), AllocError>
+    // Takes the empty slots away where they are many, unless steps are noted.
+    fn close_up(&mut self)
         ensures { self.new ≡ self.old }
     {
         if self.steps.is_some() {
-            return Ok(());
+            return;
         }
         let empty = self.slots.len() - self.places.len();
         if empty < FEWEST_EMPTY || empty < self.places.len() {
-            return Ok(());
+            return;
         }
-        self.extents.reserve(self.places.len())?;
         self.slots.retain(|slot| slot.is_some());
         number(&self.slots, &mut self.places);
-        cover(&self.slots, &mut self.extents);
+    }
+
+    // Lists each template once where the lists are long, unless steps are noted. An `Err` leaves them.
+    fn list_anew(&mut self, alloc: Global) -> Result<(), AllocError>
+        ensures { self.new ≡ self.old }
+    {
+        let count = self.places.len();
+        if self.steps.is_some() || self.listed < FEWEST_LISTED || self.listed / 2 < count {
+            return Ok(());
+        }
+        self.kinds = listed(alloc, &self.slots)?;
+        self.listed = count;
         Ok(())
     }
 
@@ -298,23 +327,18 @@ impl Slots {
         ensures before { self.new.before ≡ self.old.before }
     {
         let kind = (domain, options);
-        let Some(extent) = self.extents.get(&kind) else {
+        let Some(ids) = self.kinds.get(&kind) else {
             return Ok(());
         };
-        let first = extent.first;
-        let end = end_behind(extent.last, self.slots.len());
-        for i in first..end {
-            if let Some((key, template)) = &self.slots[i] {
-                if key.0 == domain && template.options == options {
-                    make_room(&mut self.steps, &mut self.places)?;
-                    self.places.swap_remove(key);
-                    put(&mut self.slots, &mut self.steps, i, None);
-                }
+        for i in ids.from..ids.all.len() {
+            let key = (domain, ids.all[i]);
+            if let Some(found) = place_of_kind(&self.slots, &self.places, key, options) {
+                make_room(&mut self.steps, &mut self.places)?;
+                self.places.swap_remove(&key);
+                put(&mut self.slots, &mut self.steps, found, None);
             }
         }
-        if self.steps.is_none() {
-            self.extents.swap_remove(&kind);
-        }
+        pass_over(&mut self.kinds, kind);
         Ok(())
     }
 
@@ -324,8 +348,9 @@ impl Slots {
         ensures before { self.new.before ≡ Some self.old.known }
     {
         self.steps = None;
-        // Where memory is wanting, the empty slots stay.
-        let _ = self.close_up();
+        self.close_up();
+        // Where memory is wanting, the lists stay.
+        let _ = self.list_anew(alloc);
         self.steps = Some(Vec::new(alloc));
     }
 
@@ -348,9 +373,10 @@ impl Slots {
             if let Some((key, _)) = &self.slots[place] {
                 self.places.swap_remove(key);
             }
-            if let Some((key, _)) = &slot {
+            if let Some((key, template)) = &slot {
                 // It can't want memory, since the map has room for each step.
                 let _ = self.places.insert(*key, place);
+                go_back(&mut self.kinds, (key.0, template.options));
             }
             self.slots[place] = slot;
         }

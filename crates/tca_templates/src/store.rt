@@ -36,7 +36,7 @@ fn apply(
                 return Err(DecodeFault::TooMany);
             }
             let template = stored(alloc, options, definition)?;
-            templates.define(domain, id, template)?;
+            templates.define(alloc, domain, id, template)?;
         }
     }
     Ok(())

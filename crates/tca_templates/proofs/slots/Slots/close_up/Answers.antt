@@ -5,10 +5,8 @@ use Rattle.std.specs.Option.{is_some}
 use Rattle.std.proofs.lemmas.Fn.{filter_same}
 use Rattle.tca_templates.specs.Templates.{Key}
 use Rattle.tca_templates.specs.declared.template.Template.{Template}
-use Rattle.tca_templates.specs.declared.slots.Extent.{Extent}
-use Rattle.std.specs.Map.{lookup}
-use Rattle.tca_templates.proofs.CoverLaws.{covered_wider}
-use Rattle.tca_templates.specs.Slotted.{Kind, same_kind, IsWithin, filled, IsApart, IsSlotted}
+use Rattle.tca_templates.specs.Slotted.{filled, IsApart, IsSlotted}
+use Rattle.tca_templates.proofs.CoverLaws.{full_in}
 use Rattle.tca_templates.proofs.SlotLaws.{full_apart, full_count, filled_full, filled_few}
 use Rattle.tca_templates.proofs.StepLaws.{no_before, no_steps}
 use Rattle.tca_templates.proofs.slots.Slots.close_up.Goals as goal
@@ -24,24 +22,16 @@ number-requires-clause-room c =
     let same = ap length (c.deref.ensures.value ∙ full) in
     omega (arith, same, full_count c.self.inside.slots.items, c.self.invariant.0.slotted.counted)
 
-pub invariant_of-self-2 : goal.invariant_of-self-2
-invariant_of-self-2 c =
+pub invariant_of-self : goal.invariant_of-self
+invariant_of-self c =
+    let full : c.retain.new.self.items ≡ filter is_some c.self.inside.slots.items = filter_same _ _ _ (λ x b f' k. search rules) _ _ c.retain.ensures.filtered in
     let none = sym c.is_some.ensures ∙ c.if-is_some.false in (
       record { slotted = subst (λ (ss : List (Option (Key × Template))). IsSlotted ss c.number.new.places.entries) c.deref.ensures.value c.number.ensures; steps_back = no_steps _ c.self.inside.steps _ none; few = no_steps _ c.self.inside.steps _ none },
       record {
-        slots_in = λ i s e. c.cover.ensures i s (ap (λ (ss : List (Option (Key × Template))). slice_get ss i) c.deref-2.ensures.value ∙ e);
+        slots_in = λ i s e. full_in c.self.inside.slots.items c.self.inside.kinds.entries c.self.invariant.1.slots_in i s (ap (λ (ss : List (Option (Key × Template))). slice_get ss i) (sym full) ∙ e);
         steps_in = no_steps _ c.self.inside.steps _ none;
       },
     )
-
-pub invariant_of-self : goal.invariant_of-self
-invariant_of-self c = (c.self.invariant.0, covered_wider _ _ _ _ (λ k i. subst (λ (xs : List (Kind × Extent)). IsWithin (lookup (same_kind k) xs) i) (sym c.reserve.ensures.entries)) c.self.invariant.1)
-
-pub cover-requires : goal.cover-requires
-cover-requires c =
-    let full : c.retain.new.self.items ≡ filter is_some c.self.inside.slots.items = filter_same _ _ _ (λ x b f' k. search rules) _ _ c.retain.ensures.filtered in
-    let same = ap length (c.deref-2.ensures.value ∙ full) in
-    omega (arith, same, full_count c.self.inside.slots.items, c.self.invariant.0.slotted.counted, c.in_ok-reserve.ensures.ok)
 
 pub returns : goal.returns
 returns c =

@@ -9,7 +9,7 @@ use Rattle.tca_templates.specs.Slotted.{place_of, filled}
 use Rattle.tca_templates.proofs.Stored.{templates-insert}
 use Rattle.tca_templates.proofs.SlotLaws.{placed, filled_push}
 use Rattle.tca_templates.proofs.StepLaws.{kept_as, kept_room, kept_tight, kept_push, before_push}
-use Rattle.tca_templates.proofs.CoverLaws.{covered_push, covered_wider, covered_as}
+use Rattle.tca_templates.proofs.CoverLaws.{covered_push, covered_ahead, covered_as}
 use Rattle.tca_templates.proofs.slots.Slots.push.Goals as goal
 
 pub invariant_of-self-2 : goal.invariant_of-self-2
@@ -17,7 +17,7 @@ invariant_of-self-2 c =
     let ss = c.self.inside.slots.items in
     let ps = c.make_room.new.places.entries in
     let key : Key = c.args.key in
-    let known = ap (λ (v : SlotsView). v.known) (c.self.view_is ∙ c.close_up.ensures) in
+    let known = ap (λ (v : SlotsView). v.known) c.self.view_is in
     let place : place_of key ss ≡ None = placed key ss (ap (lookup (same_key key)) known ∙ c.requires) in
     let room = kept_room ss _ ps _ _ _ _ c.self.invariant.0 c.make_room.ensures.places c.make_room.ensures.steps c.make_room.ensures.spare in
     let last : c.len-place.result ≡ length ss = omega (arith, c.len-place.ensures, c.reserve.ensures.len) in
@@ -27,8 +27,8 @@ invariant_of-self-2 c =
       kept_as _ _ _ _ _ _ all c.note.ensures
           (kept_push key c.args.template ss ps c.insert.new.self.entries _ _ _ _ room place last
           (λ j. c.in_ok-insert.ensures.updates.0 j ∙ ap (λ n. if same_key key j then Some n else lookup (same_key j) ps) last) more c.in_ok-make_room.ensures.room c.insert.ensures.spare),
-      covered_push ss _ _ _ _ _ c.len-place.result (Some (key, c.args.template)) all c.note.ensures c.make_room.ensures.steps last
-          (covered_wider ss _ _ _ c.widen.ensures.wider c.self.invariant.1) c.in_ok-widen.ensures.ok,
+      covered_push ss _ _ _ _ _ c.len-place.result (Some (key, c.args.template)) all c.note.ensures c.make_room.ensures.steps
+          (covered_ahead ss _ _ _ c.list.ensures.ahead c.list.ensures.among c.self.invariant.1) c.in_ok-list.ensures.ok,
     )
 
 pub returns-clause-before : goal.returns-clause-before
@@ -38,13 +38,13 @@ returns-clause-before c =
     let last : c.len-place.result ≡ length ss = omega (arith, c.len-place.ensures, c.reserve.ensures.len) in
     let all = c.in_ok-push.ensures.items ∙ ap (λ (ts : List (Option (Key × Template))). ts ++ Some (c.args.key, c.args.template) ∷ []) c.reserve.ensures.items in
     before_push _ _ _ ss _ _ (c.args.key, c.args.template) c.note.ensures last all c.make_room.ensures.steps room.steps_back
-    ∙ ap (λ (v : SlotsView). v.before) (c.self.view_is ∙ c.close_up.ensures)
+    ∙ ap (λ (v : SlotsView). v.before) c.self.view_is
 
 pub returns-clause-ok : goal.returns-clause-ok
 returns-clause-ok c =
     let ss = c.self.inside.slots.items in
     let key : Key = c.args.key in
-    let known = ap (λ (v : SlotsView). v.known) (c.self.view_is ∙ c.close_up.ensures) in
+    let known = ap (λ (v : SlotsView). v.known) c.self.view_is in
     let place : place_of key ss ≡ None = placed key ss (ap (lookup (same_key key)) known ∙ c.requires) in
     let all = c.in_ok-push.ensures.items ∙ ap (λ (ts : List (Option (Key × Template))). ts ++ Some (key, c.args.template) ∷ []) c.reserve.ensures.items in
     ap (λ ts. entries_of (filled ts)) all ∙ ap entries_of (filled_push key c.args.template ss place)
@@ -75,11 +75,11 @@ returns-in_err-reserve-clause-err c = grind (arith, common_steps)
 pub returns-in_err-reserve-clause-before : goal.returns-in_err-reserve-clause-before
 returns-in_err-reserve-clause-before c = grind (arith, common_steps)
 
-pub invariant_of-self-in_err-widen : goal.invariant_of-self-in_err-widen
-invariant_of-self-in_err-widen c =
+pub invariant_of-self-in_err-list : goal.invariant_of-self-in_err-list
+invariant_of-self-in_err-list c =
     let ss = c.self.inside.slots.items in (
       kept_as ss _ _ _ _ _ c.reserve.ensures.items refl (kept_room ss _ _ _ _ _ _ c.self.invariant.0 c.make_room.ensures.places c.make_room.ensures.steps c.make_room.ensures.spare),
-      covered_as ss _ _ _ _ c.reserve.ensures.items c.make_room.ensures.steps (covered_wider ss _ _ _ c.widen.ensures.wider c.self.invariant.1),
+      covered_as ss _ _ _ _ c.reserve.ensures.items c.make_room.ensures.steps (covered_ahead ss _ _ _ c.list.ensures.ahead c.list.ensures.among c.self.invariant.1),
     )
 
 pub invariant_of-self-in_err-insert : goal.invariant_of-self-in_err-insert
@@ -87,7 +87,7 @@ invariant_of-self-in_err-insert c =
     let ss = c.self.inside.slots.items in
     let room = kept_room ss _ _ _ _ _ _ c.self.invariant.0 c.make_room.ensures.places c.make_room.ensures.steps c.make_room.ensures.spare in (
       kept_as ss _ _ _ _ _ c.reserve.ensures.items refl (kept_tight ss _ _ _ _ _ room c.in_err-insert.ensures.err c.in_ok-make_room.ensures.room c.insert.ensures.spare),
-      covered_as ss _ _ _ _ c.reserve.ensures.items c.make_room.ensures.steps (covered_wider ss _ _ _ c.widen.ensures.wider c.self.invariant.1),
+      covered_as ss _ _ _ _ c.reserve.ensures.items c.make_room.ensures.steps (covered_ahead ss _ _ _ c.list.ensures.ahead c.list.ensures.among c.self.invariant.1),
     )
 
 pub returns-in_err-insert-clause-ok : goal.returns-in_err-insert-clause-ok

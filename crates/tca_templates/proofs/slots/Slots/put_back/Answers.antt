@@ -5,11 +5,10 @@ use Rattle.std.proofs.lemmas.Option.{slice_get_read}
 use Rattle.indexmap.specs.IndexMap.{spare}
 use Rattle.tca_templates.specs.declared.template.Template.{Template}
 use Rattle.tca_templates.specs.Templates.{Key}
-use Rattle.tca_templates.specs.Slotted.{Kind, IsCovered, filled, place_of, IsApart, IsSlotted, Step, undone, AreSteps}
+use Rattle.tca_templates.specs.Slotted.{IsCovered, filled, place_of, IsApart, IsSlotted, Step, undone, AreSteps}
 use Rattle.tca_templates.proofs.SlotLaws.{leads_back, slotted_out, on_ok, grown}
 use Rattle.tca_templates.proofs.StepLaws.{undone_last, steps_last, alone, slotted_in, emptied, kept_as, kept_back}
-use Rattle.tca_templates.specs.declared.slots.Extent.{Extent}
-use Rattle.tca_templates.proofs.CoverLaws.{covered_as, covered_back}
+use Rattle.tca_templates.proofs.CoverLaws.{covered_as, covered_again, covered_back}
 use Rattle.tca_templates.proofs.slots.Slots.put_back.Goals.{in-Some-index, in_default-index, in-Some-slot, in_default-slot}
 use Rattle.tca_templates.proofs.slots.Slots.put_back.Goals as goal
 
@@ -65,7 +64,7 @@ loop-place-preserved-after-slot c =
     let after : (c.match-slot.self-inside.slots.items ≡ ss) × IsSlotted (set ss p s) c.match-slot.self-inside.places.entries
     × (length us ≤ spare c.match-slot.self-inside.places) × (c.match-slot.self-inside.steps ≡ None) = elim c.match-slot.branch [
       | in-Some-slot w ↦
-          let one : Key × Template = (w.in-Some-slot.key, w.in-Some-slot.field-0-1) in
+          let one : Key × Template = (w.in-Some-slot.key, w.in-Some-slot.template) in
           let apart : IsApart (set ss p (Some one)) = subst (λ (z : Option (Key × Template)). IsApart (set ss p z)) w.in-Some-slot.is last.2 in
           let ok = w.insert.ensures.succeeds (omega (arith, count, out.2)) in
           let updates = on_ok _ w.insert.result ok w.insert.ensures.updates in
@@ -85,13 +84,22 @@ loop-place-preserved-after-slot c =
             out.3,
           )
     ] in
-    let ext : c.match-slot.self-inside.extents.entries ≡ c.loop-place.self-inside.extents.entries = elim c.match-slot.branch [
-      | in-Some-slot w ↦ rw w.self-inside-is (elim c.match-index.branch [ in-Some-index v ↦ rw v.self-inside-is refl | in_default-index v ↦ rw v.self-inside-is refl ])
-      | in_default-slot w ↦ rw w.self-inside-is (elim c.match-index.branch [ in-Some-index v ↦ rw v.self-inside-is refl | in_default-index v ↦ rw v.self-inside-is refl ])
+    let base : IsCovered ss c.match-index.self-inside.kinds.entries (Some c.loop-place.steps.items) = elim c.match-index.branch [
+      | in-Some-index v ↦ rw v.self-inside-is c.loop-place.invariant.covered
+      | in_default-index v ↦ rw v.self-inside-is c.loop-place.invariant.covered
+    ] in
+    let covered : IsCovered (set ss p s) c.match-slot.self-inside.kinds.entries (Some us) = elim c.match-slot.branch [
+      | in-Some-slot w ↦
+          let one : Key × Template = (w.in-Some-slot.key, w.in-Some-slot.template) in
+          rw w.self-inside-is (subst (λ (z : Option (Key × Template)). IsCovered (set ss p z) w.go_back.new.kinds.entries (Some us)) (sym w.in-Some-slot.is)
+          (covered_again ss _ w.go_back.new.kinds.entries us _ p one (items ∙ ap (λ (z : Option (Key × Template)). us ++ (p, z) ∷ []) w.in-Some-slot.is)
+          w.go_back.ensures.ahead w.go_back.ensures.among w.go_back.ensures.all base))
+      | in_default-slot w ↦
+          rw w.self-inside-is (subst (λ (z : Option (Key × Template)). IsCovered (set ss p z) c.match-index.self-inside.kinds.entries (Some us)) (sym w.in_default-slot.is)
+          (covered_back ss _ us _ p (items ∙ ap (λ (z : Option (Key × Template)). us ++ (p, z) ∷ []) w.in_default-slot.is) base))
     ] in
     record {
-      covered = covered_as (set ss p s) _ _ _ _ (ap (λ zs. set zs p s) after.0) refl (subst (λ (xs : List (Kind × Extent)). IsCovered (set ss p s) xs (Some us)) (sym ext)
-          (covered_back ss _ us _ p s items c.loop-place.invariant.covered));
+      covered = covered_as (set ss p s) _ _ _ _ (ap (λ zs. set zs p s) after.0) refl covered;
       kept = kept_as _ _ _ _ _ _ (ap (λ zs. set zs p s) after.0) refl (kept_back us p s ss c.match-slot.self-inside.places.entries (spare c.match-slot.self-inside.places) all after.1 after.2);
       before = ap (λ (zs : List (Option (Key × Template))). filled (undone us (set zs p s))) after.0 ∙ sym (ap filled (undone_last us p s ss))
           ∙ ap (λ (vs : List (Step Template)). filled (undone vs ss)) (sym items) ∙ c.loop-place.invariant.before;
@@ -124,7 +132,7 @@ loop-place-preserved c =
     let after : (c.match-slot.self-inside.slots.items ≡ ss) × IsSlotted (set ss p s) c.match-slot.self-inside.places.entries
     × (length us ≤ spare c.match-slot.self-inside.places) × (c.match-slot.self-inside.steps ≡ None) = elim c.match-slot.branch [
       | in-Some-slot w ↦
-          let one : Key × Template = (w.in-Some-slot.key, w.in-Some-slot.field-0-1) in
+          let one : Key × Template = (w.in-Some-slot.key, w.in-Some-slot.template) in
           let apart : IsApart (set ss p (Some one)) = subst (λ (z : Option (Key × Template)). IsApart (set ss p z)) w.in-Some-slot.is last.2 in
           let ok = w.insert.ensures.succeeds (omega (arith, count, out.2)) in
           let updates = on_ok _ w.insert.result ok w.insert.ensures.updates in
@@ -144,13 +152,22 @@ loop-place-preserved c =
             out.3,
           )
     ] in
-    let ext : c.match-slot.self-inside.extents.entries ≡ c.loop-place.self-inside.extents.entries = elim c.match-slot.branch [
-      | in-Some-slot w ↦ rw w.self-inside-is (elim c.match-index.branch [ in-Some-index v ↦ rw v.self-inside-is refl | in_default-index v ↦ rw v.self-inside-is refl ])
-      | in_default-slot w ↦ rw w.self-inside-is (elim c.match-index.branch [ in-Some-index v ↦ rw v.self-inside-is refl | in_default-index v ↦ rw v.self-inside-is refl ])
+    let base : IsCovered ss c.match-index.self-inside.kinds.entries (Some c.loop-place.steps.items) = elim c.match-index.branch [
+      | in-Some-index v ↦ rw v.self-inside-is c.loop-place.invariant.covered
+      | in_default-index v ↦ rw v.self-inside-is c.loop-place.invariant.covered
+    ] in
+    let covered : IsCovered (set ss p s) c.match-slot.self-inside.kinds.entries (Some us) = elim c.match-slot.branch [
+      | in-Some-slot w ↦
+          let one : Key × Template = (w.in-Some-slot.key, w.in-Some-slot.template) in
+          rw w.self-inside-is (subst (λ (z : Option (Key × Template)). IsCovered (set ss p z) w.go_back.new.kinds.entries (Some us)) (sym w.in-Some-slot.is)
+          (covered_again ss _ w.go_back.new.kinds.entries us _ p one (items ∙ ap (λ (z : Option (Key × Template)). us ++ (p, z) ∷ []) w.in-Some-slot.is)
+          w.go_back.ensures.ahead w.go_back.ensures.among w.go_back.ensures.all base))
+      | in_default-slot w ↦
+          rw w.self-inside-is (subst (λ (z : Option (Key × Template)). IsCovered (set ss p z) c.match-index.self-inside.kinds.entries (Some us)) (sym w.in_default-slot.is)
+          (covered_back ss _ us _ p (items ∙ ap (λ (z : Option (Key × Template)). us ++ (p, z) ∷ []) w.in_default-slot.is) base))
     ] in
     record {
-      covered = covered_as (set ss p s) _ _ _ _ (ap (λ zs. set zs p s) after.0) refl (subst (λ (xs : List (Kind × Extent)). IsCovered (set ss p s) xs (Some us)) (sym ext)
-          (covered_back ss _ us _ p s items c.loop-place.invariant.covered));
+      covered = covered_as (set ss p s) _ _ _ _ (ap (λ zs. set zs p s) after.0) refl covered;
       kept = kept_as _ _ _ _ _ _ (ap (λ zs. set zs p s) after.0) refl (kept_back us p s ss c.match-slot.self-inside.places.entries (spare c.match-slot.self-inside.places) all after.1 after.2);
       before = ap (λ (zs : List (Option (Key × Template))). filled (undone us (set zs p s))) after.0 ∙ sym (ap filled (undone_last us p s ss))
           ∙ ap (λ (vs : List (Step Template)). filled (undone vs ss)) (sym items) ∙ c.loop-place.invariant.before;

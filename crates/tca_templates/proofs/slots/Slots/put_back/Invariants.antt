@@ -6,7 +6,7 @@ use Rattle.tca_templates.proofs.slots.Slots.put_back.Given as goal
 abbrev pub invariant-loop-place : goal.invariant-loop-place
 invariant-loop-place l = record {
   kept : IsKept l.self-inside.slots.items l.self-inside.places.entries (spare l.self-inside.places) (Some l.steps.items);
-  covered : IsCovered l.self-inside.slots.items l.self-inside.extents.entries (Some l.steps.items);
+  covered : IsCovered l.self-inside.slots.items l.self-inside.kinds.entries (Some l.steps.items);
   before : filled (undone l.steps.items l.self-inside.slots.items) ≡ filled (undone l.initial.steps.items l.initial.self-inside.slots.items);
   none : l.self-inside.steps ≡ None;
 }

@@ -1,34 +1,41 @@
-use Rattle.std.proofs.Common.{◌≡◌, ◌<◌, ◌+◌, ℕ, List, true, not, subst, cond, length, set, refl, ap, sym, arith, ◌∙◌, add-one}
+use Rattle.std.proofs.Common.{◌≡◌, ◌<◌, ◌+◌, inl, inr, ℕ, List, true, false, subst, length, refl, ap, sym, arith, ◌∙◌, add-one}
 use Rattle.std.specs.Prelude.{Option, Some, None, slice_get, is_some, if◌then◌else◌}
 use mathlib.Core.Bool.{beq}
 use Rattle.std.proofs.lemmas.Option.{slice_get_read, slice_get_within}
 use Rattle.tca_templates.specs.declared.template.Template.{Template}
+use Rattle.tca_templates.specs.declared.ids.Ids.{Ids}
 use Rattle.tca_templates.specs.Templates.{Key, withdraw_all}
 use Rattle.tca_templates.specs.Fields.{SlotsView, entries_of}
-use Rattle.tca_templates.specs.Slotted.{filled, place_of, Step, before_of, IsWithin}
-use Rattle.tca_templates.proofs.Stored.{stays_there, templates-filter, goes, other_kind, other_domain}
-use Rattle.tca_templates.proofs.SlotLaws.{kept_length, kept_get, kept_stays, kept_goes, leads_back}
-use Rattle.tca_templates.proofs.StepLaws.{kept_as, kept_room, kept_out, before_put, no_steps}
-use Rattle.tca_templates.specs.declared.slots.Extent.{Extent}
-use Rattle.tca_templates.proofs.CoverLaws.{covered_put, covered_as, kept_front, kept_rest, kept_pass, passes, forgotten}
-use Rattle.tca_templates.proofs.slots.Slots.withdraw_all.Goals.{in-Some-index+then-key-domain+then-template-options+in_ok-make_room, in-Some-index+else-key-domain, else-key-domain-via-then-key-domain+else-template-options, else-key-domain-via-else-key-domain, in_default-index}
+use Rattle.tca_templates.specs.Slotted.{filled, place_of, Step, before_of, IsAhead, IsSlotted}
+use Rattle.tca_templates.proofs.Stored.{stays_there, templates-filter, goes, other_kind}
+use Rattle.tca_templates.proofs.SlotLaws.{IsThinned, thinned_same, thinned_all, thinned_out, leads_back}
+use Rattle.tca_templates.proofs.StepLaws.{kept_as, kept_room, kept_out, before_put}
+use Rattle.tca_templates.proofs.CoverLaws.{covered_put, covered_as, passes, passed_over, steps_still, leaves, stays_out, put_gone, next, some_is, is_beq, isnt_beq}
+use Rattle.tca_templates.proofs.slots.Slots.withdraw_all.Goals.{in-Some-place_of_kind+in_ok-make_room, in_default-place_of_kind}
 use Rattle.tca_templates.proofs.slots.Slots.withdraw_all.Goals as goal
 
+pub returns-in_default-clause-ok : goal.returns-in_default-clause-ok
+returns-in_default-clause-ok c =
+    let known = ap (λ (v : SlotsView). v.known) c.self.view_is in
+    let test = stays_there c.args.domain c.args.options in
+    let old = c.self.inside.slots.items in
+    ap entries_of (sym known) ∙ ap entries_of (thinned_all test old old (thinned_same test old) (λ j e here.
+    passes c.self.inside.kinds.entries c.args.domain c.args.options e (c.self.invariant.1.slots_in j (Some e) here)
+    (λ ahead _. absurd (subst (λ (o : Option Ids). IsAhead o e.0.1) (sym c.in_default.ensures.value) ahead))))
+    ∙ templates-filter (filled old) c.args.domain c.args.options
+    ∙ ap (λ (es : List (Key × Template)). withdraw_all c.args.domain c.args.options (entries_of es)) known
+
 pub loop-i-init : goal.loop-i-init
-loop-i-init c =
-    let ss = c.self.inside.slots.items in
-    let xs = c.self.inside.extents.entries in
-    let found = c.in-Some.ensures.value in
-    record {
-      slotted = c.self.invariant.0;
-      covered = c.self.invariant.1;
-      extents = refl;
-      before = refl;
-      kept = sym (kept_front (stays_there c.args.domain c.args.options) c.in-Some.extent.now.first ss (λ j e lt here.
-          passes ss xs c.args.domain c.args.options c.self.invariant.1.slots_in j e here (λ within.
-          let in_it = subst (λ (o : Option Extent). IsWithin o j) (sym found) within in
-          omega (arith, lt, in_it.0))));
-    }
+loop-i-init c = record {
+  slotted = c.self.invariant.0;
+  covered = c.self.invariant.1;
+  before = refl;
+  thinned = thinned_same (stays_there c.args.domain c.args.options) c.self.inside.slots.items;
+  gone = λ n id le lt here. absurd (omega (arith, le, lt));
+}
+
+pub place_of_kind-requires : goal.place_of_kind-requires
+place_of_kind-requires c = subst (λ (ss : List (Option (Key × Template))). IsSlotted ss c.loop-i.self-inside.1.1.0.entries) (sym c.deref.ensures.value) c.loop-i.invariant.slotted.slotted
 
 pub invariant_of-self : goal.invariant_of-self
 invariant_of-self c = (
@@ -36,143 +43,101 @@ invariant_of-self c = (
   covered_as _ _ _ _ _ refl c.make_room.ensures.steps c.loop-i.invariant.covered,
 )
 
-pub index-requires : goal.index-requires
-index-requires c =
-    let same = ap length c.loop-i.invariant.kept ∙ kept_length (stays_there c.args.domain c.args.options) c.loop-i.i c.self.inside.slots.items in
-    omega (arith, same, c.loop-i-test.true, c.end_behind-end.ensures.within, c.len.ensures)
+pub returns-in_err-make_room-clause-before : goal.returns-in_err-make_room-clause-before
+returns-in_err-make_room-clause-before c =
+    ap (λ (o : Option (List (Step Template))). before_of o c.loop-i.self-inside.1.0.items) c.make_room.ensures.steps
+    ∙ c.loop-i.invariant.before ∙ ap (λ (v : SlotsView). v.before) c.self.view_is
 
 pub put-requires-clause-place : goal.put-requires-clause-place
 put-requires-clause-place c =
-    let same = ap length c.loop-i.invariant.kept ∙ kept_length (stays_there c.args.domain c.args.options) c.loop-i.i c.self.inside.slots.items in
-    omega (arith, same, c.loop-i-test.true, c.end_behind-end.ensures.within, c.len.ensures)
+    let xs = c.loop-i.self-inside.1.0.items in
+    let there = c.in-Some-place_of_kind.ensures.some.1 in
+    slice_get_within xs c.in-Some-place_of_kind.found _ (ap (λ (ss : List (Option (Key × Template))). slice_get ss c.in-Some-place_of_kind.found) (sym c.deref.ensures.value) ∙ there)
 
 pub loop-i-preserved : goal.loop-i-preserved
 loop-i-preserved c =
     let test = stays_there c.args.domain c.args.options in
-    let xs = c.loop-i.self-inside.slots.items in
+    let xs = c.loop-i.self-inside.1.0.items in
     let old = c.self.inside.slots.items in
+    let ids = c.in-Some.ids.now.all.items in
     let i = c.loop-i.i in
-    let same = ap length c.loop-i.invariant.kept ∙ kept_length test i old in
-    let lt : i < length xs = omega (arith, same, c.loop-i-test.true, c.end_behind-end.ensures.within, c.len.ensures) in
-    let here : slice_get xs i ≡ Some c.index.result.now = slice_get_read xs (length xs) i c.index.result.now refl lt c.index.ensures in
-    let first : slice_get old i ≡ Some c.index.result.now = sym (kept_get test i old) ∙ ap (λ zs. slice_get zs i) (sym c.loop-i.invariant.kept) ∙ here in
-    elim c.match-index.branch [
-      | in-Some-index+then-key-domain+then-template-options+in_ok-make_room w ↦
-          let one : Key × Template = (w.in-Some-index.key, w.in-Some-index.template) in
-          let there : slice_get xs i ≡ Some (Some one) = here ∙ ap (λ s. Some s) w.in-Some-index.is in
-          let place : place_of one.0 xs ≡ Some i = leads_back xs i one c.loop-i.invariant.slotted.slotted.apart there in
+    let id = c.index.result.now in
+    let key : Key = (c.args.domain, id) in
+    let read : slice_get ids i ≡ Some id = slice_get_read ids (length ids) i id refl (omega (arith, c.loop-i-test.true, c.len-i-end.ensures)) c.index.ensures in
+    elim c.match-place_of_kind.branch [
+      | in-Some-place_of_kind+in_ok-make_room w ↦
+          let p = w.in-Some-place_of_kind.found in
+          let some = w.in-Some-place_of_kind.ensures.some in
+          let one : Key × Template = (key, some.0) in
+          let there : slice_get xs p ≡ Some (Some one) = ap (λ (ss : List (Option (Key × Template))). slice_get ss p) (sym c.deref.ensures.value) ∙ some.1 in
+          let lt : p < length xs = slice_get_within xs p (Some one) there in
+          let place : place_of key xs ≡ Some p = leads_back xs p one c.loop-i.invariant.slotted.slotted.apart there in
           let room = kept_room xs _ w.make_room.new.places.entries _ _ _ _ c.loop-i.invariant.slotted w.make_room.ensures.places w.make_room.ensures.steps w.make_room.ensures.spare in
-          let found : w.swap_remove.result ≡ Some i = w.swap_remove.ensures.value ∙ room.slotted.found one.0 ∙ place in
+          let found : w.swap_remove.result ≡ Some p = w.swap_remove.ensures.value ∙ room.slotted.found key ∙ place in
           let count = sym (ap (λ (r : Option ℕ). length w.swap_remove.new.self.entries + (if is_some r then 1 else 0)) found) ∙ w.swap_remove.ensures.len in
-          let gone = goes one.0.0 c.args.domain (beq one.1.options c.args.options) w.if-key-domain.true w.if-template-options.true in
+          let out : test one ≡ false = goes c.args.domain c.args.domain (beq some.0.options c.args.options) refl (is_beq some.0.options c.args.options some.2) in
           rw (w.self-inside-is, add-one) (record {
             slotted = kept_as _ _ _ _ _ _ w.put.ensures.slots w.put.ensures.steps
-                (kept_out one.0 xs _ _ _ _ _ i room place w.swap_remove.ensures.updates.0 count w.in_ok-make_room.ensures.room w.swap_remove.ensures.room.0);
-            covered = covered_put xs _ _ _ _ _ i None w.put.ensures.slots w.put.ensures.steps w.make_room.ensures.steps lt c.loop-i.invariant.covered tt;
-            extents = c.loop-i.invariant.extents;
-            before = before_put _ _ _ xs _ i None w.put.ensures.steps w.put.ensures.slots w.make_room.ensures.steps ∙ c.loop-i.invariant.before;
-            kept = w.put.ensures.slots ∙ ap (λ zs. set zs i None) c.loop-i.invariant.kept
-                ∙ sym (kept_goes test i old (Some one) (first ∙ ap (λ s. Some s) w.in-Some-index.is) (ap (λ b. cond b (Some one) None) gone));
+                (kept_out key xs _ _ _ _ _ p room place w.swap_remove.ensures.updates.0 count w.in_ok-make_room.ensures.room w.swap_remove.ensures.room.0);
+            covered = covered_put xs _ _ _ _ _ p None w.put.ensures.slots w.put.ensures.steps w.make_room.ensures.steps lt c.loop-i.invariant.covered tt;
+            before = before_put _ _ _ xs _ p None w.put.ensures.steps w.put.ensures.slots w.make_room.ensures.steps ∙ c.loop-i.invariant.before;
+            thinned = subst (λ (ss : List (Option (Key × Template))). IsThinned test old ss) (sym w.put.ensures.slots) (thinned_out test old xs p one c.loop-i.invariant.thinned there out);
+            gone = λ n m le less listed j t here.
+                let stood = put_gone xs _ p j ((c.args.domain, m), t) w.put.ensures.slots here in
+                elim (next n i less) [
+                  | inl front ↦ c.loop-i.invariant.gone n m le front listed j t stood
+                  | inr at ↦
+                      let same : m ≡ id = some_is m id (sym listed ∙ ap (slice_get ids) at ∙ read) in
+                      let two : Key × Template = ((c.args.domain, m), t) in
+                      let to : place_of two.0 xs ≡ Some j = leads_back xs j two c.loop-i.invariant.slotted.slotted.apart stood in
+                      let with_id : ℕ → Key = λ k. (c.args.domain, k) in
+                      let at_p : j ≡ p = some_is j p (sym to ∙ ap (λ (k : ℕ). place_of (with_id k) xs) same ∙ place) in
+                      absurd (stays_out xs _ p j two w.put.ensures.slots lt here at_p)
+                ];
           })
-      | in-Some-index+else-key-domain w ↦
-          let one : Key × Template = (w.in-Some-index.key, w.in-Some-index.template) in
-          let there = first ∙ ap (λ s. Some s) w.in-Some-index.is in
-          elim w.else-key-domain.branch [
-            | else-key-domain-via-then-key-domain+else-template-options v ↦
-                let stay = other_kind one.0.0 c.args.domain (beq one.1.options c.args.options) v.if-template-options.false in
-                rw (w.self-inside-is, v.self-inside-is, add-one) (record {
-                  slotted = c.loop-i.invariant.slotted;
-                  covered = c.loop-i.invariant.covered;
-                  extents = c.loop-i.invariant.extents;
-                  before = c.loop-i.invariant.before;
-                  kept = c.loop-i.invariant.kept ∙ sym (kept_stays test i old (Some one) there (ap (λ b. cond b (Some one) None) stay));
-                })
-            | else-key-domain-via-else-key-domain v ↦
-                let stay = other_domain one.0.0 c.args.domain (beq one.1.options c.args.options) v.if-key-domain.false in
-                rw (w.self-inside-is, v.self-inside-is, add-one) (record {
-                  slotted = c.loop-i.invariant.slotted;
-                  covered = c.loop-i.invariant.covered;
-                  extents = c.loop-i.invariant.extents;
-                  before = c.loop-i.invariant.before;
-                  kept = c.loop-i.invariant.kept ∙ sym (kept_stays test i old (Some one) there (ap (λ b. cond b (Some one) None) stay));
-                })
-          ]
-      | in_default-index w ↦
+      | in_default-place_of_kind w ↦
           rw (w.self-inside-is, add-one) (record {
             slotted = c.loop-i.invariant.slotted;
             covered = c.loop-i.invariant.covered;
-            extents = c.loop-i.invariant.extents;
             before = c.loop-i.invariant.before;
-            kept = c.loop-i.invariant.kept ∙ sym (kept_stays test i old None (first ∙ ap (λ s. Some s) w.in_default-index.is) refl);
+            thinned = c.loop-i.invariant.thinned;
+            gone = λ n m le less listed j t here. elim (next n i less) [
+              | inl front ↦ c.loop-i.invariant.gone n m le front listed j t here
+              | inr at ↦
+                  let same : m ≡ id = some_is m id (sym listed ∙ ap (slice_get ids) at ∙ read) in
+                  let with_id : ℕ → Option (Option (Key × Template)) = λ k. Some (Some ((c.args.domain, k), t)) in
+                  let there = ap (λ (ss : List (Option (Key × Template))). slice_get ss j) c.deref.ensures.value ∙ here ∙ ap with_id same in
+                  other_kind c.args.domain c.args.domain (beq t.options c.args.options) (isnt_beq t.options c.args.options (c.place_of_kind.ensures.none w.in_default-place_of_kind.is j t there))
+            ];
           })
     ]
 
-pub returns-then-is_none-clause-ok : goal.returns-then-is_none-clause-ok
-returns-then-is_none-clause-ok c =
-    let known = ap (λ (v : SlotsView). v.known) c.self.view_is in
-    let test = stays_there c.args.domain c.args.options in
-    let old = c.self.inside.slots.items in
-    let xs = c.self.inside.extents.entries in
-    ap (λ ss. entries_of (filled ss)) c.loop-i.invariant.kept
-    ∙ ap entries_of (kept_rest test c.loop-i.i old (λ j e le here. passes old xs c.args.domain c.args.options c.self.invariant.1.slots_in j e here (λ within.
-    let in_it = subst (λ (o : Option Extent). IsWithin o j) (sym c.in-Some.ensures.value) within in
-    omega (arith, in_it.1, c.end_behind-end.ensures.all j (omega (arith, le, c.loop-i-test.false)) (omega (arith, slice_get_within old j (Some e) here, c.len.ensures))))))
-    ∙ templates-filter (filled old) c.args.domain c.args.options
-    ∙ ap (λ (es : List (Key × Template)). withdraw_all c.args.domain c.args.options (entries_of es)) known
-
-pub returns-then-is_none-clause-before : goal.returns-then-is_none-clause-before
-returns-then-is_none-clause-before c = c.loop-i.invariant.before ∙ ap (λ (v : SlotsView). v.before) c.self.view_is
-
-pub returns-else-is_none-clause-ok : goal.returns-else-is_none-clause-ok
-returns-else-is_none-clause-ok c =
-    let known = ap (λ (v : SlotsView). v.known) c.self.view_is in
-    let test = stays_there c.args.domain c.args.options in
-    let old = c.self.inside.slots.items in
-    let xs = c.self.inside.extents.entries in
-    ap (λ ss. entries_of (filled ss)) c.loop-i.invariant.kept
-    ∙ ap entries_of (kept_rest test c.loop-i.i old (λ j e le here. passes old xs c.args.domain c.args.options c.self.invariant.1.slots_in j e here (λ within.
-    let in_it = subst (λ (o : Option Extent). IsWithin o j) (sym c.in-Some.ensures.value) within in
-    omega (arith, in_it.1, c.end_behind-end.ensures.all j (omega (arith, le, c.loop-i-test.false)) (omega (arith, slice_get_within old j (Some e) here, c.len.ensures))))))
-    ∙ templates-filter (filled old) c.args.domain c.args.options
-    ∙ ap (λ (es : List (Key × Template)). withdraw_all c.args.domain c.args.options (entries_of es)) known
-
-pub returns-else-is_none-clause-before : goal.returns-else-is_none-clause-before
-returns-else-is_none-clause-before c = c.loop-i.invariant.before ∙ ap (λ (v : SlotsView). v.before) c.self.view_is
-
-pub returns-in_default-clause-ok : goal.returns-in_default-clause-ok
-returns-in_default-clause-ok c =
-    let known = ap (λ (v : SlotsView). v.known) c.self.view_is in
-    let test = stays_there c.args.domain c.args.options in
-    let old = c.self.inside.slots.items in
-    let xs = c.self.inside.extents.entries in
-    ap entries_of (sym known) ∙ ap entries_of (kept_rest test 0 old (λ j e le here. passes old xs c.args.domain c.args.options c.self.invariant.1.slots_in j e here (λ within.
-    subst (λ (o : Option Extent). IsWithin o j) (sym c.in_default.ensures.value) within)))
-    ∙ templates-filter (filled old) c.args.domain c.args.options
-    ∙ ap (λ (es : List (Key × Template)). withdraw_all c.args.domain c.args.options (entries_of es)) known
-
-pub invariant_of-self-then-is_none : goal.invariant_of-self-then-is_none
-invariant_of-self-then-is_none c =
-    let test = stays_there c.args.domain c.args.options in
-    let old = c.self.inside.slots.items in
-    let xs = c.self.inside.extents.entries in
-    let ss = c.loop-i.self-inside.slots.items in
-    let none = c.is_none.ensures ∙ ap not c.if-is_none.true in
-    let gone : (j : ℕ) (e : Key × Template) → slice_get ss j ≡ Some (Some e) → test e ≡ true = λ j e here.
-    kept_pass test c.loop-i.i old (λ k f le there. passes old xs c.args.domain c.args.options c.self.invariant.1.slots_in k f there (λ within.
-    let in_it = subst (λ (o : Option Extent). IsWithin o k) (sym c.in-Some.ensures.value) within in
-    omega (arith, in_it.1, c.end_behind-end.ensures.all k (omega (arith, le, c.loop-i-test.false)) (omega (arith, slice_get_within old k (Some f) there, c.len.ensures)))))
-    j e (ap (λ zs. slice_get zs j) (sym c.loop-i.invariant.kept) ∙ here) in (
+pub invariant_of-self-2 : goal.invariant_of-self-2
+invariant_of-self-2 c =
+    let ss = c.loop-i.self-inside.1.0.items in
+    let gone : (j : ℕ) (e : Key × Template) → slice_get ss j ≡ Some (Some e) → stays_there c.args.domain c.args.options e ≡ true = λ j e here.
+    passes c.self.inside.kinds.entries c.args.domain c.args.options e (c.loop-i.invariant.covered.slots_in j (Some e) here) (λ ahead same.
+    let found = subst (λ (o : Option Ids). IsAhead o e.0.1) (sym c.in-Some.ensures.value) ahead in
+    leaves c.args.domain c.args.options ss e j same here (c.loop-i.invariant.gone found.0 e.0.1 found.1 (omega (arith, c.loop-i-test.false, c.len-i-end.ensures, slice_get_within _ found.0 _ found.2)) found.2)) in (
       c.loop-i.invariant.slotted,
       record {
-        slots_in = forgotten ss c.loop-i.self-inside.extents.entries _ c.args.domain c.args.options c.loop-i.invariant.covered.slots_in gone c.swap_remove-then-is_none.ensures.updates.0;
-        steps_in = no_steps _ c.loop-i.self-inside.steps _ none;
+        slots_in = passed_over ss _ _ c.args.domain c.args.options c.loop-i.invariant.covered.slots_in gone c.pass_over.ensures.others;
+        steps_in = steps_still _ _ c.pass_over.ensures.among _ c.loop-i.invariant.covered.steps_in;
       },
     )
 
-pub invariant_of-self-else-is_none : goal.invariant_of-self-else-is_none
-invariant_of-self-else-is_none c = (c.loop-i.invariant.slotted, c.loop-i.invariant.covered)
+pub returns-clause-ok : goal.returns-clause-ok
+returns-clause-ok c =
+    let known = ap (λ (v : SlotsView). v.known) c.self.view_is in
+    let test = stays_there c.args.domain c.args.options in
+    let old = c.self.inside.slots.items in
+    let ss = c.loop-i.self-inside.1.0.items in
+    ap entries_of (thinned_all test old ss c.loop-i.invariant.thinned (λ j e here.
+    passes c.self.inside.kinds.entries c.args.domain c.args.options e (c.loop-i.invariant.covered.slots_in j (Some e) here) (λ ahead same.
+    let found = subst (λ (o : Option Ids). IsAhead o e.0.1) (sym c.in-Some.ensures.value) ahead in
+    leaves c.args.domain c.args.options ss e j same here (c.loop-i.invariant.gone found.0 e.0.1 found.1 (omega (arith, c.loop-i-test.false, c.len-i-end.ensures, slice_get_within _ found.0 _ found.2)) found.2))))
+    ∙ templates-filter (filled old) c.args.domain c.args.options
+    ∙ ap (λ (es : List (Key × Template)). withdraw_all c.args.domain c.args.options (entries_of es)) known
 
-pub returns-in_err-make_room-clause-before : goal.returns-in_err-make_room-clause-before
-returns-in_err-make_room-clause-before c =
-    ap (λ (o : Option (List (Step Template))). before_of o c.loop-i.self-inside.slots.items) c.make_room.ensures.steps
-    ∙ c.loop-i.invariant.before ∙ ap (λ (v : SlotsView). v.before) c.self.view_is
+pub returns-clause-before : goal.returns-clause-before
+returns-clause-before c = c.loop-i.invariant.before ∙ ap (λ (v : SlotsView). v.before) c.self.view_is
