@@ -1,7 +1,5 @@
 -- What the command `audit` prints, and what it is refused for.
-use Rattle.std.specs.Prelude.{◌≡◌, ◌⊎◌, ℕ, Bool, true, false, List, None}
-use Rattle.tca_report.specs.Faults.{export_number}
-use Rattle.tca_accounts.specs.Faults.{plan_number}
+use Rattle.std.specs.Prelude.{◌≡◌, ◌⊎◌, ℕ, Bool, true, false, List}
 use Rattle.tca_accounts.specs.declared.fault.PlanFault.{PlanFault}
 use Rattle.tca_audit.specs.Audits.{IsAudited, IsFaultyPlan, IsRefused, IsRefusedUnder}
 use Rattle.tca_audit.specs.declared.fault.AuditFault.{AuditFault}
@@ -9,10 +7,9 @@ use Rattle.tca_audit.specs.declared.fault.AuditFault.TheVariants as fault
 use Rattle.tca_audit.specs.declared.verdict.Verdict.{Verdict}
 use Rattle.tca_audit.specs.declared.verdict.Verdict.TheVariants.{Agrees, Differs}
 use Rattle.tca_program.specs.declared.fault.RunFault.{RunFault}
-use Rattle.tca_program.specs.declared.fault.Family.TheVariants as family
 use Rattle.tca_program.specs.Devices.{Device, IsCutOff, Receives}
 use Rattle.tcacct.specs.Texts.{audit_text}
-use Rattle.tca_program.specs.Runs.{is_write, memory_refusal, refusal, write_refusal}
+use Rattle.tca_program.specs.Runs.{audit_refusal, is_write, memory_refusal, write_refusal}
 
 -- whether a verdict is that the statement agrees
 abbrev pub is_agreement : Verdict → Bool

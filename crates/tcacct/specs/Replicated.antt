@@ -11,8 +11,6 @@ use Rattle.tca_report.specs.declared.input.InputFault.{InputFault}
 use Rattle.tca_report.specs.declared.input.InputFault.TheVariants.{Memory}
 use Rattle.tca_report.specs.declared.input.Notes.{Notes}
 use Rattle.tca_accounts.specs.Plans.{AccountPlan}
-use Rattle.tca_accounts.specs.Faults.{plan_number}
-use Rattle.tca_accounts.specs.declared.fault.PlanFault.{PlanFault}
 use Rattle.tca_ingest.specs.Entries.{EntryView, Took}
 use Rattle.tca_ingest.specs.EntryViews.{entry_view}
 use Rattle.tca_gossip.specs.Answers.{absorb_number}

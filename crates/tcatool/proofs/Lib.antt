@@ -1,0 +1,5 @@
+pub mod Pieces
+pub mod Differing
+pub mod Partition
+pub mod DiffEnds
+pub mod LineExamples

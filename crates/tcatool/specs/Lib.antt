@@ -1,0 +1,6 @@
+pub mod Commands
+pub mod Lines
+pub mod Endings
+pub mod Csv
+pub mod ReportLines
+pub mod Diffed

@@ -1,0 +1,48 @@
+//! The commands of the program, for `clap`.
+ghost use Rattle.std.specs.Prelude.{◌≡◌, IfOk, false};
+ghost use Rattle.clap.specs.Words.{app_of};
+ghost use Rattle.clap.specs.declared.builder.command.Command.TheViews.{out-Command as fields_of};
+ghost use Rattle.tcatool.specs.Commands.{diff_command, program};
+
+use clap::Command;
+use std::alloc::{AllocError, Global};
+use tca_program::{named, one_word};
+
+const ABOUT: &str = "Reconciles two collections of reports";
+
+const AFTER: &str = "Example: tcatool diff ours.tcax theirs.tcax
+
+Exit status: 0 done, 1 refused (one line on standard error says what and where) or, of diff,
+what was compared differs, 2 wrong command line.";
+
+const DIFF: &str = "Prints the reports that only one of two inputs has";
+
+const DIFF_AFTER: &str = "One line of CSV a report, in the order of time, under the header
+side,time,domain,session,place,octets,dscp,interface, where side is A or B. A line on standard
+error counts the reports that only A has, that only B has, and that both have. Reports are
+compared as wholes: two reports of one identity that differ are a line each.
+
+An input is a log export or a capture, and N@PATH one of session N, as `tcacct meter --help`
+says. Exit status: 0 where no report differs, 1 where some do or an input is refused.
+
+Example: tcatool diff ours.tcax theirs.tcax";
+
+fn diff<'a>(alloc: Global) -> Result<Command<'a>, AllocError>
+    ensures { IfOk result (λ c. (app_of c ≡ diff_command)
+        × ((fields_of c).has_globals ≡ false)) }
+{
+    let command = named(alloc, "diff", DIFF, DIFF_AFTER);
+    let command = command.arg(one_word(alloc, "A", "a file of reports, PATH or N@PATH"))?;
+    Ok(command.arg(one_word(alloc, "B", "another one"))?)
+}
+
+/// The program's command line, for clap.
+pub(crate) fn program<'a>(alloc: Global) -> Result<Command<'a>, AllocError>
+    ensures { IfOk result (λ c. app_of c ≡ program) }
+{
+    let command = Command::new(alloc, "tcatool")
+        .about(ABOUT)
+        .after_help(AFTER)
+        .subcommand_required(true);
+    Ok(command.subcommand(diff(alloc)?)?)
+}

@@ -1,0 +1,17 @@
+//! The word of a fault line.
+ghost use Rattle.std.specs.Prelude.{◌≡◌};
+ghost use Rattle.tcatool.specs.Endings.{word_of};
+ghost use Rattle.tcatool.specs.Lines.{order_of};
+
+use crate::line::Line;
+use tca_program::RunFault;
+
+/// The word that a fault line names: the input that was refused; where none was, the command's name.
+pub fn word_of<'a>(line: &Line<'a>, fault: RunFault) -> &'a str
+    ensures { result.now ≡ word_of (order_of line.now) fault }
+{
+    if let Some(n) = fault.input {
+        return line.file(n).unwrap_or(line.command());
+    }
+    line.command()
+}

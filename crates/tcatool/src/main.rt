@@ -1,0 +1,42 @@
+//! `tcatool`: for who looks at usage, reconciles two collections, or has more than one log holds.
+//!
+//! `shell` reads the command line and the files, calls the command's function, and prints the one line
+//! of a refusal. The commands are functions over octets and writers, each in a file of its own, and carry the contracts, as does the
+//! word of that line.
+//!
+//! - `commands`, `line`, `ending`: the command line, what it asks for, and the word of a fault line;
+//! - `diff`: the command; `cell`, `row`, `report_line`: lines of CSV that go out in pieces.
+#![tactic(auto)]
+
+mod cell;
+mod commands;
+mod diff;
+mod ending;
+mod laws;
+mod line;
+mod report_line;
+mod row;
+mod shell;
+#[cfg(test)]
+mod tests;
+
+use shell::{NAME, run_words};
+use std::io;
+use std::process::ExitCode;
+use tca_program::{Ending, end, words_of};
+use tca_report::Host;
+
+fn main(rt: HostRuntime) -> ExitCode {
+    let mut errors = rt.stderr();
+    let status = match words_of(&rt) {
+        Ok(words) => run_words(&rt, &words, &mut Host::new(io::writer(&rt)), &mut errors),
+        Err(fault) => end(
+            &Ending::NoCommand {
+                program: NAME,
+                fault,
+            },
+            &mut errors,
+        ),
+    };
+    ExitCode::from(status)
+}
