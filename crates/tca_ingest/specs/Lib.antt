@@ -7,3 +7,4 @@ pub mod EntryViews
 pub mod Faults
 pub mod Closing
 pub mod Works
+pub mod JournalLaws

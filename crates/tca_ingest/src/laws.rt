@@ -1,5 +1,5 @@
 //! What a journal of calls says of the replica on which they were made, and of the passes that made them.
-ghost use Rattle.std.specs.Prelude.{◌≡◌, ◌≢◌, ◌↔◌, ◌⊎◌, ◌||◌, cond, true, ℕ, Option, None, Result, List, [], ◌∷◌, ◌++◌, length, take};
+ghost use Rattle.std.specs.Prelude.{◌≡◌, ◌≢◌, ◌↔◌, ◌||◌, cond, ℕ, Option, None, Result, List, [], ◌∷◌, ◌++◌, length, take};
 ghost use Rattle.std.specs.List.{All, AllPairs};
 ghost use Rattle.tca_report.specs.report.Reports.{PacketReport, report_cmp};
 ghost use Rattle.tca_join.specs.Sets.{has};
@@ -9,26 +9,26 @@ ghost use Rattle.tca_log.specs.declared.fault.LogFault.{LogFault};
 ghost use Rattle.tca_accounts.specs.Plans.{AccountPlan};
 ghost use Rattle.tca_accounts.specs.Bills.{bill_of};
 ghost use Rattle.tca_accounts.specs.declared.bill.Bill.{Bill};
-ghost use Rattle.tca_gossip.specs.Replicas.{ReplicaView, IsReplica, new_replica, taken, chain_of, fresh_of, of};
-ghost use Rattle.tca_gossip.specs.Runs.{RunView, IsOutcome, absorbed, delta_of, rests, same_report, summary_count};
+ghost use Rattle.tca_gossip.specs.Replicas.{ReplicaView, IsReplica, taken, chain_of, fresh_of, of};
+ghost use Rattle.tca_gossip.specs.Runs.{RunView, absorbed, same_report};
 ghost use Rattle.tca_gossip.specs.Coupling.{IsCoupled, counts_of};
-ghost use Rattle.tca_gossip.specs.Answers.{IsStopAt, IsStopOf, outcome_of};
 ghost use Rattle.tca_gossip.specs.Machines.{IsWorld, Shows};
 ghost use Rattle.tca_gossip.specs.declared.fault.AbsorbFault.{AbsorbFault};
-ghost use Rattle.tca_ingest.specs.Entries.{EntryView, Took, Absorbed, Answered, Asked, Sent};
-ghost use Rattle.tca_ingest.specs.Journals.{IsHistory, IsRight, AreRight, lists, list_of, own, part, after, took_in, gained_by};
-ghost use Rattle.tca_ingest.specs.Passes.{PassView, AreClosing, IsInterleaving, AllOwned, IsFound, AreMissing, IsDiffering, IsAnswered, IsAsked, IsSent, calls_of, count_of, lists_of};
+ghost use Rattle.tca_ingest.specs.Entries.{EntryView, Took, Absorbed, Answered, Asked};
+ghost use Rattle.tca_ingest.specs.Journals.{IsHistory, IsRight, AreRight, lists, own, part, after};
+ghost use Rattle.tca_ingest.specs.Passes.{PassView, AreClosing, IsInterleaving, AllOwned, IsFound, AreMissing, IsDiffering, IsAnswered, IsAsked, calls_of, count_of, lists_of};
+ghost use Rattle.tca_ingest.specs.JournalLaws.{StartsHistory, TakeGoesOn, AbsorbGoesOn, BillGoesOn, SummaryGoesOn, DeltaGoesOn, DeltaIsRight, DeltaWasSent, AgreeInLogs, AgreeInBills, AbsorbAddsToParts, LogHasTakesAndParts};
 ghost use Rattle.tca_ingest.specs.Closed.{ClosedView, AreClosed, AgreeAll, IsClash, replicas_of, clash_all, world_of};
 
 /// The empty journal is the history of a new replica. What a call of a replica answers makes an entry with which its journal goes on
 /// being its history.
 pub fn entry_laws()
-    ensures new { (plan : AccountPlan) (name : ℕ) → IsHistory plan name (new_replica plan name) [] }
-    ensures took { (plan : AccountPlan) (name : ℕ) (v : ReplicaView) (journal : List EntryView) → IsHistory plan name v journal → (w : ReplicaView) (pass : ℕ) (reports : List PacketReport) (at fresh : ℕ) (stop : Option LogFault) → w ≡ taken v (take at reports) → fresh ≡ length (fresh_of v.log (take at reports)) → IsStopAt w.log reports at stop → IsHistory plan name w (journal ++ Took pass (take at reports) fresh stop ∷ []) }
-    ensures absorbed { (plan : AccountPlan) (name : ℕ) (v : ReplicaView) (journal : List EntryView) → IsHistory plan name v journal → (w : ReplicaView) (pass : ℕ) (runs : List RunView) (result : Result ℕ AbsorbFault) → w ≡ absorbed v runs (outcome_of result) → IsOutcome v.name (chain_of v) runs (outcome_of result) → IsStopOf w (rests (chain_of v) runs) result → IsHistory plan name w (journal ++ Absorbed pass runs result ∷ []) }
-    ensures answered { (plan : AccountPlan) (name : ℕ) (v : ReplicaView) (journal : List EntryView) → IsHistory plan name v journal → (pass : ℕ) (bill : Bill) → bill ≡ bill_of v.plan v.log → IsHistory plan name v (journal ++ Answered pass bill ∷ []) }
-    ensures asked { (plan : AccountPlan) (name : ℕ) (v : ReplicaView) (journal : List EntryView) → IsHistory plan name v journal → (pass : ℕ) (summary : List (ℕ × ℕ)) → summary ≡ counts_of v.chains → IsHistory plan name v (journal ++ Asked pass summary ∷ []) }
-    ensures sent { (plan : AccountPlan) (name : ℕ) (v : ReplicaView) (journal : List EntryView) → IsHistory plan name v journal → (pass : ℕ) (since : List (ℕ × ℕ)) (delta : List RunView) → delta ≡ delta_of (summary_count since) v.chains → IsHistory plan name v (journal ++ Sent pass since delta ∷ []) }
+    ensures new { StartsHistory }
+    ensures took { TakeGoesOn }
+    ensures absorbed { AbsorbGoesOn }
+    ensures answered { BillGoesOn }
+    ensures asked { SummaryGoesOn }
+    ensures sent { DeltaGoesOn }
 {}
 
 /// A replica holds just what its history lists: in its log all reports, in its own chain those that were new when they were taken, and in
@@ -42,7 +42,7 @@ pub fn history_laws()
     ensures parts { (plan : AccountPlan) (name : ℕ) (v : ReplicaView) (journal : List EntryView) → IsHistory plan name v journal → (origin : ℕ) → origin ≢ name → chain_of v origin ≡ part name journal origin }
     ensures bill { (plan : AccountPlan) (name : ℕ) (v : ReplicaView) (journal : List EntryView) → IsHistory plan name v journal → bill_of v.plan v.log ≡ bill_of plan (after name journal) }
     ensures asked { (plan : AccountPlan) (name : ℕ) (v : ReplicaView) (journal : List EntryView) → IsHistory plan name v journal → (pass : ℕ) (summary : List (ℕ × ℕ)) → IsRight plan name (lists name journal) (Asked pass summary) ↔ (summary ≡ counts_of v.chains) }
-    ensures sent { (plan : AccountPlan) (name : ℕ) (v : ReplicaView) (journal : List EntryView) → IsHistory plan name v journal → (pass : ℕ) (since : List (ℕ × ℕ)) (delta : List RunView) → IsRight plan name (lists name journal) (Sent pass since delta) ↔ (delta ≡ delta_of (summary_count since) v.chains) }
+    ensures sent { DeltaIsRight }
 {}
 
 /// Passes close a journal just where together they have as many entries as it has and each pass has the journal's entries of its
@@ -55,7 +55,7 @@ pub fn close_laws()
     ensures interleaves { (journal : List EntryView) (passes : List PassView) → AreClosing journal passes → IsInterleaving (lists_of passes) journal }
     ensures answers { (plan : AccountPlan) (name : ℕ) (journal calls rest : List EntryView) (number pass : ℕ) (bill : Bill) → AreRight plan name journal → calls_of number journal ≡ calls ++ Answered pass bill ∷ rest → IsAnswered plan name journal calls number pass bill }
     ensures asked { (plan : AccountPlan) (name : ℕ) (journal calls rest : List EntryView) (number pass : ℕ) (summary : List (ℕ × ℕ)) → AreRight plan name journal → calls_of number journal ≡ calls ++ Asked pass summary ∷ rest → IsAsked name journal calls number pass summary }
-    ensures sent { (plan : AccountPlan) (name : ℕ) (journal calls rest : List EntryView) (number pass : ℕ) (since : List (ℕ × ℕ)) (delta : List RunView) → AreRight plan name journal → calls_of number journal ≡ calls ++ Sent pass since delta ∷ rest → IsSent name journal calls number pass since delta }
+    ensures sent { DeltaWasSent }
     ensures owned { (journal : List EntryView) (passes : List PassView) → AreClosing journal passes ↔ ((count_of passes ≡ length journal) × AllOwned journal [] passes) }
     ensures found { (journal : List EntryView) (passes : List PassView) → AllPairs (λ p q. p.number ≢ q.number) passes → All (IsFound journal) passes → count_of passes ≡ length journal → AreClosing journal passes }
     ensures missing { (journal : List EntryView) (passes : List PassView) (counted given : ℕ) → AreMissing journal passes counted given → AreClosing journal passes → ⊥ }
@@ -70,8 +70,8 @@ pub fn closed_laws()
     ensures shows { (vs : List ReplicaView) → AreClosed vs → All (λ v. Shows (world_of vs) v.name v) vs }
     ensures state { (plan : AccountPlan) (cs : List ClosedView) → AreClosed (replicas_of cs) → All (λ c. IsHistory plan c.replica.name c.replica c.journal) cs → IsCoupled (world_of (replicas_of cs)) (record { plan = plan; replicas = replicas_of cs; sent = [] }) }
     ensures arrivals { (plan : AccountPlan) (cs : List ClosedView) → AllPairs (λ v w. v.name ≢ w.name) (replicas_of cs) → All (λ c. IsHistory plan c.replica.name c.replica c.journal) cs → All (λ c. (world_of (replicas_of cs)).arrivals c.replica.name ≡ own c.replica.name c.journal) cs }
-    ensures logs { (plan : AccountPlan) (n k : ℕ) (v w : ReplicaView) (mine other : List EntryView) → IsHistory plan n v mine → IsHistory plan k w other → AgreeAll v w → ((o : ℕ) → length (chain_of v o) ≡ length (chain_of w o)) → v.log ≡ w.log }
-    ensures bills { (plan : AccountPlan) (n k : ℕ) (v w : ReplicaView) (mine other : List EntryView) → IsHistory plan n v mine → IsHistory plan k w other → AgreeAll v w → ((o : ℕ) → length (chain_of v o) ≡ length (chain_of w o)) → bill_of plan (after n mine) ≡ bill_of plan (after k other) }
+    ensures logs { AgreeInLogs }
+    ensures bills { AgreeInBills }
     ensures clash { (vs : List ReplicaView) → All IsReplica vs → IsClash vs (clash_all vs) }
     ensures test { (v w : ReplicaView) → IsReplica w → (clash_key (differ_at same_report) v.chains w.chains ≡ None) ↔ AgreeAll v w }
 {}
@@ -84,7 +84,7 @@ pub fn list_laws()
     ensures own_took { (name : ℕ) (journal : List EntryView) (pass : ℕ) (reports : List PacketReport) (fresh : ℕ) (stop : Option LogFault) → own name (journal ++ Took pass reports fresh stop ∷ []) ≡ own name journal ++ fresh_of (after name journal) reports }
     ensures own_absorbed { (name : ℕ) (journal : List EntryView) (pass : ℕ) (runs : List RunView) (result : Result ℕ AbsorbFault) → own name (journal ++ Absorbed pass runs result ∷ []) ≡ own name journal }
     ensures part_took { (name : ℕ) (journal : List EntryView) (pass : ℕ) (reports : List PacketReport) (fresh : ℕ) (stop : Option LogFault) (o : ℕ) → part name (journal ++ Took pass reports fresh stop ∷ []) o ≡ part name journal o }
-    ensures part_absorbed { (name : ℕ) (journal : List EntryView) (pass : ℕ) (runs : List RunView) (result : Result ℕ AbsorbFault) (o : ℕ) → part name (journal ++ Absorbed pass runs result ∷ []) o ≡ part name journal o ++ of o (gained_by result (rests (list_of name (lists name journal)) runs)) }
-    ensures after { (plan : AccountPlan) (name : ℕ) (journal : List EntryView) (q : PacketReport) → AreRight plan name journal → (has report_cmp (after name journal) q ≡ true) ↔ ((has report_cmp (took_in journal) q ≡ true) ⊎ ((o : ℕ) × (o ≢ name) × (has report_cmp (part name journal o) q ≡ true))) }
+    ensures part_absorbed { AbsorbAddsToParts }
+    ensures after { LogHasTakesAndParts }
     ensures each { (plan : AccountPlan) (name : ℕ) (before rest : List EntryView) (e : EntryView) → AreRight plan name (before ++ e ∷ rest) → IsRight plan name (lists name before) e }
 {}

@@ -3,6 +3,7 @@ mod books;
 mod lanes;
 mod memory;
 mod random;
+mod settled;
 
 use std::alloc::{AllocError, Allocator, Global};
 use tca_accounts::Tally;

@@ -128,7 +128,7 @@ fn a_late_report_is_metered_in_its_term(rt: HostRuntime) -> Result<(), Fail> {
     Ok(())
 }
 
-fn some_reports(alloc: Global, numbers: &mut Numbers) -> Result<Vec<Report>, Fail> {
+pub(super) fn some_reports(alloc: Global, numbers: &mut Numbers) -> Result<Vec<Report>, Fail> {
     let mut list = Vec::new(alloc);
     for _ in 0..numbers.below(40) {
         let report = some_report(numbers, 40).ok_or("a report")?;

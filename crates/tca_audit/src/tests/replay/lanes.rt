@@ -13,7 +13,7 @@ use tca_report::Report;
 
 // A meter that counts the packets that it is offered.
 #[derive(Drop)]
-struct Counting {
+pub(super) struct Counting {
     meter: SrTcm,
     offers: Arc<AtomicU64, Global>,
 }
@@ -92,7 +92,7 @@ fn single_rate_tally(alloc: Global, lane: &Lane<Counting>) -> Option<Tally> {
     fresh_tally(alloc, meter, lane.rows()).ok()
 }
 
-fn new_counting(offers: &Arc<AtomicU64, Global>) -> Option<Counting> {
+pub(super) fn new_counting(offers: &Arc<AtomicU64, Global>) -> Option<Counting> {
     let Some(meter) = single_rate() else {
         return None;
     };
