@@ -4,8 +4,8 @@
 //! observation domain and an interface whose reports it owns. A bill is a definition of a plan and a set of
 //! reports: the reports that no other disputes go to the accounts that own them, each account's meter colours
 //! its reports in their order from time 0 on, and octets and packets are summed by colour, in all and by
-//! period. The meter changes at the starts of the account's terms, each time with full buckets. One pass over the log serves all accounts, and a report's account is found in a table, or else by a
-//! search in a map.
+//! period. The meter changes at the starts of the account's terms, each time with full buckets. One pass over the
+//! log serves all accounts, and a report's account is found in a table, or else by a search in a map.
 //!
 //! - `plan`, `account`, `owners`, `pair`: a plan, its accounts, and which of them owns a report;
 //! - `reading`: a plan read from a text; beneath it `document` (the values of a table), `draft`, `meters`, `pairs` and

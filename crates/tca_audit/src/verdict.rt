@@ -8,7 +8,7 @@ pub enum Verdict {
     Agrees,
     /// They aren't.
     Differs {
-        /// The offset of the first octet that is another, or the length of the shorter text where that goes on in
+        /// The offset of the first octet that differs, or the length of the shorter text where that goes on in
         /// the longer one.
         at: u64,
     },

@@ -11,7 +11,7 @@ module _ {V : Type 0} {proper : V → Type 0} {clash : V → V → Option ℕ} {
   abbrev Below : V → V → Type 0
   Below a b = Has a b × same (joined a b) b
 
-  -- by commuting twice round the other law
+  -- from the other law, by commuting before it and after it
   pub associates_back : AssociatesBack proper clash full same joined
   associates_back a b c p q r bc abc =
       let cb = laws.commutes b c q r bc in

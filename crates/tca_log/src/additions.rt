@@ -28,7 +28,7 @@ impl<A: Allocator + Copy> Model for Additions<A> {
 }
 
 impl<A: Allocator + Copy> Additions<A> {
-    /// Nothing with_report yet.
+    /// No additions yet.
     pub(crate) fn new(alloc: A) -> Additions<A>
         ensures { result ≡ record { fresh = []; newly_disputed = [] } }
     {
@@ -38,7 +38,8 @@ impl<A: Allocator + Copy> Additions<A> {
         }
     }
 
-    /// Additions one more report.
+    /// Enters one more report: as the first content of its identity, or its identity as one that becomes disputed. A
+    /// further content of such an identity changes nothing.
     pub(crate) fn add(
         &mut self,
         index: &Rows<ByIdentity, A>,

@@ -123,7 +123,7 @@ start_above last (s ∷ ss) t e h =
     (λ k. let same : s.0 ≡ t = eqb-true s.0 t k in omega (arith, above, same))
     (λ k. let rest : s.0 < t = start_above s.0 ss t first.others k in omega (arith, above, rest)) h
 
--- from before a start to the start or after it another term begins
+-- where a term begins in an interval, more terms have started by its end than by its start
 more_terms : (last : ℕ) (later : List (ℕ × AnyMeter)) (t : ℕ) → ascend_from last later ≡ true → list_any (λ (s : ℕ × AnyMeter). eqb s.0 t) later ≡ true → (a b : ℕ) → a < t → t ≤ b
     → prefix_len (λ (s : ℕ × AnyMeter). leb s.0 a) later < prefix_len (λ (s : ℕ × AnyMeter). leb s.0 b) later
 more_terms last [] t e h a b low high = absurd (false≢true h)

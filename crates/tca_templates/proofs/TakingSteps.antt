@@ -1,4 +1,4 @@
--- One record more in the hands of a taker.
+-- One record more that a taker holds.
 use Rattle.std.proofs.Common.{◌≡◌, ℕ, suc, ◌+◌, ◌%◌, ◌<◌, ◌≤◌, List, [], ◌∷◌, ◌++◌, length, drop, Some, None, Result, Bool, refl, subst, sym, ap, ap₂, ◌∙◌, arith, length-append}
 use Rattle.tca_wire.specs.Walks.{walk, Next}
 use Rattle.tca_templates.specs.declared.source.Source.{Source}

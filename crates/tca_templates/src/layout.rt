@@ -91,7 +91,7 @@ impl Choice {
     }
 }
 
-// Keeps the spot that was found, or else that of this field where it is one of the chosen element.
+// Keeps the spot that was found, or else that of this field where it is of the chosen element.
 #[inline(always)]
 fn keep(spot: &mut Option<Spot>, chosen: Option<u16>, spec: &FieldSpec, at: usize, length: usize)
     ensures { spot.new ≡ option_or spot.old (spot_if chosen spec.now at length) }

@@ -6,7 +6,7 @@ use Rattle.std.specs.Io.KnownBytes.{Consumes}
 abbrev pub most_failures : ℕ
 most_failures = 2 ^ 64 - 1
 
--- one more was counted, or the count stands at its end, where each call fails
+-- one more was counted, or the count is the highest, at which each call fails
 abbrev pub Rises : ℕ → ℕ → Type 0
 Rises old new = (new ≡ old + 1) ⊎ ((old ≡ most_failures) × (new ≡ old))
 

@@ -64,7 +64,7 @@ fn decode_fault(at: u64, fault: DecodeFault) -> InputFault
     }
 }
 
-// Counts a record that is no report. No count comes to its end where there are fewer than 2^64 records.
+// Counts a record that is no report. No count wraps where there are fewer than 2^64 records.
 fn count_reason(counts: &mut [u64; 7], reason: NotReport)
     ensures { (reasons : List NotReport) → counts.old ≡ counts_of reasons → length reasons + 1 < 2 ^ 64 → counts.new ≡ counts_of (reasons ++ reason ∷ []) }
 {

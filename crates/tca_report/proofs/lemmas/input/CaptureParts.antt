@@ -33,7 +33,7 @@ all_on at so_far a b now e = all_both at so_far a b ∙ ap (λ (r : Result Captu
 pub all_stop : (at : ℕ) (so_far : CaptureSoFar) (a b : List (List ℕ)) (fault : InputFault) → capture_after at so_far a ≡ Err fault → capture_after at so_far (a ++ b) ≡ Err fault
 all_stop at so_far a b fault e = all_both at so_far a b ∙ ap (λ (r : Result CaptureSoFar InputFault). (r >>= (λ next. capture_after (at + length (concat a)) next b))) e
 
--- octets behind a fault don't mend it
+-- a faulty header stays faulty, whatever octets follow it
 pub still_faulty : (octets more : List ℕ) (fault : WireFault) → IsFaulty octets fault → IsFaulty (octets ++ more) fault
 still_faulty octets more (BadVersion v) bad =
     (omega (arith, bad.0, length-append octets more), version_front octets more bad.0 ∙ bad.1, bad.2)
