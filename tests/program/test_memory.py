@@ -17,12 +17,12 @@ FAMILIES = (b"memory 1", b"plan 8", b"log 2", b"share 3", b"work 5", b"work 3", 
 
 # Tests that hold whether one growth is refused or not.
 HOLDS = {
-    "tca_audit": (
+    "tca_core_tests": (
         "tests::gossip::memory::a_take_that_was_refused_is_completed",
         "tests::gossip::memory::an_absorb_that_was_refused_is_completed",
         "tests::gossip::memory::a_merge_that_was_refused_is_completed",
-        "tests::statements::issues_what_has_changed",
     ),
+    "tca_audit": ("tests::statements::issues_what_has_changed",),
     "tcacct": (
         "tests::shared::memory::a_take_that_was_refused_is_completed",
         "tests::shared::jobs_memory::workers_that_were_refused_close",

@@ -1,24 +1,8 @@
-//! Audits from outside, by reports whose colours were found by hand, and by statements of the bill; and, each in a module of its own,
-//! joins, messages, templates, reports with exports and devices, inputs, captures of other exporters, logs, buckets, meters, plans and
-//! bills, lanes and books, replicas, and statements, whose crates have no tests.
-mod accounts;
-mod buckets;
-mod exporters;
-mod gossip;
-mod inputs;
-mod join;
-mod log;
-mod meters;
-mod plain;
-mod replay;
-mod reports;
-mod samples;
+//! Audits from outside, by reports whose colours were found by hand, and by statements of the bill; and, in a module of its own, statements,
+//! whose crate has no tests.
 mod statements;
-mod templates;
-mod wire;
 
 use crate::{AuditFault, Verdict, audit, audit_under};
-use samples::{TERM, part, three_reports, three_without_sessions};
 use std::alloc::{AllocError, Global};
 use tca_accounts::{Bill, Key, Plan, PlanFault, bill_all};
 use tca_log::Log;
@@ -43,6 +27,10 @@ const EXACT: &str =
 const BELOW: &str =
     "meter = \"rfc4115\"\nexact_fit = false\ncir = 1000\ncbs = 1000\neir = 1000\nebs = 1000\n";
 
+// A term of RFC 2697 with smaller bursts, from the time of the second of the first reports on.
+const TERM: &str = "\
+[[account.term]]\nfrom = 1700000000100\nmeter = \"rfc2697\"\ncir = 1000\ncbs = 1000\nebs = 1000\n";
+
 // A place, milliseconds after the first report, octets, a code point, and an interface, in domain 7.
 type Row = (u32, u64, u32, u8, u32);
 
@@ -52,8 +40,16 @@ const FIRST: [Row; 3] = [
     (2, 200, 800, 0, 1),
 ];
 
-const THREE: &str =
-    "tcacct statement 1\nperiod 3600000\nreports 3\ndisputed 0\nunassigned 0\naccount alpha\ntotal 1500 1 1000 1 800 1\nspan 472222 1500 1 1000 1 800 1\nend\n";
+// The export of these as version 1, which has no sessions.
+const FIRST_WITHOUT_SESSIONS: &[u8] = b"\
+TCAX\x00\x01\x00\x00\x00\x03\
+\x00\x00\x01\x8b\xcf\xe5\x68\x00\x00\x00\x00\x07\x00\x00\x00\x00\x00\x00\x05\xdc\x00\x00\x00\x00\x01\
+\x00\x00\x01\x8b\xcf\xe5\x68\x64\x00\x00\x00\x07\x00\x00\x00\x01\x00\x00\x03\xe8\x00\x00\x00\x00\x01\
+\x00\x00\x01\x8b\xcf\xe5\x68\xc8\x00\x00\x00\x07\x00\x00\x00\x02\x00\x00\x03\x20\x00\x00\x00\x00\x01";
+
+const THREE: &str = "\
+tcacct statement 1\nperiod 3600000\nreports 3\ndisputed 0\nunassigned 0\naccount alpha\ntotal 1500 1 1000 1 800 1\n\
+span 472222 1500 1 1000 1 800 1\nend\n";
 
 fn joined(alloc: Global, parts: &[&str]) -> Result<String, AllocError> {
     let mut text = String::new(alloc);
@@ -143,8 +139,9 @@ fn tells_where_a_statement_differs(rt: HostRuntime) {
     let alloc = rt.alloc();
     let right = THREE.as_bytes();
     assert!(rt; found_blind(alloc, right) == Some(Verdict::Agrees));
-    let other =
-        "tcacct statement 1\nperiod 3600000\nreports 3\ndisputed 0\nunassigned 0\naccount alpha\ntotal 1501 1 1000 1 800 1\nspan 472222 1500 1 1000 1 800 1\nend\n";
+    let other = "\
+tcacct statement 1\nperiod 3600000\nreports 3\ndisputed 0\nunassigned 0\naccount alpha\ntotal 1501 1 1000 1 800 1\n\
+span 472222 1500 1 1000 1 800 1\nend\n";
     let verdict = found_blind(alloc, other.as_bytes());
     assert!(rt; verdict == Some(Verdict::Differs { at: 91 }));
     let Some(cut) = right.get(..143) else {
@@ -161,7 +158,7 @@ fn tells_where_a_statement_differs(rt: HostRuntime) {
 
 // Why the audit of the right statement is refused where the last octet of the export is cut off.
 fn refused_cut(alloc: Global, plan: &[u8], export: &[u8]) -> Option<AuditFault> {
-    let cut = part(export, 0, export.len().saturating_sub(1));
+    let cut = export.get(..export.len().saturating_sub(1)).unwrap_or(b"");
     audit(alloc, plan, cut, THREE.as_bytes()).err()
 }
 
@@ -171,8 +168,11 @@ fn refuses_the_plan_before_the_export(rt: HostRuntime) {
     let Ok(plan) = joined(alloc, &[HEAD, BLIND]) else {
         panic!(rt; "a plan");
     };
+    let Some(export) = exported(alloc, &FIRST) else {
+        panic!(rt; "an export");
+    };
     let wrong = PlanFault::Wrong { key: Key::Period };
-    for export in [three_reports(), three_without_sessions()] {
+    for export in [export.as_slice(), FIRST_WITHOUT_SESSIONS] {
         let verdict = audit(alloc, plan.as_bytes(), export, THREE.as_bytes());
         assert!(rt; verdict == Ok(Verdict::Agrees));
         let refused = refused_cut(alloc, plan.as_bytes(), export);
@@ -186,8 +186,8 @@ fn refuses_the_plan_before_the_export(rt: HostRuntime) {
 fn agrees_with_late_and_disputed_reports(rt: HostRuntime) {
     let alloc = rt.alloc();
     let late = [FIRST[0], (3, 50, 600, 0, 1), FIRST[1], FIRST[2]];
-    let lines =
-        "reports 4\ndisputed 0\nunassigned 0\naccount alpha\ntotal 1500 1 600 1 1800 2\nspan 472222 1500 1 600 1 1800 2\n";
+    let lines = "\
+reports 4\ndisputed 0\nunassigned 0\naccount alpha\ntotal 1500 1 600 1 1800 2\nspan 472222 1500 1 600 1 1800 2\n";
     assert!(rt; found(alloc, BLIND, &late, lines) == Some(Verdict::Agrees));
     let two = [
         FIRST[0],
@@ -196,8 +196,8 @@ fn agrees_with_late_and_disputed_reports(rt: HostRuntime) {
         FIRST[1],
         FIRST[2],
     ];
-    let lines =
-        "reports 5\ndisputed 1\nunassigned 0\naccount alpha\ntotal 1500 1 1000 1 800 1\nspan 472222 1500 1 1000 1 800 1\n";
+    let lines = "\
+reports 5\ndisputed 1\nunassigned 0\naccount alpha\ntotal 1500 1 1000 1 800 1\nspan 472222 1500 1 1000 1 800 1\n";
     assert!(rt; found(alloc, BLIND, &two, lines) == Some(Verdict::Agrees));
     let three = [
         FIRST[0],
@@ -207,16 +207,17 @@ fn agrees_with_late_and_disputed_reports(rt: HostRuntime) {
         FIRST[1],
         FIRST[2],
     ];
-    let lines =
-        "reports 6\ndisputed 1\nunassigned 0\naccount alpha\ntotal 1500 1 1000 1 800 1\nspan 472222 1500 1 1000 1 800 1\n";
+    let lines = "\
+reports 6\ndisputed 1\nunassigned 0\naccount alpha\ntotal 1500 1 1000 1 800 1\nspan 472222 1500 1 1000 1 800 1\n";
     assert!(rt; found(alloc, BLIND, &three, lines) == Some(Verdict::Agrees));
     let hours = [
         (2, 0, 50, 0, 2),
         (0, 2_799_999, 100, 0, 1),
         (1, 2_800_000, 100, 0, 1),
     ];
-    let lines =
-        "reports 3\ndisputed 0\nunassigned 1\naccount alpha\ntotal 200 2 0 0 0 0\nspan 472222 100 1 0 0 0 0\nspan 472223 100 1 0 0 0 0\n";
+    let lines = "\
+reports 3\ndisputed 0\nunassigned 1\naccount alpha\ntotal 200 2 0 0 0 0\nspan 472222 100 1 0 0 0 0\n\
+span 472223 100 1 0 0 0 0\n";
     assert!(rt; found(alloc, BLIND, &hours, lines) == Some(Verdict::Agrees));
 }
 
@@ -300,7 +301,8 @@ const IN_A_TERM: [(&[Row], &str); 5] = [
             (3, 100, 600, 0, 1),
             (2, 200, 800, 0, 1),
         ],
-        "reports 4\ndisputed 0\nunassigned 0\naccount alpha\ntotal 2500 2 600 1 800 1\nspan 472222 2500 2 600 1 800 1\n",
+        "\
+reports 4\ndisputed 0\nunassigned 0\naccount alpha\ntotal 2500 2 600 1 800 1\nspan 472222 2500 2 600 1 800 1\n",
     ),
 ];
 
@@ -315,8 +317,8 @@ fn agrees_with_late_reports_in_a_term(rt: HostRuntime) {
 fn agrees_with_each_meter(rt: HostRuntime) {
     let alloc = rt.alloc();
     let same = [(0, 0, 1000, 0, 1), (1, 0, 1000, 0, 1), (2, 0, 1000, 0, 1)];
-    let lines =
-        "reports 3\ndisputed 0\nunassigned 0\naccount alpha\ntotal 1000 1 1000 1 1000 1\nspan 472222 1000 1 1000 1 1000 1\n";
+    let lines = "\
+reports 3\ndisputed 0\nunassigned 0\naccount alpha\ntotal 1000 1 1000 1 1000 1\nspan 472222 1000 1 1000 1 1000 1\n";
     assert!(rt; found(alloc, EXACT, &same, lines) == Some(Verdict::Agrees));
     let lines =
         "reports 3\ndisputed 0\nunassigned 0\naccount alpha\ntotal 0 0 0 0 3000 3\nspan 472222 0 0 0 0 3000 3\n";
@@ -337,8 +339,14 @@ fn agrees_with_each_meter(rt: HostRuntime) {
 }
 
 // Three accounts, one with each kind of meter. Interface 4 has none.
-const SEVERAL: &str =
-    "period = 700\n[[account]]\nname = \"a\"\nmeter = \"rfc2697\"\naware = true\nother = \"yellow\"\ncir = 1700\ncbs = 900\nebs = 700\nkeys = [[7, 1]]\n[[account]]\nname = \"b\"\nmeter = \"rfc2698\"\naware = true\npir = 2900\npbs = 1500\ncir = 1300\ncbs = 1100\nkeys = [[7, 2]]\n[[account]]\nname = \"c\"\nmeter = \"rfc4115\"\nexact_fit = false\ncir = 333\ncbs = 1200\neir = 1000000000000\nebs = 800\nkeys = [[7, 3]]\n";
+const SEVERAL: &str = "\
+period = 700\n\
+[[account]]\nname = \"a\"\nmeter = \"rfc2697\"\naware = true\nother = \"yellow\"\ncir = 1700\ncbs = 900\nebs = 700\n\
+keys = [[7, 1]]\n\
+[[account]]\nname = \"b\"\nmeter = \"rfc2698\"\naware = true\npir = 2900\npbs = 1500\ncir = 1300\ncbs = 1100\n\
+keys = [[7, 2]]\n\
+[[account]]\nname = \"c\"\nmeter = \"rfc4115\"\nexact_fit = false\ncir = 333\ncbs = 1200\neir = 1000000000000\n\
+ebs = 800\nkeys = [[7, 3]]\n";
 
 // Numbers that follow one another by a fixed rule.
 #[derive(Drop)]
@@ -357,13 +365,29 @@ impl Numbers {
         if bound == 0 { 0 } else { high % bound }
     }
 
+    fn code_point(&mut self) -> u8 {
+        let points = [0, 10, 12, 14, 46];
+        points.get(self.below(5) as usize).copied().unwrap_or(0)
+    }
+
     fn row(&mut self) -> Row {
         let place = self.below(6);
         let late = self.below(3000) as u64;
         let octets = self.below(1200).wrapping_add(1);
-        let points = [0, 10, 12, 14, 46];
-        let dscp = points.get(self.below(5) as usize).copied().unwrap_or(0);
+        let dscp = self.code_point();
         let iface = self.below(4).wrapping_add(1);
+        (place, late, octets, dscp, iface)
+    }
+
+    // One at a start of terms, or within a few milliseconds of it. Interface 5 is of no account.
+    fn row_in_terms(&mut self) -> Row {
+        let starts = [0, 141, 147, 284, 331];
+        let start = starts.get(self.below(5) as usize).copied().unwrap_or(0);
+        let place = self.below(40);
+        let late = (self.below(6) as u64).wrapping_add(start);
+        let octets = self.below(8).wrapping_add(1);
+        let dscp = self.code_point();
+        let iface = self.below(5).wrapping_add(1);
         (place, late, octets, dscp, iface)
     }
 }
@@ -388,23 +412,17 @@ fn report_in(session: u32, row: &Row) -> Option<Report> {
     Report::new(identity, content)
 }
 
-// A report of one of two sessions that have the same places.
-fn some_report(numbers: &mut Numbers) -> Option<Report> {
-    let session = numbers.below(2);
-    let row = numbers.row();
-    report_in(session, &row)
-}
-
-// A log of some reports: of those for the owners of the plain bill, or of larger ones.
-fn logged(alloc: Global, numbers: &mut Numbers, is_plain: bool) -> Option<Log> {
+// A log of some reports of two sessions that have the same places.
+fn logged(alloc: Global, numbers: &mut Numbers, in_terms: bool) -> Option<Log> {
     let mut log = Log::new(alloc);
-    for _ in 0..numbers.below(if is_plain { 40 } else { 14 }) {
-        let found = if is_plain {
-            plain::some_report(numbers, 40)
+    for _ in 0..numbers.below(if in_terms { 40 } else { 14 }) {
+        let session = numbers.below(2);
+        let row = if in_terms {
+            numbers.row_in_terms()
         } else {
-            some_report(numbers)
+            numbers.row()
         };
-        let Some(report) = found else {
+        let Some(report) = report_in(session, &row) else {
             return None;
         };
         if log.add(report).is_err() {
@@ -470,8 +488,8 @@ fn tells_a_change(
 }
 
 // The same of the statement of the bill of some reports.
-fn agrees(alloc: Global, plan: &Plan, numbers: &mut Numbers) -> bool {
-    let Some(log) = logged(alloc, numbers, false) else {
+fn agrees(alloc: Global, plan: &Plan, numbers: &mut Numbers, in_terms: bool) -> bool {
+    let Some(log) = logged(alloc, numbers, in_terms) else {
         return false;
     };
     agrees_of(alloc, plan, &log, numbers)
@@ -496,33 +514,47 @@ fn agrees_with_the_bill(rt: HostRuntime) {
     };
     let mut numbers = Numbers { state: 1 };
     for _ in 0..2_000 {
-        assert!(rt; agrees(alloc, &plan, &mut numbers));
+        assert!(rt; agrees(alloc, &plan, &mut numbers, false));
     }
 }
 
-// Whether the bill of some reports, under the plan with terms, is the plain one, and its statement's audit agrees.
-fn agrees_in_terms(alloc: Global, plan: &Plan, numbers: &mut Numbers) -> bool {
-    let Some(log) = logged(alloc, numbers, true) else {
-        return false;
-    };
-    let Ok(list) = plain::listed(alloc, log.reports()) else {
-        return false;
-    };
-    let Ok(bill) = bill_all(alloc, plan, &log) else {
-        return false;
-    };
-    plain::is_billed(&bill, &list) && agrees_of(alloc, plan, &log, numbers)
-}
+// Four accounts, of the interfaces 1 to 4: three terms, eight of them, one before all reports and one after, and none. Few of the rates
+// divide 1000, so that most tokens come between two milliseconds.
+const IN_TERMS: &str = "\
+period = 100\n\
+[[account]]\nname = \"a\"\nmeter = \"rfc2697\"\naware = true\nother = \"yellow\"\ncir = 333\ncbs = 5\nebs = 4\n\
+keys = [[7, 1]]\n\
+[[account.term]]\nfrom = 1700000000150\nmeter = \"rfc2698\"\npir = 1999\npbs = 9\ncir = 999\ncbs = 6\n\
+[[account.term]]\nfrom = 1700000000151\nmeter = \"rfc4115\"\naware = true\nexact_fit = false\ncir = 7\ncbs = 6\n\
+eir = 333\nebs = 5\n\
+[[account.term]]\nfrom = 1700000000288\nmeter = \"rfc2697\"\ncir = 999\ncbs = 3\nebs = 7\n\
+[[account]]\nname = \"b\"\nmeter = \"rfc2698\"\naware = true\npir = 2001\npbs = 7\ncir = 667\ncbs = 7\n\
+keys = [[7, 2]]\n\
+[[account.term]]\nfrom = 1700000000002\nmeter = \"rfc2697\"\ncir = 7\ncbs = 6\nebs = 5\n\
+[[account.term]]\nfrom = 1700000000003\nmeter = \"rfc2697\"\naware = true\ncir = 999\ncbs = 4\nebs = 8\n\
+[[account.term]]\nfrom = 1700000000005\nmeter = \"rfc4115\"\nexact_fit = true\ncir = 333\ncbs = 5\neir = 999\n\
+ebs = 5\n\
+[[account.term]]\nfrom = 1700000000144\nmeter = \"rfc2697\"\ncir = 3\ncbs = 8\nebs = 6\n\
+[[account.term]]\nfrom = 1700000000149\nmeter = \"rfc2698\"\npir = 333\npbs = 8\ncir = 7\ncbs = 8\n\
+[[account.term]]\nfrom = 1700000000152\nmeter = \"rfc4115\"\naware = true\nexact_fit = true\ncir = 999\ncbs = 4\n\
+eir = 7\nebs = 9\n\
+[[account.term]]\nfrom = 1700000000286\nmeter = \"rfc2698\"\naware = true\npir = 999\npbs = 6\ncir = 333\ncbs = 6\n\
+[[account.term]]\nfrom = 1700000000290\nmeter = \"rfc2697\"\ncir = 333\ncbs = 7\nebs = 7\n\
+[[account]]\nname = \"c\"\nmeter = \"rfc4115\"\nexact_fit = false\nother = \"red\"\ncir = 1999\ncbs = 6\neir = 1\n\
+ebs = 5\nkeys = [[7, 3]]\n\
+[[account.term]]\nfrom = 1\nmeter = \"rfc2697\"\naware = true\ncir = 999\ncbs = 7\nebs = 4\n\
+[[account.term]]\nfrom = 281474976710655\nmeter = \"rfc2697\"\ncir = 1\ncbs = 1\nebs = 1\n\
+[[account]]\nname = \"d\"\nmeter = \"rfc2698\"\npir = 1001\npbs = 8\ncir = 7\ncbs = 5\nkeys = [[7, 4]]\n";
 
 #[test]
-fn agrees_with_the_plain_bill_in_terms(rt: HostRuntime) {
+fn agrees_with_the_bill_in_terms(rt: HostRuntime) {
     let alloc = rt.alloc();
-    let Ok(plan) = Plan::from_text(alloc, plain::PLAN.as_bytes()) else {
+    let Ok(plan) = Plan::from_text(alloc, IN_TERMS.as_bytes()) else {
         panic!(rt; "a plan");
     };
     let mut numbers = Numbers { state: 16 };
     for list in 0..1_000 {
-        assert!(rt; agrees_in_terms(alloc, &plan, &mut numbers), "list {list}");
+        assert!(rt; agrees(alloc, &plan, &mut numbers, true), "list {list}");
     }
 }
 

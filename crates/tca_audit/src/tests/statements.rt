@@ -1,3 +1,4 @@
+//! Statements, and amounts that are issued.
 ghost use Rattle.std.specs.Prelude.{◌≡◌, length};
 
 use std::alloc::Global;
@@ -15,11 +16,13 @@ const START: u64 = 1_700_000_000_000;
 const SPAN: u64 = 472_222;
 
 // One account, RFC 2697 blind, with the traffic of one interface.
-const PLAN: &[u8] =
-    b"period = 3600000\n[[account]]\nname = \"alpha\"\nmeter = \"rfc2697\"\ncir = 1000\ncbs = 2000\nebs = 1000\nkeys = [[7, 1]]\n";
+const PLAN: &[u8] = b"\
+period = 3600000\n\
+[[account]]\nname = \"alpha\"\nmeter = \"rfc2697\"\ncir = 1000\ncbs = 2000\nebs = 1000\nkeys = [[7, 1]]\n";
 
-pub(super) const THREE: &str =
-    "tcacct statement 1\nperiod 3600000\nreports 3\ndisputed 0\nunassigned 0\naccount alpha\ntotal 1500 1 1000 1 800 1\nspan 472222 1500 1 1000 1 800 1\nend\n";
+const THREE: &str = "\
+tcacct statement 1\nperiod 3600000\nreports 3\ndisputed 0\nunassigned 0\naccount alpha\ntotal 1500 1 1000 1 800 1\n\
+span 472222 1500 1 1000 1 800 1\nend\n";
 
 const NONE: &str =
     "tcacct statement 1\nperiod 3600000\nreports 0\ndisputed 0\nunassigned 0\naccount alpha\ntotal 0 0 0 0 0 0\nend\n";
@@ -112,8 +115,9 @@ fn writes_the_text_of_a_bill(rt: HostRuntime) {
 }
 
 // Reports of which one is disputed by one other and by two, and those of two hours and of no account, each with its statement.
-const LATE_TEXT: &str =
-    "tcacct statement 1\nperiod 3600000\nreports 4\ndisputed 0\nunassigned 0\naccount alpha\ntotal 1500 1 600 1 1800 2\nspan 472222 1500 1 600 1 1800 2\nend\n";
+const LATE_TEXT: &str = "\
+tcacct statement 1\nperiod 3600000\nreports 4\ndisputed 0\nunassigned 0\naccount alpha\ntotal 1500 1 600 1 1800 2\n\
+span 472222 1500 1 600 1 1800 2\nend\n";
 
 const DISPUTED: [Row; 5] = [
     (0, 0, 1500, 1),
@@ -123,8 +127,9 @@ const DISPUTED: [Row; 5] = [
     (2, 200, 800, 1),
 ];
 
-const DISPUTED_TEXT: &str =
-    "tcacct statement 1\nperiod 3600000\nreports 5\ndisputed 1\nunassigned 0\naccount alpha\ntotal 1500 1 1000 1 800 1\nspan 472222 1500 1 1000 1 800 1\nend\n";
+const DISPUTED_TEXT: &str = "\
+tcacct statement 1\nperiod 3600000\nreports 5\ndisputed 1\nunassigned 0\naccount alpha\ntotal 1500 1 1000 1 800 1\n\
+span 472222 1500 1 1000 1 800 1\nend\n";
 
 const TWICE_DISPUTED: [Row; 6] = [
     (0, 0, 1500, 1),
@@ -135,8 +140,9 @@ const TWICE_DISPUTED: [Row; 6] = [
     (3, 70, 602, 1),
 ];
 
-const TWICE_DISPUTED_TEXT: &str =
-    "tcacct statement 1\nperiod 3600000\nreports 6\ndisputed 1\nunassigned 0\naccount alpha\ntotal 1500 1 1000 1 800 1\nspan 472222 1500 1 1000 1 800 1\nend\n";
+const TWICE_DISPUTED_TEXT: &str = "\
+tcacct statement 1\nperiod 3600000\nreports 6\ndisputed 1\nunassigned 0\naccount alpha\ntotal 1500 1 1000 1 800 1\n\
+span 472222 1500 1 1000 1 800 1\nend\n";
 
 const HOURS: [Row; 3] = [
     (0, 2_799_999, 100, 1),
@@ -144,8 +150,9 @@ const HOURS: [Row; 3] = [
     (2, 0, 50, 2),
 ];
 
-const HOURS_TEXT: &str =
-    "tcacct statement 1\nperiod 3600000\nreports 3\ndisputed 0\nunassigned 1\naccount alpha\ntotal 200 2 0 0 0 0\nspan 472222 100 1 0 0 0 0\nspan 472223 100 1 0 0 0 0\nend\n";
+const HOURS_TEXT: &str = "\
+tcacct statement 1\nperiod 3600000\nreports 3\ndisputed 0\nunassigned 1\naccount alpha\ntotal 200 2 0 0 0 0\n\
+span 472222 100 1 0 0 0 0\nspan 472223 100 1 0 0 0 0\nend\n";
 
 #[test]
 fn states_late_and_disputed_reports(rt: HostRuntime) {

@@ -1,5 +1,0 @@
-use Rattle.tca_replay.specs.Books.{Fits}
-use Rattle.tca_audit.proofs.tests.replay.books.take_each.Given as goal
-
-abbrev pub invariant-loop-report : goal.invariant-loop-report
-invariant-loop-report l = Fits l.log l.book
