@@ -22,6 +22,8 @@ of_run family.Share n h = refl
 of_run family.Work n h = refl
 of_run family.Close n h = refl
 of_run family.Absorb n h = refl
+of_run family.Statement n h = refl
+of_run family.Limits n h = refl
 of_run family.Write n h = absurd h
 of_run family.Memory n h = refl
 
