@@ -16,3 +16,4 @@ pub mod AnswerLaws
 pub mod Splitting
 pub mod Asking
 pub mod AuditLaws
+pub mod Walking
