@@ -5,7 +5,7 @@ use Rattle.tca_ingest.specs.declared.entry.Entry.{Entry}
 use Rattle.tca_ingest.specs.declared.entry.Entry.TheVariants.{Took, Absorbed, Answered, Asked, Sent}
 
 abbrev pub entry_view : Entry → EntryView
-entry_view (Took pass reports fresh stop) = took pass reports.items fresh stop
+entry_view (Took pass reports fresh stop) = took pass reports fresh stop
 entry_view (Absorbed pass runs result) = absorbed pass runs.items result
 entry_view (Answered pass bill) = answered pass bill
 entry_view (Asked pass summary) = asked pass summary

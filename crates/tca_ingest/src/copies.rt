@@ -5,6 +5,7 @@ ghost use Rattle.tca_ingest.specs.Entries.{Absorbed, Took};
 ghost use Rattle.tca_ingest.specs.EntryViews.{entry_view};
 
 use crate::entry::Entry;
+use crate::reports::Reports;
 use std::alloc::{AllocError, Global};
 use std::marker::Model;
 use tca_gossip::{AbsorbFault, Run, Taken};
@@ -45,12 +46,12 @@ impl EntryCopies {
     }
 }
 
-/// Reports, three times.
+/// Reports for an entry that stands three times. The list itself stands once.
 #[derive(Drop)]
 pub(crate) struct ReportCopies {
-    journal: Vec<Report>,
-    pass: Vec<Report>,
-    receipt: Vec<Report>,
+    journal: Reports,
+    pass: Reports,
+    receipt: Reports,
 }
 
 impl Model for ReportCopies {
@@ -59,21 +60,31 @@ impl Model for ReportCopies {
 
     ghost Value = { List PacketReport };
 
-    ghost view = { λ c. c.journal.items };
+    ghost view = { λ c. c.journal };
 
-    ghost invariant = { λ c. (c.pass.items ≡ c.journal.items) × (c.receipt.items ≡ c.journal.items) };
+    ghost invariant = { λ c. (c.pass ≡ c.journal) × (c.receipt ≡ c.journal) };
 }
 
 impl ReportCopies {
-    /// These reports, three times.
-    pub(crate) fn of(alloc: Global, reports: &[Report]) -> Result<ReportCopies, AllocError>
-        ensures { IfOk result (λ c. c ≡ reports.now) }
+    /// The reports of this list, which is kept and shared by all three.
+    pub(crate) fn of(alloc: Global, reports: Vec<Report>) -> Result<ReportCopies, AllocError>
+        ensures { IfOk result (λ c. c ≡ reports.items) }
     {
+        let journal = Reports::of(alloc, reports)?;
+        let pass = journal.share()?;
+        let receipt = journal.share()?;
         Ok(ReportCopies {
-            journal: Vec::from_slice(alloc, reports)?,
-            pass: Vec::from_slice(alloc, reports)?,
-            receipt: Vec::from_slice(alloc, reports)?,
+            journal,
+            pass,
+            receipt,
         })
+    }
+
+    /// The reports.
+    pub(crate) fn as_slice(&self) -> &[Report]
+        ensures { result.now ≡ self.now }
+    {
+        self.journal.as_slice()
     }
 
     /// The entry of a take that went so far.
@@ -90,15 +101,13 @@ impl ReportCopies {
 }
 
 // The entry of a take of these reports that went so far.
-fn took(pass: u32, reports: Vec<Report>, taken: &Taken) -> Entry
-    requires { taken.now.taken ≤ length reports.items }
-    ensures { entry_view result ≡ Took pass (take taken.now.taken reports.items) taken.now.fresh taken.now.stop }
+fn took(pass: u32, reports: Reports, taken: &Taken) -> Entry
+    requires { taken.now.taken ≤ length reports }
+    ensures { entry_view result ≡ Took pass (take taken.now.taken reports) taken.now.fresh taken.now.stop }
 {
-    let mut held = reports;
-    held.truncate(taken.taken as usize);
     Entry::Took {
         pass,
-        reports: held,
+        reports: reports.first(taken.taken as usize),
         fresh: taken.fresh,
         stop: taken.stop,
     }

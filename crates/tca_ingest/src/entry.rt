@@ -3,6 +3,7 @@ ghost use Rattle.std.specs.Prelude.{◌≡◌, ◌↔◌, IfOk, IsTrue};
 ghost use Rattle.tca_ingest.specs.Entries.{Absorbed, Answered, Asked, Sent, Took, pass_of};
 ghost use Rattle.tca_ingest.specs.EntryViews.{entry_view};
 
+use crate::reports::Reports;
 use std::alloc::{AllocError, Global};
 use tca_accounts::Bill;
 use tca_gossip::{AbsorbFault, Delta, Run, Summary, are_same_counts};
@@ -16,7 +17,7 @@ pub enum Entry {
     /// Reports that are held since, how many of them were new, and why the take stopped where it did.
     Took {
         pass: u32,
-        reports: Vec<Report>,
+        reports: Reports,
         fresh: u64,
         stop: Option<LogFault>,
     },
@@ -77,7 +78,7 @@ impl Entry {
                 reports,
                 fresh,
                 stop,
-            } => other.is_take(*pass, reports, *fresh, *stop),
+            } => other.is_take(*pass, reports.as_slice(), *fresh, *stop),
             Entry::Absorbed { pass, runs, result } => other.is_absorb(*pass, runs, *result),
             Entry::Answered { pass, bill } => other.is_statement(*pass, bill),
             Entry::Asked { pass, summary } => other.is_summary(*pass, summary),
@@ -95,7 +96,12 @@ impl Entry {
                 reports,
                 fresh,
                 stop,
-            } => { number == *pass && new == *fresh && cause == *stop && are_same(taken, reports) }
+            } => {
+                number == *pass
+                    && new == *fresh
+                    && cause == *stop
+                    && are_same(taken, reports.as_slice())
+            }
             _ => false,
         }
     }
@@ -156,7 +162,7 @@ impl Entry {
                 stop,
             } => Entry::Took {
                 pass: *pass,
-                reports: Vec::from_slice(alloc, reports)?,
+                reports: reports.share()?,
                 fresh: *fresh,
                 stop: *stop,
             },

@@ -137,9 +137,28 @@ impl<L: Side> Held<L> {
         if self.is_full() {
             return Err(ShareFault::JournalFull);
         }
+        let list = Vec::from_slice(self.alloc, reports)?;
+        self.take_list(mine, list)
+    }
+
+    /// Takes the reports of a list as `take` does. The entry has the list itself, so that the reports aren't copied.
+    pub fn take_list(
+        &mut self,
+        mine: &mut Pass<L>,
+        reports: Vec<Report>,
+    ) -> Result<Receipt, ShareFault>
+        ensures appends { IfOk result (λ r. Appends self.old self.new mine.old mine.new (entry_view r.entry) r.front) }
+        ensures took { IfOk result (λ r. IsTakeInto self.new.replica.log reports.items mine.old.number (entry_view r.entry)) }
+        ensures full { (result ≡ Err ShareFault.JournalFull) ↔ (most_entries ≤ length self.old.journal) }
+        ensures fault { IfErr result (λ f. f ≢ ShareFault.PassesOut) }
+        ensures err { OnErr result ((self.new ≡ self.old) × (mine.new ≡ mine.old)) }
+    {
+        if self.is_full() {
+            return Err(ShareFault::JournalFull);
+        }
         let copies = ReportCopies::of(self.alloc, reports)?;
         reserve(&mut self.journal, &mut mine.calls, &mut mine.places)?;
-        let taken = self.replica.take(reports);
+        let taken = self.replica.take(copies.as_slice());
         let entry = copies.into_entries(mine.number, taken);
         Ok(note(
             &mut self.journal,

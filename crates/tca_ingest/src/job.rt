@@ -85,7 +85,7 @@ pub(crate) fn do_job<'a, L: Side, R: Wait, G: Gate>(
     let result = match gather(alloc, &input.octets, input.session) {
         Err(fault) => Err(JobFault::Input(fault)),
         Ok(Gathered { reports, notes }) => {
-            match shared.take_inside(rt, mine, &reports, gate, job) {
+            match shared.take_inside(rt, mine, reports, gate, job) {
                 Ok(receipt) => Ok((notes, receipt)),
                 Err(fault) => Err(JobFault::Share(fault)),
             }

@@ -60,23 +60,38 @@ impl<L: Side> Shared<L> {
         self.held.lock(rt).take(mine, reports)
     }
 
-    // As `take`, with a word to the gate once the lock is held.
+    /// Takes the reports of a list as `take` does. The entry has the list itself, so that the reports aren't copied.
+    pub fn take_list<R: Wait>(
+        &self,
+        rt: &R,
+        mine: &mut Pass<L>,
+        reports: Vec<Report>,
+    ) -> Result<Receipt, ShareFault>
+        ensures noted { IfOk result (λ r. IsNoted mine.old mine.new (entry_view r.entry) r.front) }
+        ensures took { IfOk result (λ r. IsTake reports.items mine.old.number (entry_view r.entry)) }
+        ensures fault { IfErr result (λ f. f ≢ ShareFault.PassesOut) }
+        ensures err { OnErr result (mine.new ≡ mine.old) }
+    {
+        self.held.lock(rt).take_list(mine, reports)
+    }
+
+    // As `take_list`, with a word to the gate once the lock is held.
     pub(crate) fn take_inside<R: Wait, G: Gate>(
         &self,
         rt: &R,
         mine: &mut Pass<L>,
-        reports: &[Report],
+        reports: Vec<Report>,
         gate: &G,
         job: u32,
     ) -> Result<Receipt, ShareFault>
         ensures noted { IfOk result (λ r. IsNoted mine.old mine.new (entry_view r.entry) r.front) }
-        ensures took { IfOk result (λ r. IsTake reports.now mine.old.number (entry_view r.entry)) }
+        ensures took { IfOk result (λ r. IsTake reports.items mine.old.number (entry_view r.entry)) }
         ensures fault { IfErr result (λ f. f ≢ ShareFault.PassesOut) }
         ensures err { OnErr result (mine.new ≡ mine.old) }
     {
         let mut held = self.held.lock(rt);
         gate.inside(job);
-        held.take(mine, reports)
+        held.take_list(mine, reports)
     }
 
     /// The bill.

@@ -1,10 +1,13 @@
 -- What a shared replica of a bill absorbs of the others, one after another.
-use Rattle.std.proofs.Common.{◌≡◌, ◌+◌, ℕ, zero, suc, List, [], ◌∷◌, ◌++◌, refl, ap, subst, arith}
+use Rattle.std.proofs.Common.{◌≡◌, ◌∙◌, ◌+◌, ℕ, zero, suc, List, [], ◌∷◌, ◌++◌, Option, Some, None, refl, sym, ap, subst, arith}
+use Rattle.std.specs.Option.{option_to_list}
 use Rattle.std.specs.List.{All, range_with_len}
 use Rattle.std.proofs.lemmas.List.Elements.{All-head, All-tail}
 use Rattle.tca_gossip.specs.Replicas.{ReplicaView}
 use Rattle.tca_ingest.specs.Passes.{PassView}
-use Rattle.tcacct.specs.Absorbs.{Absorbs, AbsorbsEach}
+use Rattle.tca_accounts.specs.Plans.{AccountPlan}
+use Rattle.tca_ingest.specs.Closed.{ClosedView}
+use Rattle.tcacct.specs.Absorbs.{Absorbs, AbsorbsEach, AreJoined}
 
 -- each of these, and behind them one more
 pub one_more : (vs : List ReplicaView) (v : ReplicaView) (a b c : PassView) → AbsorbsEach vs a b → Absorbs v b c → AbsorbsEach (vs ++ v ∷ []) a c
@@ -24,3 +27,16 @@ range_more a (suc n) = let same : a + suc n ≡ a + 1 + n = omega arith in rw sa
 pub all_last : {X : Type 0} (P : X → Type 0) (xs : List X) (x : X) → All P (xs ++ x ∷ []) → P x
 all_last P [] x all = All-head P x [] all
 all_last P (y ∷ ys) x all = all_last P ys x (All-tail P y (ys ++ x ∷ []) all)
+
+-- two lists that are one have one last item
+same_last : {X : Type 0} (xs ys : List X) (x y : X) → xs ++ x ∷ [] ≡ ys ++ y ∷ [] → x ≡ y
+same_last [] [] x y e = cc e
+same_last [] (b ∷ []) x y e = absurd cc
+same_last [] (b ∷ c ∷ ys) x y e = absurd cc
+same_last (a ∷ []) [] x y e = absurd cc
+same_last (a ∷ c ∷ xs) [] x y e = absurd cc
+same_last (a ∷ xs) (b ∷ ys) x y e = let rest : xs ++ x ∷ [] ≡ ys ++ y ∷ [] = cc e in same_last xs ys x y rest
+
+-- the last of a bill's replicas has its plan
+pub last_plan : (plan : AccountPlan) (n : ℕ) (all before : List ClosedView) (x : ClosedView) → AreJoined plan n all → all ≡ before ++ x ∷ [] → x.replica.plan ≡ plan
+last_plan plan n all before x joined is = ap (λ (c : ClosedView). c.replica.plan) (same_last before _ x joined.first (sym is ∙ joined.agreed.each)) ∙ joined.right.plan_is

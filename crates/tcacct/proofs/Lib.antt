@@ -9,3 +9,4 @@ pub mod AbsorbLaws
 pub mod ShareLaws
 pub mod AnswerLaws
 pub mod AuditLaws
+pub mod Walking

@@ -1,6 +1,6 @@
 //! What the workers of all replicas answered, put back into the order of the inputs.
 ghost use Rattle.std.specs.List.{flat_map};
-ghost use Rattle.std.specs.Prelude.{◌≡◌, ◌≢◌, ℕ, ◌++◌, ◌+◌, ◌*◌, ◌<◌, ◌≤◌, ◌^◌, IfOk, IfErr, OnOk, OnErr, None, Some, length, map, slice_get, slice_set};
+ghost use Rattle.std.specs.Prelude.{◌≡◌, ◌≢◌, ℕ, ◌++◌, ◌+◌, ◌*◌, ◌<◌, ◌≤◌, ◌^◌, IfOk, IfErr, OnOk, OnErr, None, Some, length, slice_get, slice_set};
 ghost use Rattle.tca_ingest.specs.Works.{AreLentResults};
 ghost use Rattle.tca_report.specs.input.Inputs.{input_view};
 ghost use Rattle.tca_program.specs.Noted.{IsNoted};
@@ -9,7 +9,7 @@ ghost use Rattle.tca_program.specs.Runs.{HoldsReports, views_of, union_of};
 
 use std::alloc::{AllocError, Global};
 use std::marker::Model;
-use tca_ingest::{Done, Entry, JobFault, Receipt};
+use tca_ingest::{Done, Entry, JobFault, Receipt, Reports};
 use tca_program::RunFault;
 use tca_report::{Input, Notes, Report};
 
@@ -119,9 +119,9 @@ fn take_answer<'a>(
 }
 
 // The notes and the reports of input `n`, where all its reports were taken.
-fn read_answer(n: u32, answer: Answer<'_>) -> Result<(Notes, Vec<Report>), RunFault>
+fn read_answer(n: u32, answer: Answer<'_>) -> Result<(Notes, Reports), RunFault>
     ensures noted { IfOk result (λ x. IsNoted answer.entry.input x.0) }
-    ensures holds { IfOk result (λ x. HoldsReports answer.entry.input x.1.items) }
+    ensures holds { IfOk result (λ x. HoldsReports answer.entry.input x.1) }
     ensures none { OnOk result (refusal_of n answer.entry.result ≡ None) }
     ensures told { IfErr result (λ e. refusal_of n answer.entry.result ≡ Some e) }
     ensures refused { IfErr result (IsInputFault n answer.entry.input) }
@@ -149,7 +149,7 @@ fn read_answer(n: u32, answer: Answer<'_>) -> Result<(Notes, Vec<Report>), RunFa
 #[derive(Drop)]
 pub(crate) struct Contents {
     pub(crate) notes: Vec<Notes>,
-    pub(crate) lists: Vec<Vec<Report>>,
+    pub(crate) lists: Vec<Reports>,
 }
 
 /// What all inputs hold, unless one is refused: the first in order that has a fault, or whose reports a replica didn't take.
@@ -159,7 +159,7 @@ pub(crate) fn contents_of<'a>(
     places: Vec<Option<Answer<'a>>>,
 ) -> Result<Contents, RunFault>
     requires { length inputs.now < 2 ^ 32 }
-    ensures read { IfOk result (λ x. AreRead (views_of inputs.now) x.notes.items (map (λ l. l.items) x.lists.items)) }
+    ensures read { IfOk result (λ x. AreRead (views_of inputs.now) x.notes.items x.lists.items) }
     ensures first { IfErr result (AreAnswersRefused (views_of inputs.now) places.entry.items) }
     ensures refused { IfErr result (AreReplicasRefused (views_of inputs.now)) }
 {
@@ -177,7 +177,7 @@ pub(crate) fn contents_of<'a>(
 }
 
 // How many reports these lists have, for room in advance.
-fn count_of(lists: &[Vec<Report>]) -> usize {
+fn count_of(lists: &[Reports]) -> usize {
     let mut count: usize = 0;
     for reports in lists {
         count = count.saturating_add(reports.len());
@@ -186,32 +186,32 @@ fn count_of(lists: &[Vec<Report>]) -> usize {
 }
 
 // A list, and behind it the reports of others, one list after another.
-fn followed(first: Vec<Report>, others: Vec<Vec<Report>>) -> Result<Vec<Report>, AllocError>
-    ensures { IfOk result (λ all. all.items ≡ first.items ++ flat_map (λ rs. rs) (map (λ l. l.items) others.items)) }
+fn followed(first: Vec<Report>, others: Vec<Reports>) -> Result<Vec<Report>, AllocError>
+    ensures { IfOk result (λ all. all.items ≡ first.items ++ flat_map (λ rs. rs) others.items) }
 {
     let mut all = first;
     all.reserve(count_of(&others))?;
     for reports in others {
-        all.extend_from_slice(&reports)?;
+        all.extend_from_slice(reports.as_slice())?;
     }
     Ok(all)
 }
 
-// The reports of these lists, one list after another. The first list isn't copied.
-fn chained(alloc: Global, lists: Vec<Vec<Report>>) -> Result<Vec<Report>, AllocError>
-    ensures { IfOk result (λ all. all.items ≡ flat_map (λ rs. rs) (map (λ l. l.items) lists.items)) }
+/// The reports of these lists, one list after another. The first list isn't copied where nobody else holds it.
+pub(crate) fn chained(alloc: Global, lists: Vec<Reports>) -> Result<Vec<Report>, AllocError>
+    ensures { IfOk result (λ all. all.items ≡ flat_map (λ rs. rs) lists.items) }
 {
     let mut others = lists;
     if others.is_empty() {
         return Ok(Vec::new(alloc));
     }
-    let first = others.remove(0);
+    let first = others.remove(0).into_vec(alloc)?;
     followed(first, others)
 }
 
 /// All reports of these lists in order, each once.
-pub(crate) fn union_of(alloc: Global, lists: Vec<Vec<Report>>) -> Result<Vec<Report>, AllocError>
-    ensures { IfOk result (λ all. all.items ≡ union_of (map (λ l. l.items) lists.items)) }
+pub(crate) fn union_of(alloc: Global, lists: Vec<Reports>) -> Result<Vec<Report>, AllocError>
+    ensures { IfOk result (λ all. all.items ≡ union_of lists.items) }
 {
     let mut all = chained(alloc, lists)?;
     all.sort_unstable();

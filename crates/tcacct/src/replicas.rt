@@ -235,7 +235,7 @@ pub(crate) fn run_replicas<'a, L: Side + Send + Sync, R: Threads + Wait + Sync, 
     requires same { plan.now ≡ mine }
     requires limits { IsWithinLimits setting.now.replicas setting.now.workers (length setting.now.inputs.now) }
     ensures joined { IfOk result (λ x. AreJoined mine setting.now.replicas x.0.items) }
-    ensures read { IfOk result (λ x. AreRead (views_of setting.now.inputs.now) x.1.notes.items (map (λ l. l.items) x.1.lists.items)) }
+    ensures read { IfOk result (λ x. AreRead (views_of setting.now.inputs.now) x.1.notes.items x.1.lists.items) }
     ensures refused { IfErr result (AreReplicasRefused (views_of setting.now.inputs.now)) }
 {
     let (rt, alloc, inputs) = (setting.rt, setting.alloc, setting.inputs);

@@ -1,5 +1,6 @@
 //! The command `bill` by replicas and workers.
-ghost use Rattle.std.specs.Prelude.{◌≡◌, ◌≢◌, ◌≤◌, ◌↔◌, IfOk, IfErr, IsTrue, None, Some, length, map, true};
+ghost use Rattle.std.specs.Prelude.{◌≡◌, ◌≢◌, ◌≤◌, ◌↔◌, ◌++◌, IfOk, IfErr, IsTrue, None, Some, length, true};
+ghost use Rattle.std.specs.List.{flat_map};
 ghost use Rattle.std.specs.List.Sorted.{IsStrictlySortedBy};
 ghost use Rattle.tca_accounts.specs.Plans.{AccountPlan};
 ghost use Rattle.tca_report.specs.export.Spelling.{most_reports};
@@ -12,7 +13,7 @@ ghost use Rattle.tcacct.specs.Replicated.{IsReplicatedRefused, IsReplicatedUnmad
 ghost use Rattle.tca_program.specs.Runs.{IsUnion, memory_refusal, refusal, views_of, union_of};
 ghost use Rattle.tca_program.specs.declared.fault.Family.TheVariants as family;
 
-use crate::answers::union_of;
+use crate::answers::{chained, union_of};
 use crate::replicas::{PARTS, Setting, run_replicas};
 use std::alloc::Global;
 use std::marker::Brand;
@@ -21,8 +22,9 @@ use std::sync::ledger::Blank;
 use std::thread::Threads;
 use tca_accounts::Plan;
 use tca_gossip::Replica;
-use tca_ingest::Gate;
+use tca_ingest::{Closed, Gate, Reports};
 use tca_log::Log;
+use tca_log::rows::RowsIter;
 use tca_program::RunFault;
 use tca_report::{Input, Notes, Report, Write, write_export};
 use tca_statements::{Statement, render};
@@ -48,20 +50,50 @@ fn held_by(reports: Vec<Report>, log: &Log) -> Result<Vec<Report>, RunFault>
 }
 
 // All reports in order, where they are what the replica holds.
-fn compared(
-    alloc: Global,
-    replica: &Replica,
-    lists: Vec<Vec<Report>>,
-) -> Result<Vec<Report>, RunFault>
-    ensures whole { IfOk result (λ list. list.items ≡ union_of (map (λ l. l.items) lists.items)) }
+fn compared(alloc: Global, replica: &Replica, lists: Vec<Reports>) -> Result<Vec<Report>, RunFault>
+    ensures whole { IfOk result (λ list. list.items ≡ union_of lists.items) }
     ensures held { IfOk result (λ list. list.items ≡ replica.now.log) }
     ensures rises { IfOk result (λ list. IsStrictlySortedBy report_cmp list.items) }
     ensures limit { IfOk result (λ list. length list.items ≤ most_reports) }
-    ensures differs { IfErr result (λ e. e ≢ memory_refusal → (e ≡ refusal None family.Close 3) × (union_of (map (λ l. l.items) lists.items) ≢ replica.now.log)) }
+    ensures differs { IfErr result (λ e. e ≢ memory_refusal → (e ≡ refusal None family.Close 3) × (union_of lists.items ≢ replica.now.log)) }
     ensures refused { IfErr result IsRunRefused }
 {
+    let log = replica.log();
+    if are_log(&lists, log) {
+        return Ok(chained(alloc, lists)?);
+    }
     let reports = union_of(alloc, lists)?;
-    held_by(reports, replica.log())
+    held_by(reports, log)
+}
+
+// Whether the lists, one after another, are the reports of a log in their order. Then no union has to be made.
+fn are_log(lists: &[Reports], log: &Log) -> bool
+    ensures chained { result ≡ true → flat_map (λ rs. rs) lists.now ≡ log.now }
+    ensures union { result ≡ true → union_of lists.now ≡ log.now }
+    ensures limit { length log.now ≤ most_reports }
+{
+    let mut left = log.reports();
+    for reports in lists {
+        if !come_next(&mut left, reports.as_slice()) {
+            return false;
+        }
+    }
+    left.next().is_none()
+}
+
+// Whether these reports come next. Then only those behind them are left.
+fn come_next(left: &mut RowsIter<'_, Report, Global>, reports: &[Report]) -> bool
+    ensures { result ≡ true → left.old ≡ reports.now ++ left.new }
+{
+    for report in reports {
+        let Some(held) = left.next() else {
+            return false;
+        };
+        if *held != *report {
+            return false;
+        }
+    }
+    true
 }
 
 // Whether these are the reports of a log, in their order.
@@ -92,6 +124,15 @@ fn stated(alloc: Global, plan: &Plan, replica: &Replica) -> Result<Statement, Ru
     Ok(Statement::of(alloc, plan, &bill)?)
 }
 
+// A closed replica without its journal. The journals go, and the other replicas, so that nobody shares the lists of the answers.
+fn alone(first: Closed, others: Vec<Closed>) -> Replica
+    ensures { result ≡ first.replica }
+{
+    drop(others);
+    let Closed { replica, .. } = first;
+    replica
+}
+
 // What goes out, and the inputs' notes.
 fn made<R: Threads + Wait + Sync, G: Gate>(
     setting: &Setting<'_, R, G>,
@@ -107,12 +148,13 @@ fn made<R: Threads + Wait + Sync, G: Gate>(
 {
     let plan = Plan::from_text(setting.alloc, plan)?;
     let mine = plan.copy(setting.alloc)?;
-    let (all, contents) = run_replicas::<Brand, R, G>(setting, Blank::new(PARTS), &plan, mine)?;
-    let Some(first) = all.last() else {
+    let (mut all, contents) = run_replicas::<Brand, R, G>(setting, Blank::new(PARTS), &plan, mine)?;
+    let Some(first) = all.pop() else {
         unreachable!();
     };
-    let reports = compared(setting.alloc, &first.replica, contents.lists)?;
-    let statement = stated(setting.alloc, &plan, &first.replica)?;
+    let replica = alone(first, all);
+    let reports = compared(setting.alloc, &replica, contents.lists)?;
+    let statement = stated(setting.alloc, &plan, &replica)?;
     Ok(Prepared {
         statement,
         reports,

@@ -67,17 +67,15 @@ loop-n-preserved c =
     let reports = c.in_ok-noted.reports in
     let its : c.in_ok-answer.answer.input ≡ input_view input = c.in_ok-answer.ensures.same in
     let noted : IsNoted (input_view input) notes = subst (λ i. IsNoted i notes) its c.in_ok-noted.ensures.noted in
-    let holds : HoldsReports (input_view input) reports.items = subst (λ i. HoldsReports i reports.items) its c.in_ok-noted.ensures.holds in
+    let holds : HoldsReports (input_view input) reports = subst (λ i. HoldsReports i reports) its c.in_ok-noted.ensures.holds in
     let at = found_at input_view c.args.inputs.now l.n input c.loop-n-test.true c.index-inputs-n.is in
     let same = l.invariant.behind l.n (omega arith) in
     let here = cut input_view c.args.inputs.now l.n input c.loop-n-test.true c.index-inputs-n.is in
-    let so_far : List (List PacketReport) = map (λ v. v.items) l.lists.items in
     let more_notes : c.push.new.self.items ≡ l.notes.items ++ (notes ∷ []) = search rules in
     let more_lists : c.push-else-is_err.new.self.items ≡ l.lists.items ++ (reports ∷ []) = search rules in
-    let more : map (λ v. v.items) c.push-else-is_err.new.self.items ≡ so_far ++ (reports.items ∷ []) = ap (map (λ v. v.items)) more_lists ∙ map-append (λ v. v.items) l.lists.items (reports ∷ []) in
     record {
       noted = rw more_notes (one_noted _ _ (input_view input) l.notes.items notes noted (rw here at l.invariant.noted));
-      hold = rw more (one_held _ _ (input_view input) so_far reports.items holds (rw here at l.invariant.hold));
+      hold = rw more_lists (one_held _ _ (input_view input) l.lists.items reports holds (rw here at l.invariant.hold));
       before = one_sound input_view c.args.inputs.now l.n input c.loop-n-test.true c.index-inputs-n.is l.invariant.before (sound_of (input_view input) notes noted);
       answered = one_answered (map input_view c.args.inputs.now) c.args.places.items l.places.items l.n (input_view input) at same l.invariant.answered c.in_ok-answer.answer c.in_ok-answer.ensures.taken its c.in_ok-noted.ensures.none;
       behind = still_behind c.args.places.items l.places.items c.take_answer.new.places.items l.n l.invariant.behind c.in_ok-answer.ensures.others;
@@ -88,7 +86,7 @@ returns-clause-read c =
     let l = c.loop-n in
     record {
       noted = all_noted _ l.notes.items (rw (drop_of_length-le c.args.inputs.now c.loop-n-test.false) at l.invariant.noted);
-      hold = all_held _ (map (λ v. v.items) l.lists.items) (rw (drop_of_length-le c.args.inputs.now c.loop-n-test.false) at l.invariant.hold);
+      hold = all_held _ l.lists.items (rw (drop_of_length-le c.args.inputs.now c.loop-n-test.false) at l.invariant.hold);
     }
 
 pub returns-in_err-notes-clause-read : goal.returns-in_err-notes-clause-read

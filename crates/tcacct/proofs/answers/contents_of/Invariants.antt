@@ -10,7 +10,7 @@ use Rattle.tcacct.proofs.answers.contents_of.Given as goal
 abbrev pub invariant-loop-n : goal.invariant-loop-n
 invariant-loop-n l = record {
   noted : Completed (map input_view l.inputs) (map input_view (drop l.n l.inputs)) l.notes.items;
-  hold : HoldCompleted (map input_view l.inputs) (map input_view (drop l.n l.inputs)) (map (λ v. v.items) l.lists.items);
+  hold : HoldCompleted (map input_view l.inputs) (map input_view (drop l.n l.inputs)) l.lists.items;
   before : AreSound (take l.n (map input_view l.inputs));
   answered : AreAnswered (map input_view l.inputs) l.fn.places.items l.n;
   behind : (k : ℕ) → l.n ≤ k → slice_get l.places.items k ≡ slice_get l.fn.places.items k;

@@ -7,4 +7,4 @@ abbrev pub invariant-loop-reports : goal.invariant-loop-reports
 invariant-loop-reports l =
     (goal.iterator-loop-reports).can_next l.reports-iterator ×
     (goal.iterator-loop-reports).is_finite l.reports-iterator ×
-    (l.all.items ≡ l.fn.first.items ++ flat_map (λ rs. rs) (map (λ v. v.items) l.yielded))
+    (l.all.items ≡ l.fn.first.items ++ flat_map (λ rs. rs) l.yielded)

@@ -47,8 +47,8 @@ returns-in-Took-default-default-default-None-clause-holds c =
     let w = c.in-Took-default-default-default-None in
     let result : c.args.answer.result ≡ Ok (c.in-Ok.notes, c.in-Ok.receipt) = search rules in
     let is : IsResult c.args.answer.input c.args.answer.result = subst (λ (v : AnswerView). IsResult v.input v.result) c.answer.view_is c.answer.invariant in
-    let says : entry_view c.in-Ok.receipt.entry ≡ Took w.pass w.reports.items w.fresh None = search rules in
-    let held = holds_if_taken c.args.answer.input c.in-Ok.notes c.in-Ok.receipt w.pass w.fresh w.reports.items (subst (IsResult c.args.answer.input) result is) says in
+    let says : entry_view c.in-Ok.receipt.entry ≡ Took w.pass w.reports w.fresh None = search rules in
+    let held = holds_if_taken c.args.answer.input c.in-Ok.notes c.in-Ok.receipt w.pass w.fresh w.reports (subst (IsResult c.args.answer.input) result is) says in
     subst (HoldsReports c.args.answer.input) (search rules) held
 
 pub unreachable-requires : goal.unreachable-requires

@@ -1,6 +1,8 @@
 use Rattle.std.proofs.lemmas.Grind.{common_steps}
-use Rattle.std.proofs.Common.{◌≡◌, Err, rules, inr, arith}
+use Rattle.std.proofs.Common.{◌≡◌, ◌∙◌, ◌++◌, ◌∷◌, [], Err, rules, ap, inr, arith}
+use Rattle.tca_gossip.specs.Replicas.{ReplicaView}
 use Rattle.tca_program.specs.Planned.{IsPlanOf}
+use Rattle.tcacct.proofs.AbsorbLaws.{last_plan}
 use Rattle.tcacct.proofs.ReadLaws.{all_sound}
 use Rattle.tcacct.proofs.replicated.made.Goals as goal
 
@@ -104,7 +106,10 @@ pub returns-in_err-reports-clause-limit : goal.returns-in_err-reports-clause-lim
 returns-in_err-reports-clause-limit g c = grind (arith, common_steps)
 
 pub stated-requires : goal.stated-requires
-stated-requires g c = grind (arith, common_steps)
+stated-requires g c =
+    let all = c.in_ok-all.all.items in
+    let last : all ≡ c.pop.new.self.items ++ c.in-Some.first ∷ [] = search rules in
+    ap (λ (v : ReplicaView). v.plan) c.alone-replica.ensures ∙ last_plan _ _ all c.pop.new.self.items c.in-Some.first c.in_ok-all.ensures.joined last ∙ search rules
 
 pub returns-in_err-statement-clause-stated : goal.returns-in_err-statement-clause-stated
 returns-in_err-statement-clause-stated g c = grind (arith, common_steps)

@@ -2,8 +2,8 @@ use Rattle.std.proofs.Common.{arith}
 use Rattle.std.proofs.lemmas.Grind.{common_steps}
 use Rattle.tca_ingest.proofs.entry.Entry.copy.Goals as goal
 
-pub returns-in_err-from_slice-in-Took : goal.returns-in_err-from_slice-in-Took
-returns-in_err-from_slice-in-Took c = grind (arith, common_steps)
+pub returns-in_err-share-in-Took : goal.returns-in_err-share-in-Took
+returns-in_err-share-in-Took c = grind (arith, common_steps)
 
 pub returns-in_err-copies-in-Absorbed : goal.returns-in_err-copies-in-Absorbed
 returns-in_err-copies-in-Absorbed c = grind (arith, common_steps)

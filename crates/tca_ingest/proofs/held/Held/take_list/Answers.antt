@@ -1,10 +1,10 @@
 use Rattle.std.proofs.lemmas.Grind.{common_steps}
-use Rattle.std.proofs.Common.{take, length, ap, ◌∙◌, arith}
+use Rattle.std.proofs.Common.{take, length, ap, ◌≡◌, ◌∙◌, arith}
 use Rattle.tca_ingest.specs.Entries.{Took, pass_of}
 use Rattle.tca_ingest.specs.EntryViews.{entry_views}
 use Rattle.tca_ingest.proofs.Histories.{push_took}
 use Rattle.tca_ingest.proofs.Replayed.{history_noted, whose_noted}
-use Rattle.tca_ingest.proofs.held.Held.take.Goals as goal
+use Rattle.tca_ingest.proofs.held.Held.take_list.Goals as goal
 
 pub invariant_of-self-2 : goal.invariant_of-self-2
 invariant_of-self-2 g c =
@@ -12,12 +12,13 @@ invariant_of-self-2 g c =
     let name = g.L.Side.called in
     let t = c.take-taken.result in
     let number = c.mine.inside.number in
-    let reports = c.args.reports.now in
+    let copies = c.in_ok-copies.copies in
+    let read = c.as_slice.ensures in
     let given = c.into_entries-entry.result in
     let old = c.self.inside.journal.items in (
-      history_noted plan name c.take-taken.new.self old c.reserve.new.journal.items c.note.new.journal.items given (Took number (take t.taken reports) t.fresh t.stop)
-          (push_took plan name c.self.inside.replica (entry_views old) c.self.invariant.0 c.take-taken.new.self number reports t.taken t.fresh t.stop c.take-taken.ensures.state c.take-taken.ensures.fresh c.take-taken.ensures.stop)
-          c.reserve.ensures.journal c.note.ensures.journal (c.into_entries-entry.ensures ∙ ap (λ rs. Took number (take t.taken rs) t.fresh t.stop) c.in_ok-copies.ensures),
+      history_noted plan name c.take-taken.new.self old c.reserve.new.journal.items c.note.new.journal.items given (Took number (take t.taken copies) t.fresh t.stop)
+          (push_took plan name c.self.inside.replica (entry_views old) c.self.invariant.0 c.take-taken.new.self number copies t.taken t.fresh t.stop (rw read at c.take-taken.ensures.state) (rw read at c.take-taken.ensures.fresh) (rw read at c.take-taken.ensures.stop))
+          c.reserve.ensures.journal c.note.ensures.journal c.into_entries-entry.ensures,
       c.note.ensures.book,
       c.self.invariant.2,
       c.self.invariant.3,
@@ -35,13 +36,14 @@ pub returns-clause-took : goal.returns-clause-took
 returns-clause-took g c =
     let t = c.take-taken.result in
     let number = c.mine.inside.number in
+    let given : c.as_slice.result.now ≡ c.args.reports.items = c.as_slice.ensures ∙ c.in_ok-copies.ensures in
     rw (← c.mine.view_is) (record {
       taken = t.taken;
       fresh = t.fresh;
       stop = t.stop;
       entry = c.note.ensures.entry ∙ c.into_entries-entry.ensures ∙ ap (λ rs. Took number (take t.taken rs) t.fresh t.stop) c.in_ok-copies.ensures;
-      within = c.take-taken.ensures.within;
-      stops = c.take-taken.ensures.stop;
+      within = rw given at c.take-taken.ensures.within;
+      stops = rw given at c.take-taken.ensures.stop;
     })
 
 pub same-self : goal.same-self
