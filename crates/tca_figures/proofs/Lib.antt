@@ -1,0 +1,14 @@
+pub mod Spaces
+pub mod Counts
+pub mod Texts
+pub mod Cuts
+pub mod Sound
+pub mod Told
+pub mod Ascending
+pub mod Says
+pub mod Written
+pub mod Merged
+pub mod Firsts
+pub mod Others
+pub mod InForm
+pub mod Shown

@@ -1,0 +1,6 @@
+pub mod Figures
+pub mod Lines
+pub mod Progress
+pub mod Reading
+pub mod Faults
+pub mod Sums

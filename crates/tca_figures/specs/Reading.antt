@@ -1,0 +1,63 @@
+-- The octets of a statement, and where octets that are no statement cease to be one.
+use Rattle.std.specs.Prelude.{◌≡◌, ◌≤◌, ◌+◌, ◌-◌, ◌==◌, ◌++◌, ℕ, List, [], ◌∷◌, length, take, slice_get, Some, min}
+use Rattle.std.specs.List.{slice_split}
+use Rattle.tca_figures.specs.Progress.{Follow, Follows, IsSound, IsWrongSum, Progress, unread}
+use Rattle.tca_figures.specs.declared.fault.StatementFault.{StatementFault}
+use Rattle.tca_figures.specs.declared.fault.StatementFault.TheVariants as faults
+use Rattle.tca_figures.specs.declared.reader.Refusal.{Refusal}
+use Rattle.tca_figures.specs.declared.reader.Refusal.TheVariants as refusals
+use Rattle.tca_figures.specs.declared.reader.Stage.TheVariants as stages
+
+-- the octets between line feeds, those before the first and behind the last one too
+abbrev pub parts : List ℕ → List (List ℕ)
+parts octets = slice_split (λ octet. octet == 10) octets
+
+-- the lines that end with a line feed
+abbrev pub whole_lines : List ℕ → List (List ℕ)
+whole_lines octets = take (length (parts octets) - 1) (parts octets)
+
+-- all lines are read, and nothing stands behind the last line feed
+abbrev pub IsWhole : List ℕ → Progress → Type 0
+IsWhole octets p = (p.stage ≡ stages.Ended) × (parts octets ≡ whole_lines octets ++ [] ∷ [])
+
+-- the number by which a line is told, counted from 1
+abbrev pub line_number : ℕ → ℕ
+line_number n = min (n + 1) 4294967295
+
+-- the fault of the line behind so many, where so many periods of the account are read
+abbrev pub fault_at : Refusal → ℕ → ℕ → StatementFault
+fault_at refusals.Line before spans = faults.Line (line_number before)
+fault_at refusals.Sum before spans = faults.Sum (line_number (before - (spans + 1)))
+fault_at refusals.Memory before spans = faults.Memory
+
+-- Lines in front follow one another, of each account whose lines they end the total is right, and the next line may not stand behind them, or
+-- isn't there.
+pub record IsWrongLine (octets : List ℕ) (line : ℕ) : Type 0 where
+  pub before : ℕ
+  pub number : line ≡ line_number before
+  pub within : before ≤ length (whole_lines octets)
+  pub progress : Progress
+  pub follow : Follow unread (take before (whole_lines octets)) progress
+  pub sound : IsSound progress
+  pub next : (text : List ℕ) → slice_get (whole_lines octets) before ≡ Some text → (q : Progress) → Follows progress text q → ⊥
+  pub early : before ≡ length (whole_lines octets) → IsWhole octets progress → ⊥
+
+-- Lines in front follow one another, of each account whose lines they end the total is right, and the next line ends those of one whose total
+-- isn't; that total's line is told.
+pub record IsWrongTotal (octets : List ℕ) (line : ℕ) : Type 0 where
+  pub before : ℕ
+  pub progress : Progress
+  pub number : line ≡ line_number (before - (length progress.account.spans + 1))
+  pub follow : Follow unread (take before (whole_lines octets)) progress
+  pub sound : IsSound progress
+  pub next : List ℕ
+  pub next_is : slice_get (whole_lines octets) before ≡ Some next
+  pub wrong : IsWrongSum progress next
+
+-- the first fault of octets that are no statement; a growth may be refused at any line
+abbrev pub IsFirstFault : List ℕ → StatementFault → Type 0
+IsFirstFault octets (faults.Line line) = IsWrongLine octets line
+IsFirstFault octets (faults.Sum line) = IsWrongTotal octets line
+IsFirstFault octets (faults.Other line) = ⊥
+IsFirstFault octets faults.Range = ⊥
+IsFirstFault octets faults.Memory = Unit {0}
