@@ -9,6 +9,7 @@ from pathlib import Path
 
 ROOT = Path(__file__).resolve().parents[2]
 PROGRAM = Path(os.environ.get("TCACCT", ROOT / "crates/tcacct/out/tcacct"))
+TOOL = Path(os.environ.get("TCATOOL", ROOT / "crates/tcatool/out/tcatool"))
 # Executables with the tests of the crates, of which some are run with growths refused.
 TESTS = {
     name: Path(os.environ.get(f"{name.upper()}_TESTS", ROOT / f"crates/{name}/out/{name}_tests"))
