@@ -1,7 +1,7 @@
 -- What command lines mean that are written out.
 use Rattle.std.proofs.Common.{◌≡◌, [], ◌∷◌, Some, None, codes, refl}
 use Rattle.clap.proofs.OnLiterals.{clap_on_literals}
-use Rattle.tcatool.specs.Lines.{diff, list, order_in, pairs}
+use Rattle.tcatool.specs.Lines.{diff, order_in, pairs}
 
 pub pairs_two : order_in (codes "tcatool" ∷ codes "pairs" ∷ codes "a" ∷ codes "b" ∷ []) ≡ Some (pairs (codes "a" ∷ codes "b" ∷ []))
 unfolding clap_on_literals
@@ -10,22 +10,6 @@ pairs_two = refl
 pub no_input : order_in (codes "tcatool" ∷ codes "pairs" ∷ []) ≡ None
 unfolding clap_on_literals
 no_input = refl
-
-pub list_one : order_in (codes "tcatool" ∷ codes "list" ∷ codes "a" ∷ []) ≡ Some (list None (codes "a" ∷ []))
-unfolding clap_on_literals
-list_one = refl
-
-pub list_plan : order_in (codes "tcatool" ∷ codes "list" ∷ codes "--plan" ∷ codes "p" ∷ codes "a" ∷ codes "b" ∷ []) ≡ Some (list (Some (codes "p")) (codes "a" ∷ codes "b" ∷ []))
-unfolding clap_on_literals
-list_plan = refl
-
-pub plan_behind : order_in (codes "tcatool" ∷ codes "list" ∷ codes "a" ∷ codes "--plan=p" ∷ []) ≡ Some (list (Some (codes "p")) (codes "a" ∷ []))
-unfolding clap_on_literals
-plan_behind = refl
-
-pub plan_alone : order_in (codes "tcatool" ∷ codes "list" ∷ codes "--plan" ∷ codes "p" ∷ []) ≡ None
-unfolding clap_on_literals
-plan_alone = refl
 
 pub two_sides : order_in (codes "tcatool" ∷ codes "diff" ∷ codes "x" ∷ codes "y" ∷ []) ≡ Some (diff (codes "x") (codes "y"))
 unfolding clap_on_literals

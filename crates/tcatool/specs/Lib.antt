@@ -5,4 +5,4 @@ pub mod Csv
 pub mod ReportLines
 pub mod Diffed
 pub mod Paired
-pub mod Listed
+pub mod Pairing

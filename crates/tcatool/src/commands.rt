@@ -2,16 +2,15 @@
 ghost use Rattle.std.specs.Prelude.{◌≡◌, IfOk, false};
 ghost use Rattle.clap.specs.Words.{app_of};
 ghost use Rattle.clap.specs.declared.builder.command.Command.TheViews.{out-Command as fields_of};
-ghost use Rattle.tcatool.specs.Commands.{diff_command, list_command, pairs_command, program};
+ghost use Rattle.tcatool.specs.Commands.{diff_command, pairs_command, program};
 
 use clap::Command;
 use std::alloc::{AllocError, Global};
-use tca_program::{many_words, named, one_word, option_word};
+use tca_program::{many_words, named, one_word};
 
-const ABOUT: &str =
-    "Looks at usage and at statements of it: what there is, item by item, and what differs";
+const ABOUT: &str = "Looks at usage: what there is, and what differs";
 
-const AFTER: &str = "Example: tcatool list --plan plan.toml monday.tcax
+const AFTER: &str = "Example: tcatool pairs monday.tcax
 
 Exit status: 0 done, 1 refused (one line on standard error says what and where) or, of diff,
 what was compared differs, 2 wrong command line.";
@@ -28,19 +27,6 @@ An input is a log export or a capture, and N@PATH one of session N, as `tcacct m
 says.
 
 Example: tcatool pairs monday.tcax 1@tuesday.ipfix";
-
-const LIST: &str = "Prints one line for each report of the inputs' union: the itemised bill";
-
-const LIST_AFTER: &str = "One line of CSV a report, in the order of time, under the header
-time,domain,session,place,octets,dscp,interface,state,account,colour. state is settled, or
-disputed where another report has the same identity. With a PLAN, account is the account that
-owns a settled report and colour the one under which `tcacct bill` counts it: green, yellow or
-red; else both are empty.
-
-An input is a log export or a capture, and N@PATH one of session N, as `tcacct meter --help`
-says.
-
-Example: tcatool list --plan plan.toml monday.tcax";
 
 const DIFF: &str = "Prints the reports that only one of two inputs has";
 
@@ -67,25 +53,6 @@ fn pairs<'a>(alloc: Global) -> Result<Command<'a>, AllocError>
     ))?)
 }
 
-fn list<'a>(alloc: Global) -> Result<Command<'a>, AllocError>
-    ensures { IfOk result (λ c. (app_of c ≡ list_command)
-        × ((fields_of c).has_globals ≡ false)) }
-{
-    let command = named(alloc, "list", LIST, LIST_AFTER);
-    let command = command.arg(option_word(
-        alloc,
-        "plan",
-        "PLAN",
-        "the plan, a TOML file, for accounts and colours",
-    ))?;
-    Ok(command.arg(many_words(
-        alloc,
-        "INPUT",
-        4_294_967_295,
-        "files of reports, each PATH or N@PATH",
-    ))?)
-}
-
 fn diff<'a>(alloc: Global) -> Result<Command<'a>, AllocError>
     ensures { IfOk result (λ c. (app_of c ≡ diff_command)
         × ((fields_of c).has_globals ≡ false)) }
@@ -104,6 +71,5 @@ pub(crate) fn program<'a>(alloc: Global) -> Result<Command<'a>, AllocError>
         .after_help(AFTER)
         .subcommand_required(true);
     let command = command.subcommand(pairs(alloc)?)?;
-    let command = command.subcommand(list(alloc)?)?;
     Ok(command.subcommand(diff(alloc)?)?)
 }

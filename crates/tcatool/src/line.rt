@@ -1,27 +1,18 @@
 //! The words of a command line.
 ghost use Rattle.std.specs.Prelude.{◌≡◌, ◌≢◌, ◌∷◌, [], IfOk, IfErr, Some, None, codes, map, option_map, slice_get};
 ghost use Rattle.clap.specs.Words.{found_of, rows_of};
-ghost use Rattle.tcatool.specs.Lines.{command_of, diff, diff_of, files_of, list, list_of, order_from, order_in, order_of, pairs, pairs_of};
+ghost use Rattle.tcatool.specs.Lines.{command_of, diff, diff_of, files_of, order_from, order_in, order_of, pairs, pairs_of};
 
 use crate::commands;
 use clap::ArgMatches;
 use std::alloc::{AllocError, Global};
 use tca_program::{LineFault, text, texts};
 
-/// What the words of a command line ask for. The words of inputs are those of `split_word`; PLAN is a path.
+/// What the words of a command line ask for. The words of inputs are those of `split_word`.
 #[derive(Debug, Drop)]
 pub enum Line<'a> {
-    Pairs {
-        inputs: Vec<&'a str>,
-    },
-    List {
-        plan: Option<&'a str>,
-        inputs: Vec<&'a str>,
-    },
-    Diff {
-        a: &'a str,
-        b: &'a str,
-    },
+    Pairs { inputs: Vec<&'a str> },
+    Diff { a: &'a str, b: &'a str },
 }
 
 impl<'a> Line<'a> {
@@ -31,7 +22,6 @@ impl<'a> Line<'a> {
     {
         match self {
             Line::Pairs { .. } => "pairs",
-            Line::List { .. } => "list",
             Line::Diff { .. } => "diff",
         }
     }
@@ -42,7 +32,6 @@ impl<'a> Line<'a> {
     {
         match self {
             Line::Pairs { inputs } => inputs.get(number as usize).copied(),
-            Line::List { inputs, .. } => inputs.get(number as usize).copied(),
             Line::Diff { a, b } => match number {
                 0 => Some(*a),
                 1 => Some(*b),
@@ -59,16 +48,6 @@ fn pairs_line<'a>(alloc: Global, matches: &ArgMatches<'a>) -> Result<Option<Line
         return Ok(None);
     };
     Ok(Some(Line::Pairs { inputs }))
-}
-
-fn list_line<'a>(alloc: Global, matches: &ArgMatches<'a>) -> Result<Option<Line<'a>>, AllocError>
-    ensures { IfOk result (λ o. option_map order_of o ≡ list_of (rows_of (found_of matches.now))) }
-{
-    let Some(inputs) = texts(alloc, matches, "INPUT")? else {
-        return Ok(None);
-    };
-    let plan = text(matches, "plan");
-    Ok(Some(Line::List { plan, inputs }))
 }
 
 fn diff_line<'a>(matches: &ArgMatches<'a>) -> Option<Line<'a>>
@@ -89,7 +68,6 @@ fn line_from<'a>(
 {
     match name {
         "pairs" => pairs_line(alloc, matches),
-        "list" => list_line(alloc, matches),
         "diff" => Ok(diff_line(matches)),
         _ => Ok(None),
     }
@@ -126,13 +104,6 @@ pub fn written_out()
     ensures pairs { order_in (codes "tcatool" ∷ codes "pairs" ∷ codes "a" ∷ codes "b" ∷ [])
         ≡ Some (pairs (codes "a" ∷ codes "b" ∷ [])) }
     ensures no_input { order_in (codes "tcatool" ∷ codes "pairs" ∷ []) ≡ None }
-    ensures list { order_in (codes "tcatool" ∷ codes "list" ∷ codes "a" ∷ [])
-        ≡ Some (list None (codes "a" ∷ [])) }
-    ensures list_plan { order_in (codes "tcatool" ∷ codes "list" ∷ codes "--plan" ∷ codes "p" ∷ codes "a" ∷ codes "b" ∷ [])
-        ≡ Some (list (Some (codes "p")) (codes "a" ∷ codes "b" ∷ [])) }
-    ensures plan_behind { order_in (codes "tcatool" ∷ codes "list" ∷ codes "a" ∷ codes "--plan=p" ∷ [])
-        ≡ Some (list (Some (codes "p")) (codes "a" ∷ [])) }
-    ensures plan_alone { order_in (codes "tcatool" ∷ codes "list" ∷ codes "--plan" ∷ codes "p" ∷ []) ≡ None }
     ensures diff { order_in (codes "tcatool" ∷ codes "diff" ∷ codes "x" ∷ codes "y" ∷ [])
         ≡ Some (diff (codes "x") (codes "y")) }
     ensures one_side { order_in (codes "tcatool" ∷ codes "diff" ∷ codes "x" ∷ []) ≡ None }

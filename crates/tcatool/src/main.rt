@@ -5,7 +5,7 @@
 //! word of that line.
 //!
 //! - `commands`, `line`, `ending`: the command line, what it asks for, and the word of a fault line;
-//! - `pairs`, `list`, `diff`: the commands; `cell`, `row`, `report_line`: lines of CSV that go out in pieces.
+//! - `pairs`, `diff`: the commands; `cell`, `row`, `report_line`: lines of CSV that go out in pieces.
 #![tactic(auto)]
 
 mod cell;
@@ -14,8 +14,6 @@ mod diff;
 mod ending;
 mod laws;
 mod line;
-mod list;
-mod marks;
 mod pairs;
 mod report_line;
 mod row;

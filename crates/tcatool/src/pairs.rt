@@ -1,12 +1,18 @@
 //! The command `pairs`.
-ghost use Rattle.std.specs.Prelude.{◌≡◌, ◌<◌, ◌^◌, OnOk, IfErr, length};
+ghost use Rattle.std.specs.Prelude.{◌≡◌, ◌+◌, ◌*◌, ◌<◌, ◌≤◌, ◌==◌, ◌^◌, [], true, IfOk, IfErr, OnOk, get_or, if◌then◌else◌, length, map};
+ghost use Rattle.std.specs.List.Sorted.{IsStrictlySortedBy};
+ghost use Rattle.tca_join.specs.Sets.{has};
+ghost use Rattle.tca_log.specs.Disputes.{undisputed};
+ghost use Rattle.tca_report.specs.report.Reports.{report_cmp};
 ghost use Rattle.tca_program.specs.Devices.{device};
-ghost use Rattle.tca_program.specs.Runs.{views_of};
+ghost use Rattle.tca_program.specs.Runs.{IsUnitingRefused, views_of};
+ghost use Rattle.tcatool.specs.Paired.{AreUsages, IsPaired, IsPairsDone, IsPairsRefused, pair_cmp, pair_line, pair_of, pairs_of};
+ghost use Rattle.tcatool.specs.Pairing.{usage_so_far};
 
 use crate::cell::{Buffer, Cell, append_line};
-use crate::marks::settled_marks;
 use crate::row::{Row, put_rows};
 use std::alloc::{AllocError, Global};
+use tca_log::Log;
 use tca_program::{RunFault, unite};
 use tca_report::{Input, Report, Write};
 
@@ -20,7 +26,9 @@ pub(crate) struct Pair {
 }
 
 impl Pair {
-    fn of(report: &Report) -> Pair {
+    fn of(report: &Report) -> Pair
+        ensures { result ≡ pair_of report.now }
+    {
         Pair {
             domain: report.identity().domain,
             interface: report.content().iface,
@@ -42,7 +50,9 @@ pub(crate) struct PairUsage {
 
 impl PairUsage {
     // A pair without reports.
-    fn none(pair: Pair) -> PairUsage {
+    fn none(pair: Pair) -> PairUsage
+        ensures { result ≡ usage_so_far [] [] pair }
+    {
         PairUsage {
             pair,
             reports: 0,
@@ -54,17 +64,32 @@ impl PairUsage {
     }
 
     // Counts one more report, which is not before the last one.
-    fn count(&mut self, report: &Report, is_settled: bool) {
-        let content = report.content();
+    fn count(&mut self, time: u64)
+        requires { self.old.reports < 4294967295 }
+        ensures { self.new ≡ record self.old {
+          reports = self.old.reports + 1;
+          first = if self.old.reports == 0 then time else self.old.first;
+          last = time;
+        } }
+    {
         if self.reports == 0 {
-            self.first = content.time;
+            self.first = time;
         }
-        self.last = content.time;
+        self.last = time;
         self.reports += 1;
-        if is_settled {
-            self.packets += 1;
-            self.octets += u64::from(content.octets);
-        }
+    }
+
+    // Adds the octets of one more settled report.
+    fn add(&mut self, octets: u32)
+        requires few { self.old.packets < 4294967295 }
+        requires room { self.old.octets + octets < 2 ^ 64 }
+        ensures { self.new ≡ record self.old {
+          packets = self.old.packets + 1;
+          octets = self.old.octets + octets;
+        } }
+    {
+        self.packets += 1;
+        self.octets += u64::from(octets);
     }
 }
 
@@ -87,50 +112,93 @@ impl Row<()> for PairUsage {
     }
 }
 
-// The pairs of reports, each once and ascending.
-fn pairs_of(alloc: Global, reports: &[Report]) -> Result<Vec<Pair>, AllocError> {
-    let mut pairs = Vec::with_capacity(alloc, reports.len())?;
-    for report in reports {
-        pairs.push(Pair::of(report))?;
+// The pair of each report.
+fn pair_of_each(alloc: Global, log: &Log) -> Result<Vec<Pair>, AllocError>
+    ensures { IfOk result (λ all. all.items ≡ map pair_of log.now) }
+{
+    let mut all = Vec::with_capacity(alloc, log.len() as usize)?;
+    for report in log.reports() {
+        all.push(Pair::of(report))?;
     }
+    Ok(all)
+}
+
+// The pairs that reports have, each once and ascending.
+fn pairs_of(alloc: Global, log: &Log) -> Result<Vec<Pair>, AllocError>
+    ensures { IfOk result (λ pairs. pairs.items ≡ pairs_of log.now) }
+{
+    let mut pairs = pair_of_each(alloc, log)?;
     pairs.sort_unstable();
     pairs.dedup();
     Ok(pairs)
 }
 
-// A place for each pair.
-fn places_of(alloc: Global, pairs: &[Pair]) -> Result<Vec<PairUsage>, AllocError> {
-    let mut places = Vec::with_capacity(alloc, pairs.len())?;
+// The usage of each pair before the first report.
+fn unused(alloc: Global, pairs: &[Pair]) -> Result<Vec<PairUsage>, AllocError>
+    ensures { IfOk result (λ all. all.items ≡ map (usage_so_far [] []) pairs.now) }
+{
+    let mut all = Vec::with_capacity(alloc, pairs.len())?;
     for pair in pairs {
-        places.push(PairUsage::none(*pair))?;
+        all.push(PairUsage::none(*pair))?;
     }
-    Ok(places)
+    Ok(all)
+}
+
+// The place of a report's pair.
+fn place_of(pairs: &[Pair], report: &Report) -> usize
+    requires rises { IsStrictlySortedBy pair_cmp pairs.now }
+    requires there { has pair_cmp pairs.now (pair_of report.now) ≡ true }
+    ensures inside { result < length pairs.now }
+    ensures pair { get_or pairs.now result (pair_of report.now) ≡ pair_of report.now }
+{
+    pairs.binary_search(&Pair::of(report)).unwrap()
+}
+
+// Counts all reports of each pair.
+fn count_reports(log: &Log, pairs: &[Pair], usages: &mut Vec<PairUsage>)
+    requires pairs { pairs.now ≡ pairs_of log.now }
+    requires none { usages.old.items ≡ map (usage_so_far [] []) (pairs_of log.now) }
+    ensures counted { usages.new.items ≡ map (usage_so_far log.now []) (pairs_of log.now) }
+    ensures rises { IsStrictlySortedBy report_cmp log.now }
+{
+    for report in log.reports() {
+        let usage = &mut usages[place_of(pairs, report)];
+        usage.count(report.content().time);
+    }
+}
+
+// Adds up the settled reports of each pair.
+fn add_settled(log: &Log, pairs: &[Pair], usages: &mut Vec<PairUsage>)
+    requires pairs { pairs.now ≡ pairs_of log.now }
+    requires counted { usages.old.items ≡ map (usage_so_far log.now []) (pairs_of log.now) }
+    ensures { usages.new.items ≡ map (usage_so_far log.now (undisputed log.now)) (pairs_of log.now) }
+{
+    for report in log.settled() {
+        let usage = &mut usages[place_of(pairs, report)];
+        usage.add(report.content().octets);
+    }
 }
 
 // The usage of each pair.
-fn usage_of(
-    alloc: Global,
-    reports: &[Report],
-    marks: &[bool],
-) -> Result<Vec<PairUsage>, AllocError> {
-    let pairs = pairs_of(alloc, reports)?;
-    let mut places = places_of(alloc, &pairs)?;
-    for (report, is_settled) in reports.iter().zip(marks) {
-        if let Ok(place) = pairs.binary_search(&Pair::of(report)) {
-            places[place].count(report, *is_settled);
-        }
-    }
-    Ok(places)
+fn usages_of(alloc: Global, log: &Log) -> Result<Vec<PairUsage>, AllocError>
+    ensures { IfOk result (λ usages. AreUsages log.now usages.items) }
+{
+    let pairs = pairs_of(alloc, log)?;
+    let mut usages = unused(alloc, &pairs)?;
+    count_reports(log, &pairs, &mut usages);
+    add_settled(log, &pairs, &mut usages);
+    Ok(usages)
 }
 
-// The lines that go out.
+// The usages that go out.
 fn made(alloc: Global, inputs: &[Input]) -> Result<Vec<PairUsage>, RunFault>
     requires { length inputs.now < 2 ^ 32 }
+    ensures paired { IfOk result (λ usages. IsPaired (views_of inputs.now) usages.items) }
+    ensures refused { IfErr result (IsUnitingRefused (views_of inputs.now)) }
 {
     let (log, _notes) = unite(alloc, inputs)?;
-    let marks = settled_marks(alloc, &log)?;
-    let reports = log.into_reports()?;
-    Ok(usage_of(alloc, &reports, &marks)?)
+    let usages = usages_of(alloc, &log)?;
+    Ok(usages)
 }
 
 /// Writes a line for each pair of an observation domain and an interface that a report of the inputs' union has, ascending, with its
@@ -140,7 +208,12 @@ fn made(alloc: Global, inputs: &[Input]) -> Result<Vec<PairUsage>, RunFault>
 /// that of a write says that only a part of the lines went out.
 pub fn run_pairs<W: Write>(alloc: Global, inputs: &[Input], out: &mut W) -> Result<(), RunFault>
     requires { length inputs.now < 2 ^ 32 }
+    ensures done { OnOk result (IsPairsDone (views_of inputs.now)
+        (device W.written W.failures out.old) (device W.written W.failures out.new)) }
+    ensures refused { IfErr result (IsPairsRefused (views_of inputs.now)
+        (device W.written W.failures out.old) (device W.written W.failures out.new)) }
 {
     let rows = made(alloc, inputs)?;
-    put_rows(HEADER, &(), &rows, out)
+    put_rows(HEADER, &(), &rows, out)?;
+    Ok(())
 }

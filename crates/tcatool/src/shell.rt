@@ -8,11 +8,10 @@ ghost use Rattle.tcatool.specs.Lines.{order_in};
 use crate::diff::{Differences, run_diff};
 use crate::ending::word_of;
 use crate::line::{Line, read_line};
-use crate::list::run_list;
 use crate::pairs::run_pairs;
 use std::io;
 use std::rt::Files;
-use tca_program::{Ending, LineFault, RunFault, end, print_help, read_inputs, read_plan, texts_of};
+use tca_program::{Ending, LineFault, RunFault, end, print_help, read_inputs, texts_of};
 use tca_report::Write;
 
 /// The name of the program in its fault lines.
@@ -35,7 +34,7 @@ pub fn run_words<R: Files + AllocGlobal, W: Write, V: io::Write>(
 }
 
 /// Runs the words of a command line, of which the first is the program's own name, and gives the exit
-/// status. All files are read first, a plan before the inputs; then the command is run. What can't be written to `errors` is left out.
+/// status. All files are read first; then the command is run. What can't be written to `errors` is left out.
 /// The exit status is 2 only where the words ask for no command.
 pub fn run<R: Files + AllocGlobal, W: Write, V: io::Write>(
     rt: &R,
@@ -102,31 +101,10 @@ fn run_line<R: Files + AllocGlobal, W: Write>(
             run_pairs(rt.alloc(), &inputs, out)?;
             Ok(Outcome::Done)
         }
-        Line::List { plan, inputs } => listed(rt, *plan, inputs, out),
         Line::Diff { a, b } => {
             let inputs = read_inputs(rt, &[*a, *b])?;
             let differences = run_diff(rt.alloc(), &inputs[0], &inputs[1], out)?;
             Ok(Outcome::Compared(differences))
         }
     }
-}
-
-// Reads the files of a list, the plan first, and runs it.
-fn listed<R: Files + AllocGlobal, W: Write>(
-    rt: &R,
-    plan: Option<&str>,
-    words: &[&str],
-    out: &mut W,
-) -> Result<Outcome, RunFault> {
-    let plan = match plan {
-        Some(path) => Some(read_plan(rt, path)?),
-        None => None,
-    };
-    let inputs = read_inputs(rt, words)?;
-    let plan = match &plan {
-        Some(octets) => Some(octets.as_slice()),
-        None => None,
-    };
-    run_list(rt.alloc(), plan, &inputs, out)?;
-    Ok(Outcome::Done)
 }

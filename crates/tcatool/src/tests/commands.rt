@@ -1,5 +1,4 @@
 use crate::diff::{Differences, run_diff};
-use crate::list::run_list;
 use crate::pairs::run_pairs;
 use std::alloc::{AllocError, Global};
 use std::io;
@@ -10,24 +9,13 @@ use tca_report::{Host, Input};
 const START: u64 = 1_700_000_000_000;
 
 // Milliseconds after the start, place, octets.
-pub(super) type Row = (u64, u32, u32);
+type Row = (u64, u32, u32);
 
-pub(super) const FIRST: Row = (0, 0, 1500);
+const FIRST: Row = (0, 0, 1500);
 
-pub(super) const SECOND: Row = (100, 1, 1000);
+const SECOND: Row = (100, 1, 1000);
 
-pub(super) const THIRD: Row = (200, 2, 800);
-
-pub(super) const PLAN: &str =
-    "period = 3600000\n[[account]]\nname = \"alpha\"\nmeter = \"rfc2697\"\ncir = 1000\ncbs = 2000\nebs = 1000\nkeys = [[7, 1]]\n";
-
-pub(super) const LIST_HEADER: &str =
-    "time,domain,session,place,octets,dscp,interface,state,account,colour\n";
-
-pub(super) const THREE_ITEMS: &str = "1700000000000,7,0,0,1500,0,1,settled,alpha,green
-1700000000100,7,0,1,1000,0,1,settled,alpha,yellow
-1700000000200,7,0,2,800,0,1,settled,alpha,red
-";
+const THIRD: Row = (200, 2, 800);
 
 // A report of domain 7 and session 0 in an export of version 2, spelled by hand.
 fn push_row(octets: &mut Vec<u8>, row: Row, interface: u32) -> Result<(), AllocError> {
@@ -52,7 +40,7 @@ fn export_with(alloc: Global, rows: &[(Row, u32)]) -> Result<Vec<u8>, AllocError
 }
 
 // The export of these rows, all of interface 1.
-pub(super) fn export(alloc: Global, rows: &[Row]) -> Result<Vec<u8>, AllocError> {
+fn export(alloc: Global, rows: &[Row]) -> Result<Vec<u8>, AllocError> {
     let mut all = Vec::new(alloc);
     for row in rows {
         all.push((*row, 1))?;
@@ -65,60 +53,6 @@ fn inputs_of(alloc: Global, rows: &[(Row, u32)]) -> Result<Vec<Input>, AllocErro
     let octets = export_with(alloc, rows)?;
     inputs.push(Input { session: 0, octets })?;
     Ok(inputs)
-}
-
-// What `list` writes of these rows.
-fn listed(alloc: Global, plan: Option<&str>, rows: &[(Row, u32)]) -> Result<Vec<u8>, RunFault> {
-    let inputs = inputs_of(alloc, rows)?;
-    let plan = match plan {
-        Some(text) => Some(text.as_bytes()),
-        None => None,
-    };
-    let mut out = Host::new(Vec::new(alloc));
-    run_list(alloc, plan, &inputs, &mut out)?;
-    Ok(out.into_inner())
-}
-
-// Whether it writes the header and these lines.
-fn lists(alloc: Global, plan: Option<&str>, rows: &[(Row, u32)], lines: &str) -> bool {
-    let Ok(wanted) = format!(in alloc; "{LIST_HEADER}{lines}") else {
-        return false;
-    };
-    match listed(alloc, plan, rows) {
-        Ok(text) => text.as_slice() == wanted.as_bytes(),
-        Err(_) => false,
-    }
-}
-
-#[test]
-fn lists_reports_with_account_and_colour(rt: HostRuntime) {
-    let alloc = rt.alloc();
-    let three = [(FIRST, 1), (SECOND, 1), (THIRD, 1)];
-    assert!(rt; lists(alloc, Some(PLAN), &three, THREE_ITEMS));
-    let plain = "1700000000000,7,0,0,1500,0,1,settled,,\n";
-    assert!(rt; lists(alloc, None, &[(FIRST, 1)], plain));
-    let other = "1700000000000,7,0,0,1500,0,2,settled,,\n";
-    assert!(rt; lists(alloc, Some(PLAN), &[(FIRST, 2)], other));
-    assert!(rt; lists(alloc, Some(PLAN), &[], ""));
-}
-
-#[test]
-fn lists_disputed_reports_without_a_colour(rt: HostRuntime) {
-    let alloc = rt.alloc();
-    let five = [
-        (FIRST, 1),
-        ((50, 3, 600), 1),
-        ((60, 3, 601), 1),
-        (SECOND, 1),
-        (THIRD, 1),
-    ];
-    let lines = "1700000000000,7,0,0,1500,0,1,settled,alpha,green
-1700000000050,7,0,3,600,0,1,disputed,,
-1700000000060,7,0,3,601,0,1,disputed,,
-1700000000100,7,0,1,1000,0,1,settled,alpha,yellow
-1700000000200,7,0,2,800,0,1,settled,alpha,red
-";
-    assert!(rt; lists(alloc, Some(PLAN), &five, lines));
 }
 
 #[test]
@@ -226,12 +160,13 @@ fn many(alloc: Global, count: u32) -> Result<Vec<u8>, AllocError> {
     Ok(octets)
 }
 
-fn list_of_many_to(alloc: Global, left: u32) -> Option<RunFault> {
-    let mut inputs = Vec::new(alloc);
+fn diff_of_many_to(alloc: Global, left: u32) -> Option<RunFault> {
     let octets = many(alloc, 2000).ok()?;
-    inputs.push(Input { session: 0, octets }).ok()?;
+    let a = Input { session: 0, octets };
+    let octets = many(alloc, 0).ok()?;
+    let b = Input { session: 0, octets };
     let mut out = Host::new(Failing { left });
-    run_list(alloc, None, &inputs, &mut out).err()
+    run_diff(alloc, &a, &b, &mut out).err()
 }
 
 #[test]
@@ -241,7 +176,7 @@ fn stops_at_a_write_that_fails(rt: HostRuntime) {
         family: Family::Write,
         number: 1,
     };
-    assert!(rt; list_of_many_to(rt.alloc(), 0) == Some(fault));
-    assert!(rt; list_of_many_to(rt.alloc(), 1) == Some(fault));
-    assert!(rt; list_of_many_to(rt.alloc(), 100) == None);
+    assert!(rt; diff_of_many_to(rt.alloc(), 0) == Some(fault));
+    assert!(rt; diff_of_many_to(rt.alloc(), 1) == Some(fault));
+    assert!(rt; diff_of_many_to(rt.alloc(), 100) == None);
 }

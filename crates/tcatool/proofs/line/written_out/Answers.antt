@@ -5,10 +5,6 @@ pub returns : goal.returns
 returns c = record {
   pairs = line.pairs_two;
   no_input = line.no_input;
-  list = line.list_one;
-  list_plan = line.list_plan;
-  plan_behind = line.plan_behind;
-  plan_alone = line.plan_alone;
   diff = line.two_sides;
   one_side = line.one_side;
   three_sides = line.three_sides;
