@@ -1,5 +1,5 @@
 -- How a `diff` ends once its rows are made.
-use Rattle.std.proofs.Common.{◌≡◌, ◌∙◌, ◌++◌, ℕ, Bool, true, false, List, ap, sym, subst, true≢false}
+use Rattle.std.proofs.Common.{◌≡◌, ◌∙◌, List, ap, sym, subst, true≢false}
 use Rattle.tca_report.specs.input.Inputs.{InputView}
 use Rattle.tca_program.specs.Devices.{Device, IsCutOff, Receives}
 use Rattle.tca_program.specs.Runs.{is_write, write_refusal}

@@ -1,11 +1,11 @@
 -- A difference is a partition.
-use Rattle.std.proofs.Common.{◌≡◌, ◌∙◌, ◌+◌, ◌&&◌, ◌||◌, ℕ, Bool, true, false, not, List, [], ◌∷◌, ◌++◌, length, map, ap, sym, refl, cond, arith}
+use Rattle.std.proofs.Common.{◌≡◌, ◌∙◌, ◌+◌, ◌&&◌, ◌||◌, Bool, true, false, not, List, [], ◌∷◌, ◌++◌, length, map, ap, sym, refl, cond, arith}
 use Rattle.std.specs.Cmp.{tied_itself}
 use Rattle.std.specs.Ordering.{eq_by_cmp}
 use Rattle.std.specs.List.{filter}
 use Rattle.std.specs.List.Sorted.{IsStrictlySortedBy}
 use Rattle.std.proofs.lemmas.List.{length-map}
-use Rattle.tca_join.specs.Sets.{has, in_order}
+use Rattle.tca_join.specs.Sets.{has}
 use Rattle.tca_join.proofs.Sets.{has-append, has-in_order, only_one}
 use Rattle.tca_join.proofs.Unions.{union_again}
 use Rattle.tca_log.proofs.Contents.{has-filter}

@@ -1,5 +1,5 @@
 -- What the command `diff` writes and answers, and what it is refused for.
-use Rattle.std.specs.Prelude.{◌≡◌, ◌⊎◌, ◌==◌, ◌++◌, ℕ, Bool, true, false, ◌&&◌, not, List, [], ◌∷◌, length, filter, map, codes, Option, Some, None, Result, Ok, IsOk, if◌then◌else◌}
+use Rattle.std.specs.Prelude.{◌≡◌, ◌⊎◌, ◌==◌, ◌++◌, ℕ, true, false, ◌&&◌, not, List, [], ◌∷◌, length, filter, map, codes, Option, Some, None, Result, Ok, IsOk, if◌then◌else◌}
 use Rattle.std.specs.Fmt.{decimal}
 use Rattle.tca_join.specs.Sets.{has, in_order}
 use Rattle.tca_wire.specs.Results.{◌>>=◌}

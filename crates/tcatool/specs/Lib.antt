@@ -4,3 +4,5 @@ pub mod Endings
 pub mod Csv
 pub mod ReportLines
 pub mod Diffed
+pub mod Paired
+pub mod Pairing

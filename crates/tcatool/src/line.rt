@@ -1,16 +1,17 @@
 //! The words of a command line.
 ghost use Rattle.std.specs.Prelude.{◌≡◌, ◌≢◌, ◌∷◌, [], IfOk, IfErr, Some, None, codes, map, option_map, slice_get};
 ghost use Rattle.clap.specs.Words.{found_of, rows_of};
-ghost use Rattle.tcatool.specs.Lines.{command_of, diff, diff_of, files_of, order_from, order_in, order_of};
+ghost use Rattle.tcatool.specs.Lines.{command_of, diff, diff_of, files_of, order_from, order_in, order_of, pairs, pairs_of};
 
 use crate::commands;
 use clap::ArgMatches;
-use std::alloc::Global;
-use tca_program::{LineFault, text};
+use std::alloc::{AllocError, Global};
+use tca_program::{LineFault, text, texts};
 
 /// What the words of a command line ask for. The words of inputs are those of `split_word`.
 #[derive(Debug, Drop)]
 pub enum Line<'a> {
+    Pairs { inputs: Vec<&'a str> },
     Diff { a: &'a str, b: &'a str },
 }
 
@@ -20,6 +21,7 @@ impl<'a> Line<'a> {
         ensures { result.now ≡ command_of (order_of self.now) }
     {
         match self {
+            Line::Pairs { .. } => "pairs",
             Line::Diff { .. } => "diff",
         }
     }
@@ -29,6 +31,7 @@ impl<'a> Line<'a> {
         ensures { option_map (λ s. s.now) result ≡ slice_get (files_of (order_of self.now)) number }
     {
         match self {
+            Line::Pairs { inputs } => inputs.get(number as usize).copied(),
             Line::Diff { a, b } => match number {
                 0 => Some(*a),
                 1 => Some(*b),
@@ -36,6 +39,15 @@ impl<'a> Line<'a> {
             },
         }
     }
+}
+
+fn pairs_line<'a>(alloc: Global, matches: &ArgMatches<'a>) -> Result<Option<Line<'a>>, AllocError>
+    ensures { IfOk result (λ o. option_map order_of o ≡ pairs_of (rows_of (found_of matches.now))) }
+{
+    let Some(inputs) = texts(alloc, matches, "INPUT")? else {
+        return Ok(None);
+    };
+    Ok(Some(Line::Pairs { inputs }))
 }
 
 fn diff_line<'a>(matches: &ArgMatches<'a>) -> Option<Line<'a>>
@@ -46,12 +58,18 @@ fn diff_line<'a>(matches: &ArgMatches<'a>) -> Option<Line<'a>>
     Some(Line::Diff { a, b })
 }
 
-fn line_from<'a>(name: &str, matches: &ArgMatches<'a>) -> Option<Line<'a>>
-    ensures { option_map order_of result ≡ order_from name.now (rows_of (found_of matches.now)) }
+fn line_from<'a>(
+    alloc: Global,
+    name: &str,
+    matches: &ArgMatches<'a>,
+) -> Result<Option<Line<'a>>, AllocError>
+    ensures { IfOk result (λ o. option_map order_of o
+        ≡ order_from name.now (rows_of (found_of matches.now))) }
 {
     match name {
-        "diff" => diff_line(matches),
-        _ => None,
+        "pairs" => pairs_line(alloc, matches),
+        "diff" => Ok(diff_line(matches)),
+        _ => Ok(None),
     }
 }
 
@@ -74,14 +92,18 @@ pub fn read_line<'a>(alloc: Global, words: &'a [&'a str]) -> Result<Line<'a>, Li
     let Some((name, inner)) = matches.subcommand() else {
         return Err(LineFault::nothing_asked(alloc));
     };
-    match line_from(name, inner) {
-        Some(line) => Ok(line),
-        None => Err(LineFault::nothing_asked(alloc)),
+    match line_from(alloc, name, inner) {
+        Ok(Some(line)) => Ok(line),
+        Ok(None) => Err(LineFault::nothing_asked(alloc)),
+        Err(_) => Err(LineFault::Memory),
     }
 }
 
 /// What clap's meaning gives for command lines that are written out, right and wrong ones.
 pub fn written_out()
+    ensures pairs { order_in (codes "tcatool" ∷ codes "pairs" ∷ codes "a" ∷ codes "b" ∷ [])
+        ≡ Some (pairs (codes "a" ∷ codes "b" ∷ [])) }
+    ensures no_input { order_in (codes "tcatool" ∷ codes "pairs" ∷ []) ≡ None }
     ensures diff { order_in (codes "tcatool" ∷ codes "diff" ∷ codes "x" ∷ codes "y" ∷ [])
         ≡ Some (diff (codes "x") (codes "y")) }
     ensures one_side { order_in (codes "tcatool" ∷ codes "diff" ∷ codes "x" ∷ []) ≡ None }
@@ -89,6 +111,6 @@ pub fn written_out()
     ensures no_words { order_in ([]) ≡ None }
     ensures no_command { order_in (codes "tcatool" ∷ []) ≡ None }
     ensures unknown_command { order_in (codes "tcatool" ∷ codes "bill" ∷ codes "a" ∷ []) ≡ None }
-    ensures unknown_option { order_in (codes "tcatool" ∷ codes "diff" ∷ codes "--plan" ∷ codes "p" ∷ codes "x" ∷ codes "y" ∷ []) ≡ None }
+    ensures unknown_option { order_in (codes "tcatool" ∷ codes "pairs" ∷ codes "--plan" ∷ codes "p" ∷ codes "a" ∷ []) ≡ None }
     ensures help { order_in (codes "tcatool" ∷ codes "--help" ∷ []) ≡ None }
 {}

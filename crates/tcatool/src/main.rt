@@ -5,7 +5,7 @@
 //! word of that line.
 //!
 //! - `commands`, `line`, `ending`: the command line, what it asks for, and the word of a fault line;
-//! - `diff`: the command; `cell`, `row`, `report_line`: lines of CSV that go out in pieces.
+//! - `pairs`, `diff`: the commands; `cell`, `row`, `report_line`: lines of CSV that go out in pieces.
 #![tactic(auto)]
 
 mod cell;
@@ -14,6 +14,7 @@ mod diff;
 mod ending;
 mod laws;
 mod line;
+mod pairs;
 mod report_line;
 mod row;
 mod shell;

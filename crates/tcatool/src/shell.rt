@@ -8,6 +8,7 @@ ghost use Rattle.tcatool.specs.Lines.{order_in};
 use crate::diff::{Differences, run_diff};
 use crate::ending::word_of;
 use crate::line::{Line, read_line};
+use crate::pairs::run_pairs;
 use std::io;
 use std::rt::Files;
 use tca_program::{Ending, LineFault, RunFault, end, print_help, read_inputs, texts_of};
@@ -52,7 +53,8 @@ pub fn run<R: Files + AllocGlobal, W: Write, V: io::Write>(
         }
     };
     match run_line(rt, &line, out) {
-        Ok(differences) => end(&compared(differences, errors), errors),
+        Ok(Outcome::Done) => end(&Ending::Done, errors),
+        Ok(Outcome::Compared(differences)) => end(&compared(differences, errors), errors),
         Err(fault) => {
             let word = word_of(&line, fault);
             end(
@@ -79,17 +81,30 @@ fn compared<'a, V: io::Write>(differences: Differences, errors: &mut V) -> Endin
     }
 }
 
+// What came of a command that wasn't refused.
+#[derive(Drop)]
+enum Outcome {
+    Done,
+    // With how many reports differ.
+    Compared(Differences),
+}
+
 // Reads the files of a command and runs it.
 fn run_line<R: Files + AllocGlobal, W: Write>(
     rt: &R,
     line: &Line<'_>,
     out: &mut W,
-) -> Result<Differences, RunFault> {
+) -> Result<Outcome, RunFault> {
     match line {
+        Line::Pairs { inputs } => {
+            let inputs = read_inputs(rt, inputs)?;
+            run_pairs(rt.alloc(), &inputs, out)?;
+            Ok(Outcome::Done)
+        }
         Line::Diff { a, b } => {
             let inputs = read_inputs(rt, &[*a, *b])?;
             let differences = run_diff(rt.alloc(), &inputs[0], &inputs[1], out)?;
-            Ok(differences)
+            Ok(Outcome::Compared(differences))
         }
     }
 }

@@ -1,4 +1,5 @@
 use crate::diff::{Differences, run_diff};
+use crate::pairs::run_pairs;
 use std::alloc::{AllocError, Global};
 use std::io;
 use std::test::*;
@@ -16,26 +17,79 @@ const SECOND: Row = (100, 1, 1000);
 
 const THIRD: Row = (200, 2, 800);
 
-// A report of domain 7, session 0 and interface 1 in an export of version 2, spelled by hand.
-fn push_row(octets: &mut Vec<u8>, row: Row) -> Result<(), AllocError> {
+// A report of domain 7 and session 0 in an export of version 2, spelled by hand.
+fn push_row(octets: &mut Vec<u8>, row: Row, interface: u32) -> Result<(), AllocError> {
     let (time, place, size) = row;
     octets.extend_from_slice(&START.wrapping_add(time).to_be_bytes())?;
     octets.extend_from_slice(b"\x00\x00\x00\x07\x00\x00\x00\x00")?;
     octets.extend_from_slice(&place.to_be_bytes())?;
     octets.extend_from_slice(&size.to_be_bytes())?;
     octets.push(0)?;
-    octets.extend_from_slice(&1u32.to_be_bytes())?;
+    octets.extend_from_slice(&interface.to_be_bytes())?;
     Ok(())
 }
 
-// The export of these rows.
-fn export(alloc: Global, rows: &[Row]) -> Result<Vec<u8>, AllocError> {
+// The export of these rows, each with its interface.
+fn export_with(alloc: Global, rows: &[(Row, u32)]) -> Result<Vec<u8>, AllocError> {
     let mut octets = Vec::from_slice(alloc, b"TCAX\x00\x02\x00\x00\x00")?;
     octets.push(u8::try_from(rows.len()).unwrap_or(0))?;
-    for row in rows {
-        push_row(&mut octets, *row)?;
+    for (row, interface) in rows {
+        push_row(&mut octets, *row, *interface)?;
     }
     Ok(octets)
+}
+
+// The export of these rows, all of interface 1.
+fn export(alloc: Global, rows: &[Row]) -> Result<Vec<u8>, AllocError> {
+    let mut all = Vec::new(alloc);
+    for row in rows {
+        all.push((*row, 1))?;
+    }
+    export_with(alloc, &all)
+}
+
+fn inputs_of(alloc: Global, rows: &[(Row, u32)]) -> Result<Vec<Input>, AllocError> {
+    let mut inputs = Vec::new(alloc);
+    let octets = export_with(alloc, rows)?;
+    inputs.push(Input { session: 0, octets })?;
+    Ok(inputs)
+}
+
+#[test]
+fn prints_the_usage_of_pairs(rt: HostRuntime) {
+    let alloc = rt.alloc();
+    let Ok(text) = paired(alloc, &[(FIRST, 1), (SECOND, 1), (THIRD, 1)]) else {
+        panic!(rt; "lines");
+    };
+    assert!(rt; has_lines(&text, "7,1,3,3,3300,1700000000000,1700000000200\n"));
+    let five = [
+        (FIRST, 2),
+        ((50, 3, 600), 1),
+        ((60, 3, 601), 1),
+        (SECOND, 1),
+        (THIRD, 2),
+    ];
+    let Ok(text) = paired(alloc, &five) else {
+        panic!(rt; "lines");
+    };
+    let lines =
+        "7,1,3,1,1000,1700000000050,1700000000100\n7,2,2,2,2300,1700000000000,1700000000200\n";
+    assert!(rt; has_lines(&text, lines));
+}
+
+fn paired(alloc: Global, rows: &[(Row, u32)]) -> Result<Vec<u8>, RunFault> {
+    let inputs = inputs_of(alloc, rows)?;
+    let mut out = Host::new(Vec::new(alloc));
+    run_pairs(alloc, &inputs, &mut out)?;
+    Ok(out.into_inner())
+}
+
+// Whether a text is the header of `pairs` and these lines.
+fn has_lines(text: &[u8], lines: &str) -> bool {
+    match text.strip_prefix(b"domain,interface,reports,packets,octets,first,last\n") {
+        Some(rest) => rest == lines.as_bytes(),
+        None => false,
+    }
 }
 
 // What `diff` writes and answers of these rows.
@@ -101,20 +155,16 @@ fn many(alloc: Global, count: u32) -> Result<Vec<u8>, AllocError> {
     let mut octets = Vec::from_slice(alloc, b"TCAX\x00\x02")?;
     octets.extend_from_slice(&count.to_be_bytes())?;
     for n in 0..count {
-        push_row(&mut octets, (u64::from(n), n, 100))?;
+        push_row(&mut octets, (u64::from(n), n, 100), 1)?;
     }
     Ok(octets)
 }
 
 fn diff_of_many_to(alloc: Global, left: u32) -> Option<RunFault> {
-    let a = Input {
-        session: 0,
-        octets: many(alloc, 2000).ok()?,
-    };
-    let b = Input {
-        session: 0,
-        octets: many(alloc, 0).ok()?,
-    };
+    let octets = many(alloc, 2000).ok()?;
+    let a = Input { session: 0, octets };
+    let octets = many(alloc, 0).ok()?;
+    let b = Input { session: 0, octets };
     let mut out = Host::new(Failing { left });
     run_diff(alloc, &a, &b, &mut out).err()
 }

@@ -6,4 +6,5 @@ pub returns : goal.returns
 returns c =
     let top = λ (a : App). a.top in
     let none : app_of c.subcommand_required-command.result ≡ record (new_app (codes "tcatool")) { top = record (new_app (codes "tcatool")).top { subcommand_required = true } } = search rules in
-    c.in_ok-subcommand.ensures.shape c.in_ok-diff.ensures.1 ∙ ap₂ with_subcommand none (ap top c.in_ok-diff.ensures.0)
+    let first = c.in_ok-command.ensures.shape c.in_ok-pairs.ensures.1 ∙ ap₂ with_subcommand none (ap top c.in_ok-pairs.ensures.0) in
+    c.in_ok-subcommand.ensures.shape c.in_ok-diff.ensures.1 ∙ ap₂ with_subcommand first (ap top c.in_ok-diff.ensures.0)

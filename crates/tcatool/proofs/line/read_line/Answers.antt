@@ -20,8 +20,8 @@ returns-in-Err-try_get_matches_from-clause-refused c = λ other.
     let words = map (λ s. s.now) c.args.words.now in
     ap (λ (a : App). order_met order_from (fault_of a words) (subcommand_of program words)) (sym c.in-Ok.ensures) ∙ none_met order_from _ error _ kinds (λ e. other (c.of.ensures e))
 
-pub returns-in-Some-line_from-clause-ok : goal.returns-in-Some-line_from-clause-ok
-returns-in-Some-line_from-clause-ok c =
+pub returns-in-Ok-Some-clause-ok : goal.returns-in-Ok-Some-clause-ok
+returns-in-Ok-Some-clause-ok c =
     let words = map (λ s. s.now) c.args.words.now in
     let m = c.in-Ok-try_get_matches_from.matches in
     let parse = c.in-Ok-try_get_matches_from.ensures in
@@ -30,10 +30,10 @@ returns-in-Some-line_from-clause-ok c =
     ap (λ (a : App). subcommand_of a words) (sym c.in-Ok.ensures) ∙ sym (parse.matches (ap is_simple c.in-Ok.ensures ∙ has_order)).1 in
     let rows = rows_of (found_of c.in-Some.inner.now) in
     let is = met_is m c.in-Some.name.now rows c.in-Some.ensures.name c.in-Some.ensures.rows in
-    order_here order_from _ _ c.in-Some.name.now rows no_fault (met ∙ is) ∙ sym c.in-Some-line_from.ensures
+    order_here order_from _ _ c.in-Some.name.now rows no_fault (met ∙ is) ∙ sym c.in-Ok-Some.ensures ∙ ap (option_map order_of) c.in-Ok-Some.field-0-is
 
-pub returns-clause-refused : goal.returns-clause-refused
-returns-clause-refused c = λ other.
+pub returns-in-Ok-None-clause-refused : goal.returns-in-Ok-None-clause-refused
+returns-in-Ok-None-clause-refused c = λ other.
     let words = map (λ s. s.now) c.args.words.now in
     let m = c.in-Ok-try_get_matches_from.matches in
     let parse = c.in-Ok-try_get_matches_from.ensures in
@@ -42,4 +42,4 @@ returns-clause-refused c = λ other.
     ap (λ (a : App). subcommand_of a words) (sym c.in-Ok.ensures) ∙ sym (parse.matches (ap is_simple c.in-Ok.ensures ∙ has_order)).1 in
     let rows = rows_of (found_of c.in-Some.inner.now) in
     let is = met_is m c.in-Some.name.now rows c.in-Some.ensures.name c.in-Some.ensures.rows in
-    order_here order_from _ _ c.in-Some.name.now rows no_fault (met ∙ is) ∙ sym c.in-None.ensures
+    order_here order_from _ _ c.in-Some.name.now rows no_fault (met ∙ is) ∙ sym c.in-Ok-None.ensures ∙ ap (option_map order_of) c.in-Ok-None.field-0-is

@@ -3,6 +3,8 @@ use Rattle.tcatool.proofs.line.written_out.Goals as goal
 
 pub returns : goal.returns
 returns c = record {
+  pairs = line.pairs_two;
+  no_input = line.no_input;
   diff = line.two_sides;
   one_side = line.one_side;
   three_sides = line.three_sides;

@@ -1,6 +1,5 @@
-use Rattle.std.proofs.Common.{◌≡◌, ◌++◌, ◌∙◌, List, [], ℕ, Err, drop, ap, sym, subst, arith, rules}
+use Rattle.std.proofs.Common.{◌≡◌, ◌++◌, Err, drop, subst, rules}
 use Rattle.std.specs.List.{flat_map}
-use Rattle.std.proofs.lemmas.List.{append-nil}
 use Rattle.std.proofs.lemmas.Result.{IfErr-weaker}
 use Rattle.tca_program.specs.Devices.{IsCutOff, device}
 use Rattle.tcatool.proofs.Pieces.{cut_behind, more_sent, one_row, whole_is}
