@@ -1,25 +1,28 @@
-"""The second program, over real files: what only one of two inputs has."""
+"""The second program, over real files: what only one of two inputs has, and which pairs of domain and interface there are."""
 import random
 
 from model import export
 from program import TOOL, ProgramTest
 from rows import FIRST, LATE, ONE, SECOND, THIRD, THREE, THREE_1, THREE_2, TIME
 
+PAIRS = b"domain,interface,reports,packets,octets,first,last\n"
 HEADER = b"side,time,domain,session,place,octets,dscp,interface\n"
 
 
-class Differences(ProgramTest):
+class ToolTest(ProgramTest):
     def run_tool(self, *words):
         return self.run_program(*words, program=TOOL)
-
-    def assert_differ(self, run, lines, only_a, only_b, both):
-        counts = f"tcatool: diff: only A {only_a}, only B {only_b}, both {both}\n".encode()
-        status = 1 if only_a or only_b else 0
-        self.assertEqual((run.status, run.out, run.err), (status, HEADER + lines, counts))
 
     def assert_tool_refused(self, run, word, family, number):
         line = f"tcatool: {word}: {family} {number}\n".encode()
         self.assertEqual((run.status, run.out, run.err), (1, b"", line))
+
+
+class Differences(ToolTest):
+    def assert_differ(self, run, lines, only_a, only_b, both):
+        counts = f"tcatool: diff: only A {only_a}, only B {only_b}, both {both}\n".encode()
+        status = 1 if only_a or only_b else 0
+        self.assertEqual((run.status, run.out, run.err), (status, HEADER + lines, counts))
 
     def test_reports_of_one_side(self):
         self.write("a", export([FIRST, SECOND]))
@@ -76,9 +79,46 @@ class Differences(ProgramTest):
         self.assertEqual((run.status, run.err), (1, b"tcatool: diff: write 1\n"))
 
     def test_wrong_lines(self):
-        for words in ((), ("diff",), ("diff", "a"), ("diff", "a", "b", "c"), ("bill", "a")):
+        for words in ((), ("diff",), ("diff", "a"), ("diff", "a", "b", "c"), ("pairs",), ("bill", "a")):
             run = self.run_tool(*words)
             self.assertEqual((run.status, run.out), (2, b""), words)
         run = self.run_tool("diff", "--help")
         self.assertEqual((run.status, run.err), (0, b""))
         self.assertIn(b"Example: tcatool diff", run.out)
+
+
+class Pairs(ToolTest):
+    def test_one_pair(self):
+        self.write("a", THREE_1)
+        self.assert_done(self.run_tool("pairs", "a"), PAIRS + b"7,1,3,3,3300,1700000000000,1700000000200\n")
+
+    def test_no_reports(self):
+        self.write("a", export([]))
+        self.assert_done(self.run_tool("pairs", "a"), PAIRS)
+
+    def test_any_sets(self):
+        numbers = random.Random(9)
+        for _ in range(100):
+            union = set()
+            for name in ("a", "b"):
+                side = {(TIME + numbers.randrange(9), numbers.randrange(3), numbers.randrange(2), numbers.randrange(4), numbers.randrange(1, 9), 0, numbers.randrange(3))
+                        for _ in range(numbers.randrange(20))}
+                self.write(name, export(side))
+                union |= side
+            contents = {}
+            for report in union:
+                contents.setdefault(report[1:4], []).append(report)
+            settled = {found[0] for found in contents.values() if len(found) == 1}
+            lines = ""
+            for domain, interface in sorted({(report[1], report[6]) for report in union}):
+                every = [report for report in union if (report[1], report[6]) == (domain, interface)]
+                billed = [report[4] for report in every if report in settled]
+                times = [report[0] for report in every]
+                lines += f"{domain},{interface},{len(every)},{len(billed)},{sum(billed)},{min(times)},{max(times)}\n"
+            self.assert_done(self.run_tool("pairs", "a", "b"), PAIRS + lines.encode())
+
+    def test_refusals(self):
+        self.write("a", export(THREE))
+        self.write("cut", THREE_2[:96])
+        self.assert_tool_refused(self.run_tool("pairs", "a", "cut"), "cut", "export", 4)
+        self.assert_tool_refused(self.run_tool("pairs", "cut", "missing"), "missing", "read", 1)
