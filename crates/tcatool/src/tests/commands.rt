@@ -48,13 +48,6 @@ fn export(alloc: Global, rows: &[Row]) -> Result<Vec<u8>, AllocError> {
     export_with(alloc, &all)
 }
 
-fn inputs_of(alloc: Global, rows: &[(Row, u32)]) -> Result<Vec<Input>, AllocError> {
-    let mut inputs = Vec::new(alloc);
-    let octets = export_with(alloc, rows)?;
-    inputs.push(Input { session: 0, octets })?;
-    Ok(inputs)
-}
-
 #[test]
 fn prints_the_usage_of_pairs(rt: HostRuntime) {
     let alloc = rt.alloc();
@@ -78,7 +71,8 @@ fn prints_the_usage_of_pairs(rt: HostRuntime) {
 }
 
 fn paired(alloc: Global, rows: &[(Row, u32)]) -> Result<Vec<u8>, RunFault> {
-    let inputs = inputs_of(alloc, rows)?;
+    let octets = export_with(alloc, rows)?;
+    let inputs = [Input { session: 0, octets }];
     let mut out = Host::new(Vec::new(alloc));
     run_pairs(alloc, &inputs, &mut out)?;
     Ok(out.into_inner())
