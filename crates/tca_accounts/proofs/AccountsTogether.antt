@@ -13,7 +13,7 @@ use Rattle.toml.proofs.Views.{items_view-drop}
 use Rattle.tca_wire.specs.Results.{◌>>=◌}
 use Rattle.tca_accounts.specs.Plans.{PlannedAccount, all_pairs, owns, same_pair, all_differ}
 use Rattle.tca_accounts.specs.Documents.{account_in, accounts_from, only_if, pair_in, pairs_of}
-use Rattle.tca_accounts.specs.Readings.{are_few, differ_before, names_differ, pairs_differ, together}
+use Rattle.tca_accounts.specs.inside.Readings.{are_few, differ_before, names_differ, pairs_differ, together}
 use Rattle.tca_accounts.specs.declared.fault.PlanFault.{PlanFault}
 use Rattle.tca_accounts.specs.declared.fault.PlanFault.TheVariants as fault
 

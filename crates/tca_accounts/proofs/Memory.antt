@@ -14,7 +14,7 @@ use Rattle.tca_accounts.specs.declared.fault.PlanFault.{PlanFault}
 use Rattle.tca_accounts.specs.declared.fault.PlanFault.TheVariants as fault
 use Rattle.tca_accounts.specs.Plans.{is_name}
 use Rattle.tca_accounts.specs.Documents as doc
-use Rattle.tca_accounts.specs.Readings.{are_accounts, are_few, together}
+use Rattle.tca_accounts.specs.inside.Readings.{are_accounts, are_few, together}
 
 abbrev pub Suffices : {A : Type 0} → Result A PlanFault → Type 0
 Suffices r = IfErr r (λ e. e ≢ fault.Memory)

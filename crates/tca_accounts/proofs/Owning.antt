@@ -14,7 +14,7 @@ use Rattle.std.specs.Ordering.{nat_cmp, ordering_then, is_eq, MatchOrdering}
 use Rattle.std.specs.declared.cmp.Ordering.{Ordering}
 use Rattle.std.specs.declared.cmp.Ordering.TheVariants.{Less, Equal, Greater}
 use Rattle.tca_accounts.specs.Plans.{PlannedAccount, all_differ, all_pairs, are_distinct, owns, same_pair}
-use Rattle.tca_accounts.specs.Owners.{AreOwners, AreSlots, Gains, GoesOn, Tells, slot_of, IsTwice, are_new, or_else, owned, owner_among, owner_in, owner_then, pair_cmp}
+use Rattle.tca_accounts.specs.inside.Owners.{AreOwners, AreSlots, Gains, GoesOn, Tells, slot_of, IsTwice, are_new, or_else, owned, owner_among, owner_in, owner_then, pair_cmp}
 
 abbrev Pair : Type 0
 Pair = ℕ × ℕ

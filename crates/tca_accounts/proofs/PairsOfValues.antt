@@ -7,7 +7,7 @@ use Rattle.tca_accounts.specs.declared.key.Key.TheVariants as key
 use Rattle.tca_accounts.specs.declared.fault.PlanFault.{PlanFault}
 use Rattle.tca_accounts.specs.declared.fault.PlanFault.TheVariants as fault
 use Rattle.tca_accounts.specs.Documents.{at, count_items, items_of, pair_in, pairs_in, pairs_of}
-use Rattle.tca_accounts.specs.Readings.{each_is_pair, passes}
+use Rattle.tca_accounts.specs.inside.Readings.{each_is_pair, passes}
 
 no_pair : (vs : List Value) → length vs ≢ 2 → Err (fault.Wrong key.Keys) ≡ pair_in (array (items_view vs))
 no_pair [] h = refl

@@ -8,7 +8,7 @@ use Rattle.tca_wire.specs.Results.{◌>>=◌}
 use Rattle.tca_accounts.specs.declared.key.Key.TheVariants as key
 use Rattle.tca_accounts.specs.declared.fault.PlanFault.TheVariants as fault
 use Rattle.tca_accounts.specs.Documents.{at, has_only, items_of, only_if, plan_of, whole_of}
-use Rattle.tca_accounts.specs.Readings.{plan_from}
+use Rattle.tca_accounts.specs.inside.Readings.{plan_from}
 use Rattle.tca_accounts.proofs.PairsOfValues.{count_items-view}
 
 abbrev in_limits : List Value → Bool

@@ -1,5 +1,4 @@
 pub mod Plans
-pub mod Owners
 pub mod Sums
 pub mod Spans
 pub mod Bills
@@ -7,4 +6,4 @@ pub mod TermBills
 pub mod Metering
 pub mod Faults
 pub mod Documents
-pub mod Readings
+pub mod inside

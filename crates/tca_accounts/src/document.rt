@@ -4,7 +4,7 @@ ghost use Rattle.std.specs.List.{list_any};
 ghost use Rattle.std.specs.Str.{bytes_eq};
 ghost use Rattle.toml.specs.View.{items_view, table_view};
 ghost use Rattle.tca_accounts.specs.Documents.{at, has_only, items_of, key_name, text_of, truth_of, truth_or_false, whole_of};
-ghost use Rattle.tca_accounts.specs.Readings.{found, mapped};
+ghost use Rattle.tca_accounts.specs.inside.Readings.{found, mapped};
 
 use crate::fault::PlanFault;
 use crate::key::Key;

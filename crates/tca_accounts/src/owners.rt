@@ -1,7 +1,7 @@
 //! Which account owns a pair of an observation domain and an interface.
 ghost use Rattle.std.specs.Prelude.{◌≡◌, ℕ, ◌<◌, ◌≤◌, ◌^◌, [], cond, map, length, is_none, Some, IfOk, IfSome, MatchOption, OnOk, false, true};
 ghost use Rattle.tca_accounts.specs.Plans.{all_differ, all_pairs, same_pair};
-ghost use Rattle.tca_accounts.specs.Owners.{AreOwners, Gains, GoesOn, IsTwice, owner_in};
+ghost use Rattle.tca_accounts.specs.inside.Owners.{AreOwners, Gains, GoesOn, IsTwice, owner_in};
 
 use crate::account::Account;
 use crate::pair::{Pair, SLOTS};
@@ -22,7 +22,7 @@ pub(crate) struct Owners {
 
 impl Model for Owners {
     ghost use Rattle.std.specs.Prelude.{ℕ, List};
-    ghost use Rattle.tca_accounts.specs.Owners.{AreSlots};
+    ghost use Rattle.tca_accounts.specs.inside.Owners.{AreSlots};
 
     ghost Value = { List ((ℕ × ℕ) × ℕ) };
 

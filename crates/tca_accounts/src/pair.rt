@@ -4,7 +4,7 @@ ghost use Rattle.std.specs.Ordering.{is_eq};
 ghost use Rattle.std.specs.Cmp;
 ghost use Rattle.std.specs.Cmp.{eq_by_cmp_equiv, partial_order_from_agreeing_total, partial_equiv_from_equiv};
 ghost use Rattle.std.proofs.Common.{refl, Some};
-ghost use Rattle.tca_accounts.specs.Owners.{pair_cmp, pair_total, slot_of};
+ghost use Rattle.tca_accounts.specs.inside.Owners.{pair_cmp, pair_total, slot_of};
 ghost use Rattle.tca_accounts.specs.Plans.{pair_of};
 
 use std::cmp::Ordering;

@@ -3,7 +3,7 @@ ghost use Rattle.std.specs.Prelude.{◌≡◌, IfOk, IsOk};
 ghost use Rattle.toml.specs.View.{items_view, table_view, view};
 ghost use Rattle.tca_wire.specs.Results.{Gives};
 ghost use Rattle.tca_accounts.specs.Documents.{pair_in, pairs_in, pairs_of, part_of};
-ghost use Rattle.tca_accounts.specs.Readings.{each_is_pair, pairs_read};
+ghost use Rattle.tca_accounts.specs.inside.Readings.{each_is_pair, pairs_read};
 ghost use Rattle.tca_accounts.specs.declared.fault.PlanFault.TheVariants.{Memory};
 
 use crate::document::{at, items, whole};

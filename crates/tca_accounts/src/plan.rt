@@ -28,7 +28,7 @@ pub struct Plan {
 
 impl Model for Plan {
     ghost use Rattle.tca_accounts.specs.Plans.{AccountPlan, IsPlan};
-    ghost use Rattle.tca_accounts.specs.Owners.{AreOwners};
+    ghost use Rattle.tca_accounts.specs.inside.Owners.{AreOwners};
 
     ghost Value = { AccountPlan };
 

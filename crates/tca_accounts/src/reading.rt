@@ -4,7 +4,7 @@ ghost use Rattle.toml.specs.Parse.{parse_document};
 ghost use Rattle.toml.specs.View.{items_view, table_view};
 ghost use Rattle.tca_wire.specs.Results.{Gives};
 ghost use Rattle.tca_accounts.specs.Documents.{accounts_from, plan_in, plan_of};
-ghost use Rattle.tca_accounts.specs.Readings.{plan_from};
+ghost use Rattle.tca_accounts.specs.inside.Readings.{plan_from};
 ghost use Rattle.tca_report.specs.report.Reports.{time_end};
 ghost use Rattle.tca_accounts.specs.declared.fault.PlanFault.TheVariants.{Memory};
 

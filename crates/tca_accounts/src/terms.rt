@@ -3,7 +3,7 @@ ghost use Rattle.std.specs.Prelude.{◌≡◌, ◌<◌, ◌≤◌, IfOk, length,
 ghost use Rattle.tca_meters.specs.Termed.{most_terms};
 ghost use Rattle.toml.specs.View.{items_view, table_view, view};
 ghost use Rattle.tca_accounts.specs.Documents.{judged, term_in, termed_in, terms_from, terms_in, with_terms};
-ghost use Rattle.tca_accounts.specs.Readings.{mapped, read_into};
+ghost use Rattle.tca_accounts.specs.inside.Readings.{mapped, read_into};
 ghost use Rattle.tca_report.specs.report.Reports.{time_end};
 
 use crate::document::{at, has_only, items, truth_or_false, whole};

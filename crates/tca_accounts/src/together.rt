@@ -5,7 +5,7 @@ ghost use Rattle.std.specs.Str.{bytes_eq};
 ghost use Rattle.toml.specs.View.{items_view, view};
 ghost use Rattle.tca_accounts.specs.Plans.{owns, same_pair};
 ghost use Rattle.tca_accounts.specs.Documents.{accounts_from, pairs_of};
-ghost use Rattle.tca_accounts.specs.Readings.{are_accounts, are_few, differ_from, pairs_at, mapped, names_differ, named_in, of_accounts, of_pairs, pairs_differ, pairs_read};
+ghost use Rattle.tca_accounts.specs.inside.Readings.{are_accounts, are_few, differ_from, pairs_at, mapped, names_differ, named_in, of_accounts, of_pairs, pairs_differ, pairs_read};
 
 use crate::account::MOST_PAIRS;
 use crate::draft::read_account;

@@ -20,7 +20,7 @@ use Rattle.tca_accounts.specs.Spans.{Ascend}
 use Rattle.tca_accounts.specs.Bills.{is_number, coloured_by, coloured_in, reports_of, tally_of}
 use Rattle.tca_accounts.specs.Metering.{CanAdd, owned}
 use Rattle.tca_accounts.proofs.Bills.{all_from, coloured_length, few_of, field_at, filter_few, from_zero, same_maps, spans_rise, tally_done}
-use Rattle.tca_audit.specs.Metering.{AreMetering, IsMetering, standing, tally_so_far}
+use Rattle.tca_audit.specs.inside.Metering.{AreMetering, IsMetering, standing, tally_so_far}
 use Rattle.tca_audit.specs.declared.account.Account.{Account}
 
 some_account : (accounts : List PlannedAccount) (n : ℕ) → n < length accounts → PlannedAccount

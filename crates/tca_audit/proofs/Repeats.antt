@@ -20,7 +20,7 @@ use Rattle.tca_log.specs.Disputes.{contents, disputed, has_identity}
 use Rattle.tca_log.proofs.Contents.{disputed_is, tests_alike}
 use Rattle.tca_log.proofs.Filters.{alike}
 use Rattle.tca_join.proofs.Search.{found_at, gap_at, searchable}
-use Rattle.tca_audit.specs.Repeats.{begins_with, repeats}
+use Rattle.tca_audit.specs.inside.Repeats.{begins_with, repeats}
 
 abbrev same : Identity → Identity → Bool
 same i x = eq_by_cmp identity_cmp i x

@@ -6,7 +6,7 @@ use Rattle.tca_meters.specs.declared.any_meter.AnyMeter.{AnyMeter}
 use Rattle.tca_meters.specs.declared.termed.InTerm.{InTerm}
 use Rattle.tca_meters.specs.AnyMeters.{any_rule}
 use Rattle.tca_meters.specs.Termed.{IsTermed, TermedMeter, after_tokens, begun, term, term_at}
-use Rattle.tca_meters.specs.TermedLaws.{begins, begins_none, has_started}
+use Rattle.tca_meters.specs.laws.TermedLaws.{begins, begins_none, has_started}
 use Rattle.tca_meters.proofs.Terms.{starts_later, terms_rise}
 
 -- a term's number, and full buckets

@@ -1,4 +1,3 @@
 pub mod Faults
-pub mod Metering
-pub mod Repeats
 pub mod Audits
+pub mod inside

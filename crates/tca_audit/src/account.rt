@@ -7,7 +7,7 @@ ghost use Rattle.tca_accounts.specs.Bills.{coloured_by};
 ghost use Rattle.tca_accounts.specs.Metering.{CanAdd, HasRoom, closed_by, sums_in, with_last};
 ghost use Rattle.tca_accounts.specs.Spans.{Ascend};
 ghost use Rattle.tca_accounts.specs.Sums.{with_packet};
-ghost use Rattle.tca_audit.specs.Metering.{IsMetering, tally_so_far};
+ghost use Rattle.tca_audit.specs.inside.Metering.{IsMetering, tally_so_far};
 
 use crate::terms::{TermBuckets, begun, metered};
 use std::alloc::{AllocError, Global};

@@ -4,7 +4,7 @@ ghost use Rattle.std.specs.List.Sorted.{IsPermutation, IsSorted, IsStrictlySorte
 ghost use Rattle.tca_join.specs.Sets.{has};
 ghost use Rattle.tca_report.specs.report.Identities.{identity_cmp, identity_of};
 ghost use Rattle.tca_log.specs.Disputes.{disputed};
-ghost use Rattle.tca_audit.specs.Repeats.{begins_with, repeats};
+ghost use Rattle.tca_audit.specs.inside.Repeats.{begins_with, repeats};
 
 use std::alloc::{AllocError, Global};
 use tca_report::{Identity, Report};

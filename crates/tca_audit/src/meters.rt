@@ -1,7 +1,7 @@
 //! The buckets of a meter of any of the three kinds, and what tokens and a packet do to them.
 ghost use Rattle.std.specs.Prelude.{◌≡◌, ◌<◌, ◌≤◌};
 ghost use Rattle.tca_meters.specs.AnyMeters.{any_rule};
-ghost use Rattle.tca_audit.specs.Metering.{levels_of};
+ghost use Rattle.tca_audit.specs.inside.Metering.{levels_of};
 ghost use Rattle.tca_report.specs.report.Reports.{time_end};
 
 use crate::buckets::Buckets;

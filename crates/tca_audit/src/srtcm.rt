@@ -4,7 +4,7 @@ ghost use Rattle.std.specs.Prelude.{◌≡◌, ◌⊎◌, ◌<◌, ◌≤◌, Ma
 ghost use Rattle.tca_buckets.specs.Buckets.{spill};
 ghost use Rattle.tca_meters.specs.Colours.{counted};
 ghost use Rattle.tca_meters.specs.SrTcm.{filled_levels, judged_packet, opening_levels};
-ghost use Rattle.tca_audit.specs.Metering.{levels_of};
+ghost use Rattle.tca_audit.specs.inside.Metering.{levels_of};
 ghost use Rattle.tca_report.specs.report.Reports.{time_end};
 
 use crate::arrivals::{first_after, has_come};

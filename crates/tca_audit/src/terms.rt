@@ -6,7 +6,7 @@
 ghost use Rattle.std.specs.Prelude.{◌≡◌, ◌<◌, ◌≤◌};
 ghost use Rattle.tca_meters.specs.Packets.{answer};
 ghost use Rattle.tca_meters.specs.Termed.{term, termed_rule};
-ghost use Rattle.tca_audit.specs.Metering.{state_of};
+ghost use Rattle.tca_audit.specs.inside.Metering.{state_of};
 ghost use Rattle.tca_report.specs.report.Reports.{time_end};
 
 use crate::buckets::Buckets;

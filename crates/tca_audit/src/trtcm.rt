@@ -3,7 +3,7 @@
 ghost use Rattle.std.specs.Prelude.{◌≡◌, ◌<◌, ◌≤◌};
 ghost use Rattle.tca_meters.specs.Colours.{counted};
 ghost use Rattle.tca_meters.specs.TrTcm.{filled_levels, judged_packet, opening_levels};
-ghost use Rattle.tca_audit.specs.Metering.{levels_of};
+ghost use Rattle.tca_audit.specs.inside.Metering.{levels_of};
 ghost use Rattle.tca_report.specs.report.Reports.{time_end};
 
 use crate::arrivals;

@@ -6,13 +6,13 @@ use Rattle.tca_join.specs.Sets.{has, in_order}
 use Rattle.tca_join.specs.Sets.{put as put_report}
 use Rattle.tca_join.specs.Chains.{ChainView, chain_joined, differ_at, longer}
 use Rattle.tca_join.specs.Maps.{Rises, clash_key, get, merged, put}
-use Rattle.tca_join.specs.MapLaws.{get_merged, rises_merged}
+use Rattle.tca_join.specs.laws.MapLaws.{get_merged, rises_merged}
 use Rattle.tca_join.proofs.Differ.{longer_covers}
 use Rattle.tca_join.proofs.Unions.{union_longer}
 use Rattle.tca_report.proofs.lemmas.report.Order.{report_total, report_exact}
 use Rattle.tca_accounts.specs.Plans.{AccountPlan}
 use Rattle.tca_gossip.specs.Replicas.{ReplicaView, IsReplica, append_one, chain_of, least_of, merge_clash, merged_with, or_empty}
-use Rattle.tca_gossip.specs.Kept.{AreContents, IsOwnWithin, held_in, replica_of, BillingView, Bills}
+use Rattle.tca_gossip.specs.inside.Kept.{AreContents, IsOwnWithin, held_in, replica_of, BillingView, Bills}
 use Rattle.tca_gossip.proofs.Takes.{replica_append, replica_opened}
 use Rattle.tca_gossip.proofs.Sizes.{own_within}
 use Rattle.tca_gossip.proofs.Merges.{replica_merged}

@@ -4,7 +4,7 @@ use Rattle.std.specs.List.{AllByRecursion}
 use Rattle.std.proofs.lemmas.Bool.{eq-eqb, eqb-true, ltb-true, le-ltb}
 use Rattle.tca_report.specs.report.Reports.{PacketReport}
 use Rattle.tca_join.specs.Maps.{get, Rises}
-use Rattle.tca_join.specs.MapLaws.{not_there}
+use Rattle.tca_join.specs.laws.MapLaws.{not_there}
 use Rattle.tca_gossip.specs.Replicas.{ReplicaView, IsReplica, chain_of, or_empty}
 use Rattle.tca_gossip.specs.Runs.{RunView, AreRuns, summary_count, delta_of}
 use Rattle.tca_gossip.specs.Machines.{Message, Counts, Parts, Machine, IsWorld, IsPart, IsSound, Shows, sends, run_between}

@@ -10,7 +10,7 @@ use Rattle.tca_report.proofs.lemmas.report.Order.{report_total, report_exact}
 use Rattle.tca_join.proofs.Sets.{has-put, has-append, rises_put, or_assoc, or_swap}
 use Rattle.tca_join.proofs.Merge.{in_order_alike, in_order_of_rising}
 use Rattle.tca_join.specs.Maps.{get, Rises, join_with}
-use Rattle.tca_join.specs.MapLaws.{get_put, rises_put as rises_put_key}
+use Rattle.tca_join.specs.laws.MapLaws.{get_put, rises_put as rises_put_key}
 use Rattle.tca_gossip.specs.Replicas.{ReplicaView, or_empty, chain_of, append_one, appended, of, reports_in, with_origin}
 
 pub appended_more : (v : ReplicaView) (ps qs : List (ℕ × PacketReport)) → appended v (ps ++ qs) ≡ appended (appended v ps) qs

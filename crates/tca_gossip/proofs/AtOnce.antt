@@ -11,14 +11,14 @@ use Rattle.tca_report.proofs.lemmas.report.Order.{report_total, report_exact}
 use Rattle.tca_join.specs.Sets.{by_order, has, put, in_order}
 use Rattle.tca_join.specs.Chains.{ChainView, chain}
 use Rattle.tca_join.specs.Maps.{get, Rises, with_value, join_with}
-use Rattle.tca_join.specs.MapLaws.{get_put, rises_put as rises_put_key}
+use Rattle.tca_join.specs.laws.MapLaws.{get_put, rises_put as rises_put_key}
 use Rattle.tca_join.proofs.Sets.{has-put, has-append, rises_put, or_assoc, or_swap}
 use Rattle.tca_join.proofs.Search.{put_again}
 use Rattle.tca_join.proofs.Merge.{in_order_alike}
 use Rattle.tca_join.proofs.Firsts.{only_map}
 use Rattle.tca_accounts.specs.Plans.{AccountPlan}
 use Rattle.tca_gossip.specs.Replicas.{ReplicaView, IsReplica, or_empty, chain_of, append_one, appended, fresh_of, with_origin, taken, of, reports_in}
-use Rattle.tca_gossip.specs.Kept.{AreContents, IsOwnWithin, chain_items, kept_of, held_in, replica_of, BillingView, Bills}
+use Rattle.tca_gossip.specs.inside.Kept.{AreContents, IsOwnWithin, chain_items, kept_of, held_in, replica_of, BillingView, Bills}
 use Rattle.tca_gossip.proofs.Appends.{appended_name, appended_plan, appended_rises, chain_appended, log_appended, of_tagged, of_other, reports_tagged}
 use Rattle.tca_gossip.proofs.Plains.{some_chain, rises_held, get_held, chain_held, kept_set}
 use Rattle.tca_gossip.proofs.Sizes.{put_new}

@@ -6,7 +6,7 @@ use Rattle.tca_join.specs.Sets.{has}
 use Rattle.tca_report.proofs.lemmas.report.Order.{report_total, report_exact}
 use Rattle.tca_join.proofs.Sets.{has-append, only_one}
 use Rattle.tca_join.specs.Maps.{get, Rises}
-use Rattle.tca_join.specs.MapLaws.{not_there}
+use Rattle.tca_join.specs.laws.MapLaws.{not_there}
 use Rattle.tca_gossip.specs.Replicas.{ReplicaView, or_empty, chain_of, all_of, IsReplica}
 use Rattle.tca_gossip.specs.Machines.{Machine, Shows}
 use Rattle.tca_gossip.proofs.Worlds.{equal_counts}

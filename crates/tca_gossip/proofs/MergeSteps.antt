@@ -3,7 +3,7 @@ use Rattle.std.proofs.Common.{◌≡◌, ℕ, suc, zero, Bool, true, false, Opti
 use Rattle.std.proofs.lemmas.Bool.{eq-eqb, le-ltb}
 use Rattle.tca_report.specs.report.Reports.{PacketReport}
 use Rattle.tca_join.specs.Maps.{get, Rises, clash_key, clash_with}
-use Rattle.tca_join.specs.MapLaws.{clash_nowhere}
+use Rattle.tca_join.specs.laws.MapLaws.{clash_nowhere}
 use Rattle.tca_join.specs.Chains.{differ_at}
 use Rattle.tca_gossip.specs.Replicas.{ReplicaView, chain_of, or_empty, merged_with, merge_clash}
 use Rattle.tca_gossip.specs.Machines.{Machine, IsWorld, Shows, is_name, joined}

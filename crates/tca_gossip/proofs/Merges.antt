@@ -7,7 +7,7 @@ use Rattle.tca_join.specs.Sets.{has}
 use Rattle.tca_report.proofs.lemmas.report.Order.{report_total}
 use Rattle.tca_join.proofs.Sets.{has-append, has-in_order, rises_in_order}
 use Rattle.tca_join.specs.Maps.{get, Rises, join_with, clash_with, clash_key, merged}
-use Rattle.tca_join.specs.MapLaws.{clash_at, get_merged, rises_merged}
+use Rattle.tca_join.specs.laws.MapLaws.{clash_at, get_merged, rises_merged}
 use Rattle.tca_join.specs.Chains.{longer, differ_at, next}
 use Rattle.tca_gossip.specs.Replicas.{ReplicaView, or_empty, all_of, IsReplica, merged_with}
 use Rattle.tca_gossip.proofs.Logs.{all_has, some_has, same_test}

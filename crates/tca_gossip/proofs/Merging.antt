@@ -4,9 +4,9 @@ use Rattle.std.proofs.lemmas.Bool.{ltb-true, ltb-false, le-ltb}
 use Rattle.tca_report.specs.report.Reports.{PacketReport, report_cmp}
 use Rattle.tca_report.proofs.lemmas.report.Order.{report_total, report_exact}
 use Rattle.tca_join.specs.Maps.{get, Rises, join_with, clash_key, clash_with, merged}
-use Rattle.tca_join.specs.MapLaws.{clash_at, clash_nowhere, get_merged, rises_merged}
+use Rattle.tca_join.specs.laws.MapLaws.{clash_at, clash_nowhere, get_merged, rises_merged}
 use Rattle.tca_join.specs.Chains.{differ_at, longer}
-use Rattle.tca_join.specs.ChainLaws.{longer_within}
+use Rattle.tca_join.specs.laws.ChainLaws.{longer_within}
 use Rattle.tca_join.proofs.Firsts.{only_map, clash_is_least}
 use Rattle.tca_join.proofs.Unions.{union_above, union_again, union_associates, union_commutes, union_least}
 use Rattle.tca_gossip.specs.Replicas.{ReplicaView, IsReplica, chain_of, least_of, merge_clash, merged_with, or_empty}

@@ -5,10 +5,10 @@ use Rattle.std.proofs.lemmas.Bool.{eqb-true}
 use Rattle.tca_report.specs.report.Reports.{PacketReport}
 use Rattle.tca_join.specs.Chains.{ChainView, chain, differ_at, longer, chain_clash, chain_joined}
 use Rattle.tca_join.specs.Maps.{get, put, Rises, with_value, join_with, merged, clash_key, clash_with, first_of}
-use Rattle.tca_join.specs.MapLaws.{not_there, get_put, rises_put, get_merged, rises_merged}
+use Rattle.tca_join.specs.laws.MapLaws.{not_there, get_put, rises_put, get_merged, rises_merged}
 use Rattle.tca_join.proofs.Firsts.{only_map}
 use Rattle.tca_gossip.specs.Replicas.{or_empty}
-use Rattle.tca_gossip.specs.Kept.{chain_items, kept_of, before_others, held_in}
+use Rattle.tca_gossip.specs.inside.Kept.{chain_items, kept_of, before_others, held_in}
 
 -- a chain that holds something
 abbrev pub some_chain : List PacketReport → Option (List PacketReport)

@@ -4,8 +4,8 @@ use Rattle.std.proofs.lemmas.Bool.{eq-eqb}
 use Rattle.tca_report.specs.report.Reports.{PacketReport}
 use Rattle.tca_join.specs.Chains.{ChainView, chain}
 use Rattle.tca_join.specs.Maps.{get, put, Rises, with_value, join_with}
-use Rattle.tca_join.specs.MapLaws.{get_put, rises_put}
-use Rattle.tca_gossip.specs.Kept.{chain_items, kept_of, held_in}
+use Rattle.tca_join.specs.laws.MapLaws.{get_put, rises_put}
+use Rattle.tca_gossip.specs.inside.Kept.{chain_items, kept_of, held_in}
 use Rattle.tca_gossip.proofs.Plains.{held_puts, held_same}
 
 module _ (es : List (ℕ × ChainView PacketReport)) (rises : Rises es) (o : ℕ) where

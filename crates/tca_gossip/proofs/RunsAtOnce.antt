@@ -12,7 +12,7 @@ use Rattle.tca_join.specs.Maps.{Rises}
 use Rattle.tca_join.proofs.Unions.{union_longer}
 use Rattle.tca_gossip.specs.Replicas.{ReplicaView, IsReplica, chain_of, appended, with_origin, of, reports_in}
 use Rattle.tca_gossip.specs.Runs.{RunView, AreRuns, first_fault, rest_of, rests}
-use Rattle.tca_gossip.specs.Kept.{AreContents, IsOwnWithin, kept_of, replica_of, BillingView}
+use Rattle.tca_gossip.specs.inside.Kept.{AreContents, IsOwnWithin, kept_of, replica_of, BillingView}
 use Rattle.tca_gossip.proofs.Appends.{of_append, reports_append, reports_tagged}
 use Rattle.tca_gossip.proofs.Plains.{chain_held}
 use Rattle.tca_gossip.proofs.AbsorbSteps.{none_before, none_own, rests_next}

@@ -8,7 +8,7 @@ use Rattle.tca_report.specs.report.Reports.{PacketReport, report_cmp}
 use Rattle.tca_join.specs.Sets.{has, put}
 use Rattle.tca_report.proofs.lemmas.report.Order.{report_total}
 use Rattle.tca_join.proofs.Sets.{has-put, has-append, rises_put, or_swap}
-use Rattle.tca_join.specs.MapLaws.{rises_put as rises_put_key}
+use Rattle.tca_join.specs.laws.MapLaws.{rises_put as rises_put_key}
 use Rattle.tca_join.specs.Maps.{put as put_key}
 use Rattle.tca_accounts.specs.Plans.{AccountPlan}
 use Rattle.tca_gossip.specs.Replicas.{ReplicaView, append_one, appended, fresh_of, with_origin, taken, take_one, take_all, all_of, IsReplica, new_replica}

@@ -7,7 +7,7 @@ use Rattle.std.specs.Cmp.{tied_itself}
 use Rattle.tca_report.specs.report.Reports.{PacketReport}
 use Rattle.tca_report.proofs.lemmas.report.Order.{report_total}
 use Rattle.tca_join.specs.Maps.{get, Rises, join_with}
-use Rattle.tca_join.specs.MapLaws.{get_merged}
+use Rattle.tca_join.specs.laws.MapLaws.{get_merged}
 use Rattle.tca_join.specs.Chains.{longer, differ_at}
 use Rattle.tca_gossip.specs.Replicas.{ReplicaView, or_empty, chain_of, appended, of, with_origin, merged_with}
 use Rattle.tca_gossip.specs.Runs.{RunView, Fault, OwnAhead, Gap, Forked, fault_of, first_fault, or_else, forked, same_report}

@@ -3,8 +3,8 @@ pub mod Runs
 pub mod Machines
 pub mod Steps
 pub mod Coupling
-pub mod Kept
 pub mod Answers
 pub mod Holding
 pub mod Worlds
 pub mod WorldSteps
+pub mod inside

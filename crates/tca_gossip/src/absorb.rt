@@ -4,7 +4,7 @@ ghost use Rattle.tca_join.specs.Chains.{differ_at, most_items};
 ghost use Rattle.tca_gossip.specs.Replicas.{appended, chain_of, with_origin};
 ghost use Rattle.tca_gossip.specs.Runs.{AreRuns, fault_of, first_fault, rest_of, rests, same_report};
 ghost use Rattle.tca_gossip.specs.Answers.{IsRefusal, IsStop, fault_view};
-ghost use Rattle.tca_gossip.specs.Kept.{kept_of};
+ghost use Rattle.tca_gossip.specs.inside.Kept.{kept_of};
 
 use crate::chains::kept;
 use crate::contents::Contents;

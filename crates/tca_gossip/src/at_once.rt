@@ -7,7 +7,7 @@
 ghost use Rattle.std.specs.Prelude.{◌≡◌, ℕ, ◌+◌, ◌≤◌, ◌++◌, length, true, false, IfOk, OnErr, OnOk, None};
 ghost use Rattle.tca_gossip.specs.Replicas.{appended, chain_of, fresh_of, of, reports_in, with_origin};
 ghost use Rattle.tca_gossip.specs.Runs.{AreRuns, first_fault, rest_of, rests};
-ghost use Rattle.tca_gossip.specs.Kept.{kept_of};
+ghost use Rattle.tca_gossip.specs.inside.Kept.{kept_of};
 ghost use Rattle.tca_join.specs.Chains.{most_items};
 
 use crate::chains::{extend, kept};

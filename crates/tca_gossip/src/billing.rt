@@ -6,7 +6,7 @@ ghost use Rattle.tca_report.specs.report.Reports.{PacketReport, report_cmp};
 ghost use Rattle.tca_log.specs.Disputes as disputes;
 ghost use Rattle.tca_accounts.specs.Bills.{bill_of};
 ghost use Rattle.tca_replay.specs.Books.{IsReady, Takes};
-ghost use Rattle.tca_gossip.specs.Kept.{Bills, IsSettled};
+ghost use Rattle.tca_gossip.specs.inside.Kept.{Bills, IsSettled};
 
 use std::alloc::{AllocError, Global};
 use std::marker::Model;
@@ -28,7 +28,7 @@ pub(crate) struct Billing {
 }
 
 impl Model for Billing {
-    ghost use Rattle.tca_gossip.specs.Kept.{BillingView};
+    ghost use Rattle.tca_gossip.specs.inside.Kept.{BillingView};
 
     ghost Value = { BillingView };
 

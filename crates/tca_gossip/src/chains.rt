@@ -3,7 +3,7 @@ ghost use Rattle.std.specs.Prelude.{◌≡◌, ℕ, ◌+◌, ◌<◌, ◌≤◌,
 ghost use Rattle.tca_join.specs.Chains.{chain, most_items};
 ghost use Rattle.tca_join.specs.Maps.{Rises, get, put};
 ghost use Rattle.tca_gossip.specs.Replicas.{of, with_origin};
-ghost use Rattle.tca_gossip.specs.Kept.{held_in, kept_of};
+ghost use Rattle.tca_gossip.specs.inside.Kept.{held_in, kept_of};
 
 use std::alloc::{AllocError, Global};
 use tca_join::{ByKey, Chain};

@@ -10,7 +10,7 @@ ghost use Rattle.tca_gossip.specs.Replicas.{IsReplica, append_one, chain_of, lea
 ghost use Rattle.tca_gossip.specs.Runs.{AreRuns, delta_of, first_fault, summary_count};
 ghost use Rattle.tca_gossip.specs.Coupling.{counts_of};
 ghost use Rattle.tca_gossip.specs.Answers.{IsRefusal, IsRefusedFor, fault_view};
-ghost use Rattle.tca_gossip.specs.Kept.{IsOwnWithin, IsSettled, clash_in, replica_of};
+ghost use Rattle.tca_gossip.specs.inside.Kept.{IsOwnWithin, IsSettled, clash_in, replica_of};
 
 use crate::absorb::refusal;
 use crate::billing::Billing;
@@ -38,7 +38,7 @@ pub(crate) struct Contents {
 }
 
 impl Model for Contents {
-    ghost use Rattle.tca_gossip.specs.Kept.{AreContents, ContentsView, replica_of};
+    ghost use Rattle.tca_gossip.specs.inside.Kept.{AreContents, ContentsView, replica_of};
 
     ghost Value = { ContentsView };
 

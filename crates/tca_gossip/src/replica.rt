@@ -32,7 +32,7 @@ pub struct Replica {
 }
 
 impl Model for Replica {
-    ghost use Rattle.tca_gossip.specs.Kept.{IsSettled};
+    ghost use Rattle.tca_gossip.specs.inside.Kept.{IsSettled};
     ghost use Rattle.tca_gossip.specs.Replicas.{ReplicaView};
 
     ghost Value = { ReplicaView };

@@ -5,7 +5,7 @@ use Rattle.std.proofs.lemmas.List.Elements.{recursion_from_All}
 use Rattle.std.specs.List.{All, AllByRecursion}
 use Rattle.tca_report.specs.report.Reports.{PacketReport}
 use Rattle.tca_join.specs.Maps.{get, clash_key}
-use Rattle.tca_join.specs.MapLaws.{clash_at, clash_nowhere}
+use Rattle.tca_join.specs.laws.MapLaws.{clash_at, clash_nowhere}
 use Rattle.tca_join.specs.Chains.{differ_at}
 use Rattle.tca_join.proofs.Firsts.{clash_is_least}
 use Rattle.tca_gossip.specs.Replicas.{ReplicaView, IsReplica, least_of}

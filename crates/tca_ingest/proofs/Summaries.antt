@@ -4,7 +4,7 @@ use Rattle.std.proofs.lemmas.Bool.{eqb-true, le-ltb, lt-ltb}
 use Rattle.std.specs.List.{AllByRecursion}
 use Rattle.tca_report.specs.report.Reports.{PacketReport}
 use Rattle.tca_join.specs.Maps.{get, Rises}
-use Rattle.tca_join.specs.MapLaws.{not_there}
+use Rattle.tca_join.specs.laws.MapLaws.{not_there}
 use Rattle.tca_join.proofs.Firsts.{only_map}
 use Rattle.tca_gossip.specs.Replicas.{or_empty}
 use Rattle.tca_gossip.specs.Runs.{RunView, delta_of, summary_count}

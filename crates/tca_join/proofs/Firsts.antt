@@ -5,7 +5,7 @@ use Rattle.std.specs.List.{AllByRecursion}
 use Rattle.std.proofs.lemmas.Bool.{eq-eqb, ne_eqb, eqb-true, cases_order, false≢true}
 use Rattle.tca_join.specs.Chains.{next, differ_at, AreEqual, IsPrefix, IsFirstDifference, ClashIsFirst, CompatibleIsPrefix, TakesLonger, KeepsLonger}
 use Rattle.tca_join.specs.Maps.{get, Rises, clash_key, clash_with, map_full, full_with, first_of, join_with, IsLeastClash, IsOnlyMap, SetsOneKey, JoinsKeyByKey, CompatibleAtEach, ClashIsLeast, FitsAtEach, FullAtSome}
-use Rattle.tca_join.specs.MapLaws.{not_there, all_above, rises_put, get_put, rises_merged, get_merged, clash_at, full_at}
+use Rattle.tca_join.specs.laws.MapLaws.{not_there, all_above, rises_put, get_put, rises_merged, get_merged, clash_at, full_at}
 
 next_some : (o : Option ℕ) (n : ℕ) → next o ≡ Some (suc n) → o ≡ Some n
 next_some None n e = absurd cc

@@ -8,7 +8,7 @@ use Rattle.std.proofs.lemmas.Bool.{eq-eqb, ne_eqb, lt-ltb, le-ltb}
 use Rattle.std.proofs.lemmas.Cmp.{ranked, nat_cmp_total}
 use Rattle.std.proofs.lemmas.List.Sorted.{searchable_from_sorted}
 use Rattle.tca_join.specs.Maps.{Rises, IsAt, IsGap}
-use Rattle.tca_join.specs.MapLaws.{not_there, all_above, rises_put}
+use Rattle.tca_join.specs.laws.MapLaws.{not_there, all_above, rises_put}
 
 pub greater_is : (a b : ℕ) → b < a → nat_cmp a b ≡ Greater
 greater_is a b h = rw (le-ltb a b (omega arith), ne_eqb a b (λ e. omega arith)) refl

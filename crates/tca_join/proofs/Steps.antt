@@ -6,7 +6,7 @@ use Rattle.std.proofs.lemmas.List.{append-nil}
 use Rattle.std.specs.List.{AllByRecursion}
 use Rattle.std.proofs.lemmas.Bool.{eq-eqb, ne_eqb}
 use Rattle.tca_join.specs.Maps.{put, merged, Rises, clash_key, map_full, first_of}
-use Rattle.tca_join.specs.MapLaws.{not_there, all_above}
+use Rattle.tca_join.specs.laws.MapLaws.{not_there, all_above}
 use Rattle.tca_join.specs.Joins.{Joins}
 use Rattle.tca_join.proofs.Positions.{greater_is, less_is, equal_is}
 

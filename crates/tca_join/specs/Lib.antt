@@ -1,12 +1,9 @@
 pub mod Sets
 pub mod SetLaws
 pub mod Joins
-pub mod JoinLaws
 pub mod Faults
 pub mod Counts
-pub mod CountLaws
 pub mod Chains
-pub mod ChainLaws
 pub mod Maps
-pub mod MapLaws
 pub mod Lends
+pub mod laws

@@ -3,7 +3,7 @@ ghost use Rattle.std.specs.Prelude.{◌++◌, ◌∷◌, ◌≡◌, None, Some, 
 ghost use Rattle.std.specs.Option.{option_copied_mut};
 ghost use Rattle.std.specs.Borrow.{sem};
 ghost use Rattle.tca_join.specs.Maps.{get, with_value, keys_of, merged, Rises, MapProper, MapSame, clash_key, map_full, clash_with, full_with, first_of, IsAt, IsGap};
-ghost use Rattle.tca_join.specs.MapLaws.{map_laws};
+ghost use Rattle.tca_join.specs.laws.MapLaws.{map_laws};
 ghost use Rattle.tca_join.specs.Joins.{Compatible, Joins};
 ghost use Rattle.tca_join.specs.Faults.{IsJoinFault, refusal};
 ghost use Rattle.tca_join.specs.declared.fault.JoinFault.TheVariants.{Memory};

@@ -1,7 +1,7 @@
 //! Items in a row, of which the longer chain is kept.
 ghost use Rattle.std.specs.Prelude.{◌≡◌, ◌+◌, ◌<◌, ◌≤◌, None, [], ◌∷◌, ◌++◌, true, false, length, slice_get, OnOk, OnErr, IfErr, IfOk, IsOk, MatchOption};
 ghost use Rattle.tca_join.specs.Chains.{chain, IsChain, differ_at, chain_clash, chain_full, chain_joined, IsSameChain, most_items};
-ghost use Rattle.tca_join.specs.ChainLaws.{chain_laws};
+ghost use Rattle.tca_join.specs.laws.ChainLaws.{chain_laws};
 ghost use Rattle.tca_join.specs.Joins.{Compatible};
 ghost use Rattle.tca_join.specs.Faults.{IsJoinFault};
 ghost use Rattle.tca_join.specs.declared.fault.JoinFault.TheVariants.{Memory};

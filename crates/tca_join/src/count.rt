@@ -1,7 +1,7 @@
 //! A count, of which the greater is kept.
 ghost use Rattle.std.specs.Prelude.{◌≡◌, max, IsOk, None, Ok};
 ghost use Rattle.tca_join.specs.Counts.{IsCount, count_clash, count_full};
-ghost use Rattle.tca_join.specs.CountLaws.{count_laws};
+ghost use Rattle.tca_join.specs.laws.CountLaws.{count_laws};
 
 use crate::fault::JoinFault;
 use crate::join::Join;

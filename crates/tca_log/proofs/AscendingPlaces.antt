@@ -15,7 +15,7 @@ use Rattle.tca_report.specs.report.Identities.{identity_of, identity_cmp, identi
 use Rattle.tca_report.specs.declared.report.Identity.{Identity}
 use Rattle.tca_report.proofs.lemmas.report.Identities.{identity_exact}
 use Rattle.tca_log.specs.Disputes.{contents, disputed}
-use Rattle.tca_log.specs.Logs.{origin_of, count_at}
+use Rattle.tca_log.specs.inside.Logs.{origin_of, count_at}
 use Rattle.tca_log.proofs.Contents.{disputed_is}
 use Rattle.tca_log.proofs.ReportAdditions.{count_snoc}
 

@@ -16,7 +16,7 @@ use Rattle.tca_report.specs.report.Identities.{identity_of, identity_cmp, identi
 use Rattle.tca_report.proofs.lemmas.report.Identities.{identity_exact}
 use Rattle.tca_report.specs.declared.report.Identity.{Identity}
 use Rattle.tca_log.specs.Disputes.{has_identity, contents, disputed}
-use Rattle.tca_log.specs.Logs.{count_at}
+use Rattle.tca_log.specs.inside.Logs.{count_at}
 
 -- two tests on numbers that mean the same
 pub tests_alike : (a b c d : ℕ) → (a < b → c < d) → (c < d → a < b) → nat_lt a b ≡ nat_lt c d

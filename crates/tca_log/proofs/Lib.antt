@@ -10,3 +10,4 @@ pub mod Repeats
 pub mod OrderedRows
 pub mod Filters
 pub mod Next
+pub mod Marked

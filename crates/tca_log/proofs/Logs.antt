@@ -18,7 +18,7 @@ use Rattle.tca_log.specs.declared.answer.Added.TheVariants.{Fresh, Repeat, NewDi
 use Rattle.tca_log.specs.declared.by_identity.ByIdentity.{ByIdentity}
 use Rattle.tca_log.specs.Rows.Ordered.{tied}
 use Rattle.tca_log.specs.Disputes.{has_identity, contents, added, added_to}
-use Rattle.tca_log.specs.Logs.{index_cmp, indexed, count_at, IsKept, IsLog, answered, index_after, disputed_after}
+use Rattle.tca_log.specs.inside.Logs.{index_cmp, indexed, count_at, IsKept, IsLog, answered, index_after, disputed_after}
 use Rattle.tca_log.proofs.OrderedRows.Positions.{length_put}
 use Rattle.tca_log.proofs.OrderedRows.Search.{has_tied, put_there, tied_is, all_tied}
 use Rattle.tca_log.proofs.Contents.{tests_alike, count_put, has-disputed, disputed_rises, disputed_is, has-filter}

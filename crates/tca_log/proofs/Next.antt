@@ -17,7 +17,7 @@ use Rattle.tca_log.specs.declared.answer.Added.{Added}
 use Rattle.tca_log.specs.declared.answer.Added.TheVariants.{Fresh, Repeat, NewDispute, MoreDispute}
 use Rattle.tca_log.specs.Rows.Ordered.{without}
 use Rattle.tca_log.specs.Disputes.{has_identity, contents, undisputed, disputed, added, added_to}
-use Rattle.tca_log.specs.Logs.{count_at}
+use Rattle.tca_log.specs.inside.Logs.{count_at}
 use Rattle.tca_log.proofs.Contents.{count_put, has-disputed, disputed_rises, disputed_is, has-filter}
 use Rattle.tca_log.proofs.Logs.{same_count, first_one, second_one, further_one}
 use Rattle.tca_log.proofs.OrderedRows.Positions.{length_put, length_without}

@@ -11,7 +11,7 @@ use Rattle.std.proofs.lemmas.List.{append-nil, get_or_default, length-map}
 use Rattle.std.specs.declared.cmp.Ordering.{Ordering}
 use Rattle.std.specs.declared.cmp.Ordering.TheVariants.{Less, Equal, Greater}
 use Rattle.std.proofs.lemmas.List.Sums.{length-filter}
-use Rattle.std.proofs.lemmas.List.Sorted.{sum_by-IsPermutation, IsPermutation-refl}
+use Rattle.std.proofs.lemmas.List.Sorted.{sum_by-IsPermutation}
 use borrow.Author.Tests.{lt-ltb}
 use Rattle.tca_join.specs.Sets.{has, in_order}
 use Rattle.tca_join.proofs.Sets.{has-in_order, rises_in_order, all_more}
@@ -19,9 +19,9 @@ use Rattle.tca_report.specs.report.Reports.{PacketReport, report_cmp}
 use Rattle.tca_report.specs.report.Identities.{identity_of, identity_cmp, identity_total}
 use Rattle.tca_report.specs.declared.report.Identity.{Identity}
 use Rattle.tca_report.proofs.lemmas.report.Identities.{identity_exact}
-use Rattle.tca_log.specs.Additions.{times}
+use Rattle.tca_log.specs.inside.Additions.{times}
 use Rattle.tca_log.specs.Disputes.{has_identity, contents, disputed}
-use Rattle.tca_log.specs.Logs.{count_at, IsKept}
+use Rattle.tca_log.specs.inside.Logs.{count_at, IsKept}
 use Rattle.tca_log.proofs.Contents.{disputed_is}
 use Rattle.tca_log.proofs.Gathering.{set_is}
 use Rattle.tca_log.proofs.OrderedRows.Parts.{turned}
@@ -185,13 +185,15 @@ times_mapped (r ∷ rs) i =
     let rest : length (filter (eq_by_cmp identity_cmp i) (map identity_of rs)) ≡ length (filter (has_identity i) rs) = times_mapped rs i in
     elim (has_identity i r) as (λ b. length (cond b (identity_of r ∷ filter (eq_by_cmp identity_cmp i) (map identity_of rs)) (filter (eq_by_cmp identity_cmp i) (map identity_of rs))) ≡ length (cond b (r ∷ filter (has_identity i) rs) (filter (has_identity i) rs))) [ true ↦ ap suc rest | false ↦ rest ]
 
--- the identities that stand twice among those of reports are disputed
-pub disputes_are : (rs : List PacketReport) (identities again found : List Identity) → IsPermutation (map identity_of rs) identities → ((i : Identity) → has identity_cmp again i ≡ nat_lt 1 (times identity_cmp i identities))
-    → found ≡ in_order identity_cmp again → found ≡ disputed rs
-disputes_are rs identities again found moved twice is =
-    is
-    ∙ disputed_is rs (in_order identity_cmp again) (rises_in_order identity_cmp identity_total again) (λ i.
-    has-in_order identity_cmp identity_total again i ∙ twice i ∙ ap (nat_lt 1) (times_moved identity_cmp identity_total i (map identity_of rs) identities moved ∙ times_mapped rs i))
+-- what stands twice among the identities of reports, in order, are the identities that two or more have
+pub counted_twice : (rs : List PacketReport) (identities again : List Identity) → IsPermutation (map identity_of rs) identities → ((i : Identity) → has identity_cmp again i ≡ nat_lt 1 (times identity_cmp i identities))
+    → (i : Identity) → has identity_cmp again i ≡ nat_lt 1 (count_at rs i)
+counted_twice rs identities again moved twice i = twice i ∙ ap (nat_lt 1) (times_moved identity_cmp identity_total i (map identity_of rs) identities moved ∙ times_mapped rs i)
+
+-- the identities that two or more have are disputed
+pub disputes_are : (rs : List PacketReport) (again found : List Identity) → ((i : Identity) → has identity_cmp again i ≡ nat_lt 1 (count_at rs i)) → found ≡ in_order identity_cmp again → found ≡ disputed rs
+disputes_are rs again found twice is =
+    is ∙ disputed_is rs (in_order identity_cmp again) (rises_in_order identity_cmp identity_total again) (λ i. has-in_order identity_cmp identity_total again i ∙ twice i)
 
 filter_few : (p : Identity → Bool) (xs : List Identity) → length (filter p xs) ≤ length xs
 filter_few p [] = omega arith
@@ -207,9 +209,9 @@ unfolding disputed
 disputed_few rs =
     omega (arith, filter_few (λ i. nat_lt 1 (length (contents rs i))) (in_order identity_cmp (map identity_of rs)), in_order_few identity_cmp identity_total (map identity_of rs), length-map rs identity_of)
 
--- a sorted list of identities without its repeats
-pub found_are : (again found : List Identity) → IsSorted identity_cmp again → found ≡ dedup (eq_by_cmp identity_cmp) again → found ≡ in_order identity_cmp again
-found_are again found sorted is = set_is identity_cmp identity_total identity_exact (eq_by_cmp identity_cmp) (λ a b. refl) again again found (IsPermutation-refl again) sorted is
+-- a list of identities that was sorted, without its repeats
+pub found_are : (again sorted found : List Identity) → IsPermutation again sorted → IsSorted identity_cmp sorted → found ≡ dedup (eq_by_cmp identity_cmp) sorted → found ≡ in_order identity_cmp again
+found_are again sorted found moved rises is = set_is identity_cmp identity_total identity_exact (eq_by_cmp identity_cmp) (λ a b. refl) again sorted found moved rises is
 
 -- a set with its disputed identities alone
 pub kept_alone : (rs : List PacketReport) (found : List Identity) → IsStrictlySortedBy report_cmp rs → length rs ≤ 4194304 → found ≡ disputed rs → IsKept rs None found

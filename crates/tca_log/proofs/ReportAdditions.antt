@@ -19,8 +19,8 @@ use Rattle.tca_report.specs.declared.report.Identity.{Identity}
 use Rattle.tca_log.specs.declared.by_identity.ByIdentity.{ByIdentity}
 use Rattle.tca_log.specs.Rows.Ordered.{put_each}
 use Rattle.tca_log.specs.Disputes.{has_identity, contents}
-use Rattle.tca_log.specs.Logs.{index_cmp, indexed, count_at, IsLog}
-use Rattle.tca_log.specs.Additions.{AreAdditions, AddedRows, with_report, with_reports, reports_in}
+use Rattle.tca_log.specs.inside.Logs.{index_cmp, indexed, count_at, IsLog}
+use Rattle.tca_log.specs.inside.Additions.{AreAdditions, AddedRows, with_report, with_reports, reports_in}
 use Rattle.tca_log.proofs.Contents.{has-disputed}
 use Rattle.tca_log.proofs.OrderedRows.Parts.{or_parts}
 use Rattle.tca_log.proofs.OrderedRows.Small.{put_longest}

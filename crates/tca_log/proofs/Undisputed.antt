@@ -13,7 +13,7 @@ use Rattle.tca_report.specs.report.Identities.{identity_of, identity_cmp, identi
 use Rattle.tca_report.proofs.lemmas.report.Order.{report_total, report_exact}
 use Rattle.tca_report.specs.declared.report.Identity.{Identity}
 use Rattle.tca_log.specs.Disputes.{has_identity, contents, disputed, undisputed, settled_of}
-use Rattle.tca_log.specs.Logs.{count_at}
+use Rattle.tca_log.specs.inside.Logs.{count_at}
 use Rattle.tca_log.proofs.OrderedRows.Each.{members}
 use Rattle.tca_log.proofs.Contents.{has-disputed, has-filter}
 

@@ -17,8 +17,8 @@ use Rattle.tca_report.specs.declared.report.Identity.{Identity}
 use Rattle.tca_log.specs.declared.by_identity.ByIdentity.{ByIdentity}
 use Rattle.tca_log.specs.Rows.Ordered.{put_each, without_each, AreApart}
 use Rattle.tca_log.specs.Disputes.{has_identity, contents, disputed}
-use Rattle.tca_log.specs.Logs.{index_cmp, indexed, count_at, IsLog}
-use Rattle.tca_log.specs.Additions.{AreAdditions, AddedRows, with_reports, reports_in}
+use Rattle.tca_log.specs.inside.Logs.{index_cmp, indexed, count_at, IsLog}
+use Rattle.tca_log.specs.inside.Additions.{AreAdditions, AddedRows, with_reports, reports_in}
 use Rattle.tca_log.proofs.OrderedRows.Each.{has-put_each, rises_put_each, all_put_each, length-put_each, still_apart, beyond_rises, beyond_apart, apart_none, put_each_none}
 use Rattle.tca_log.proofs.Contents.{length-filter_put, disputed_rises, disputed_is, has-filter}
 use Rattle.tca_log.proofs.Logs.{index_total, nothing}

@@ -1,9 +1,8 @@
 pub mod Rows
 pub mod Disputes
 pub mod Faults
-pub mod Logs
-pub mod Additions
 pub mod LogJoin
 pub mod Arrivals
 pub mod Next
 pub mod NextLaws
+pub mod inside

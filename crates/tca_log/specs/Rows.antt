@@ -1,3 +1,2 @@
 -- A container of rows in order. It knows nothing of reports.
-pub mod Chunks
 pub mod Ordered

@@ -2,8 +2,8 @@
 ghost use Rattle.std.specs.Prelude.{◌≡◌, ◌<◌, ◌≤◌, List, [], length, map, IfOk, OnOk};
 ghost use Rattle.tca_log.specs.declared.by_identity.ByIdentity.{ByIdentity};
 ghost use Rattle.std.specs.List.Sorted.{IsPermutation};
-ghost use Rattle.tca_log.specs.Logs.{indexed};
-ghost use Rattle.tca_log.specs.Additions.{with_report, with_reports};
+ghost use Rattle.tca_log.specs.inside.Logs.{indexed};
+ghost use Rattle.tca_log.specs.inside.Additions.{with_report, with_reports};
 ghost use Rattle.tca_log.specs.Rows.Ordered.{most_rows};
 
 use crate::by_identity::ByIdentity;
@@ -20,7 +20,7 @@ pub struct Additions<A: Allocator + Copy> {
 }
 
 impl<A: Allocator + Copy> Model for Additions<A> {
-    ghost use Rattle.tca_log.specs.Additions.{AddedRows};
+    ghost use Rattle.tca_log.specs.inside.Additions.{AddedRows};
 
     ghost Value = { AddedRows };
 

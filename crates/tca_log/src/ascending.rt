@@ -1,7 +1,7 @@
 //! Reports whose identities or places ascend.
 ghost use Rattle.std.specs.Prelude.{◌≡◌, true, [], IfOk};
 ghost use Rattle.tca_log.specs.Disputes.{disputed};
-ghost use Rattle.tca_log.specs.Logs.{origin_of};
+ghost use Rattle.tca_log.specs.inside.Logs.{origin_of};
 
 use crate::rows::Rows;
 use std::alloc::{AllocError, Allocator};

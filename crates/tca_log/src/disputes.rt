@@ -4,11 +4,13 @@ ghost use Rattle.std.specs.List.Sorted.{IsPermutation, IsSorted};
 ghost use Rattle.tca_join.specs.Sets.{has};
 ghost use Rattle.tca_report.specs.declared.report.Identity.{Identity};
 ghost use Rattle.tca_report.specs.report.Identities.{identity_cmp, identity_of};
-ghost use Rattle.tca_log.specs.Additions.{times};
+ghost use Rattle.tca_log.specs.inside.Additions.{times};
+ghost use Rattle.tca_log.specs.inside.Logs.{count_at};
 ghost use Rattle.tca_log.specs.Disputes.{disputed};
 ghost use Rattle.tca_log.specs.Rows.Ordered.{most_rows};
 
 use crate::ascending::{identities_ascend, places_ascend};
+use crate::marks::repeated_by_place;
 use crate::rows::Rows;
 use std::alloc::{AllocError, Allocator};
 use tca_report::{Identity, Report};
@@ -24,10 +26,25 @@ pub(crate) fn disputes_of<A: Allocator + Copy>(
     if identities_ascend(reports) || places_ascend(alloc, reports)? {
         return Ok(Rows::new(alloc));
     }
-    let identities = identities_in_order(alloc, reports)?;
-    let mut disputed = repeated(alloc, &identities)?;
+    let mut disputed = repeated_of(alloc, reports)?;
+    disputed.sort_unstable();
     disputed.dedup();
     Rows::of_ascending(alloc, disputed)
+}
+
+// Each identity that two or more of the reports have: where places lie close together by marks, else by sorting.
+fn repeated_of<A: Allocator + Copy>(
+    alloc: A,
+    reports: &Rows<Report, A>,
+) -> Result<Vec<Identity, A>, AllocError>
+    ensures { IfOk result (λ again. (i : Identity) → has identity_cmp again.items i ≡ nat_lt 1 (count_at reports.now.rows i)) }
+{
+    if let Some(marked) = repeated_by_place(reports)? {
+        return Ok(marked);
+    }
+    let identities = identities_in_order(alloc, reports)?;
+    let twice = repeated(alloc, &identities)?;
+    Ok(twice)
 }
 
 // The identities of the reports in their order.

@@ -3,7 +3,7 @@ ghost use Rattle.std.specs.Prelude.{◌≡◌, ◌<◌, ◌≤◌, List, length,
 ghost use Rattle.std.specs.List.Sorted.{IsStrictlySortedBy};
 ghost use Rattle.tca_report.specs.report.Reports.{report_cmp};
 ghost use Rattle.tca_report.specs.declared.report.Identity.{Identity};
-ghost use Rattle.tca_log.specs.Logs.{first_of, is_disputed, answered, index_after, disputed_after, index_rows, IsKept, IsLog};
+ghost use Rattle.tca_log.specs.inside.Logs.{first_of, is_disputed, answered, index_after, disputed_after, index_rows, IsKept, IsLog};
 ghost use Rattle.tca_log.specs.Rows.Ordered.{most_rows};
 
 use crate::additions::additions_of;

@@ -7,8 +7,8 @@
 //!
 //! - `rows`: the ordered container, with `chunk`, `locate` and `iter` beneath it;
 //! - `log`, `union`: the log, one report and many reports at a time;
-//! - `disputes`, `ascending`: which identities of a set are disputed; `index`, `additions`, `by_identity`: the same as reports
-//!   come one by one;
+//! - `disputes`, `ascending`, `marks`, `span`: which identities of a set are disputed; `index`, `additions`, `by_identity`:
+//!   the same as reports come one by one;
 //! - `settled`: the reports that no other disputes; `answer`, `fault`: what a log answers; `laws`: what one more report
 //!   changes.
 #![tactic(auto)]
@@ -23,8 +23,10 @@ mod index;
 mod joins;
 mod laws;
 mod log;
+mod marks;
 pub mod rows;
 mod settled;
+mod span;
 mod union;
 
 pub use answer::Added;

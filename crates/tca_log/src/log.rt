@@ -34,7 +34,7 @@ pub struct Log<A: Allocator + Copy = Global> {
 impl<A: Allocator + Copy> Model for Log<A> {
     ghost use Rattle.std.specs.Prelude.{List};
     ghost use Rattle.tca_report.specs.report.Reports.{PacketReport};
-    ghost use Rattle.tca_log.specs.Logs.{IsKept, index_rows};
+    ghost use Rattle.tca_log.specs.inside.Logs.{IsKept, index_rows};
 
     ghost Value = { List PacketReport };
 

@@ -6,7 +6,7 @@ ghost use Rattle.std.specs.Prelude.{◌≡◌, ℕ, true, false, ◌+◌, ◌-�
 ghost use Rattle.std.specs.List.{All};
 ghost use Rattle.std.specs.List.Sorted.{IsStrictlySortedBy};
 ghost use Rattle.tca_join.specs.Sets.{has, put};
-ghost use Rattle.tca_log.specs.Rows.Chunks.{joined, AreChunks};
+ghost use Rattle.tca_log.specs.inside.Chunks.{joined, AreChunks};
 ghost use Rattle.tca_log.specs.Rows.Ordered.{without, rank, tied, put_each, without_each, AreApart, Ordered, most_rows};
 
 mod beyond;
@@ -44,7 +44,7 @@ pub struct Rows<K: Ord + Copy, A: Allocator + Copy = Global> {
 
 impl<K: Ord + Copy, A: Allocator + Copy> Model for Rows<K, A> {
     ghost use Rattle.std.specs.Prelude.{is_some, vec_capacity};
-    ghost use Rattle.tca_log.specs.Rows.Chunks.{joined, AreRows};
+    ghost use Rattle.tca_log.specs.inside.Chunks.{joined, AreRows};
     ghost use Rattle.tca_log.specs.Rows.Ordered.{Ordered};
 
     ghost Value = { Ordered K };

@@ -8,7 +8,7 @@ ghost use Rattle.tca_log.specs.Arrivals.{Many, after};
 ghost use Rattle.tca_log.specs.Rows.Ordered.{put_each, without_each, AreApart, most_rows};
 ghost use Rattle.tca_log.specs.Faults.{IsUnionRefused, IsRefusedBy};
 ghost use Rattle.tca_log.specs.LogJoin.{log_full};
-ghost use Rattle.tca_log.specs.Logs.{index_cmp, index_rows, IsKept, IsLog};
+ghost use Rattle.tca_log.specs.inside.Logs.{index_cmp, index_rows, IsKept, IsLog};
 
 use crate::additions::{Additions, additions_of};
 use crate::by_identity::ByIdentity;

@@ -10,7 +10,7 @@ use Rattle.tca_meters.specs.declared.any_meter.AnyMeter.{AnyMeter}
 use Rattle.tca_meters.specs.AnyMeters.{any_rule}
 use Rattle.tca_meters.specs.Packets.{Packet, answer, coloured, colours}
 use Rattle.tca_meters.specs.Termed.{TermedMeter, term, term_at, termed_rule}
-use Rattle.tca_meters.specs.TermedLaws.{begins, begins_none, term_rises}
+use Rattle.tca_meters.specs.laws.TermedLaws.{begins, begins_none, term_rises}
 use Rattle.tca_meters.specs.TermsApart.{IsPlain, NeverFall, TermsApart, TermsInTurn, coloured_alone, coloured_of_term, of_term, term_numbers}
 use Rattle.tca_meters.proofs.InTurn.{in_parts}
 use Rattle.tca_meters.proofs.InTurn.{NeverFall as TermsNeverFall}

@@ -8,7 +8,7 @@ use Rattle.tca_meters.specs.declared.termed.InTerm.{InTerm}
 use Rattle.tca_meters.specs.AnyMeters.{any_rule}
 use Rattle.tca_meters.specs.Termed.{IsTermed, TermedMeter, after_tokens, ascend_from, begun, most_terms, term, term_at}
 use Rattle.tca_meters.proofs.Terms.{starts_later}
-use Rattle.tca_meters.specs.TermedLaws.{begins, begins_none, has_started}
+use Rattle.tca_meters.specs.laws.TermedLaws.{begins, begins_none, has_started}
 use Rattle.tca_meters.specs.Slots.{AreSlots, entered, left_by, seen}
 
 -- what is seen of such slots

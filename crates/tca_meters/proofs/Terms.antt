@@ -7,7 +7,7 @@ use Rattle.std.proofs.lemmas.List.Sums.{prefix_len-le-length}
 use Rattle.tca_buckets.specs.Tokens.{time_end}
 use Rattle.tca_meters.specs.declared.any_meter.AnyMeter.{AnyMeter}
 use Rattle.tca_meters.specs.Termed.{IsTermed, TermedMeter, ascend_from, term, term_at}
-use Rattle.tca_meters.specs.TermedLaws.{has_started}
+use Rattle.tca_meters.specs.laws.TermedLaws.{has_started}
 use Rattle.tca_meters.specs.TermsApart.{IsTermOf}
 
 -- the first of some terms that ascend, and the others

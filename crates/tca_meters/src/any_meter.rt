@@ -54,7 +54,7 @@ impl Meter for AnyMeter {
     type State = Levels;
 
     ghost use Rattle.tca_meters.specs.AnyMeters.{any_rule, is_aware, IsWithinSizes};
-    ghost use Rattle.tca_meters.specs.AnyMeterLaws as laws;
+    ghost use Rattle.tca_meters.specs.laws.AnyMeterLaws as laws;
 
     ghost rule = { any_rule };
 

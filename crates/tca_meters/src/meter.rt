@@ -1,7 +1,7 @@
 //! What a meter is: the trait and its laws.
 ghost use Rattle.std.specs.Prelude.{◌≡◌, ◌<◌, ◌≤◌, Bool};
 ghost use Rattle.tca_meters.specs.Packets.{Rule, answer};
-ghost use Rattle.tca_meters.specs.Laws.{IsAdditive, KeepsSizes, NeverBetters, IgnoresPrecolours, RedKeeps};
+ghost use Rattle.tca_meters.specs.MeterLaws.{IsAdditive, KeepsSizes, NeverBetters, IgnoresPrecolours, RedKeeps};
 ghost use Rattle.tca_buckets.specs.Tokens.{time_end};
 
 use crate::colour::Colour;

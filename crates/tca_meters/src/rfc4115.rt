@@ -117,7 +117,7 @@ impl Meter for Rfc4115 {
     type State = Levels;
 
     ghost use Rattle.tca_meters.specs.Rfc4115.{excess_rate_rule, IsWithinSizes};
-    ghost use Rattle.tca_meters.specs.Rfc4115Laws as laws;
+    ghost use Rattle.tca_meters.specs.laws.Rfc4115Laws as laws;
 
     ghost rule = { excess_rate_rule };
 

@@ -89,7 +89,7 @@ impl Meter for SrTcm {
     type State = Levels;
 
     ghost use Rattle.tca_meters.specs.SrTcm.{single_rate_rule, IsWithinSizes};
-    ghost use Rattle.tca_meters.specs.SrTcmLaws as laws;
+    ghost use Rattle.tca_meters.specs.laws.SrTcmLaws as laws;
 
     ghost rule = { single_rate_rule };
 

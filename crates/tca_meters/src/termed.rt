@@ -200,7 +200,7 @@ impl Meter for Termed {
     type State = InTerm;
 
     ghost use Rattle.tca_meters.specs.Termed.{termed_rule, is_aware_in, IsWithinSizes};
-    ghost use Rattle.tca_meters.specs.TermedLaws as laws;
+    ghost use Rattle.tca_meters.specs.laws.TermedLaws as laws;
 
     ghost rule = { termed_rule };
 

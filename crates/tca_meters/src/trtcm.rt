@@ -103,7 +103,7 @@ impl Meter for TrTcm {
     type State = Levels;
 
     ghost use Rattle.tca_meters.specs.TrTcm.{peak_rate_rule, IsWithinSizes};
-    ghost use Rattle.tca_meters.specs.TrTcmLaws as laws;
+    ghost use Rattle.tca_meters.specs.laws.TrTcmLaws as laws;
 
     ghost rule = { peak_rate_rule };
 

@@ -8,7 +8,7 @@ use Rattle.tca_accounts.specs.Bills.{coloured_by}
 use Rattle.tca_accounts.specs.Metering.{Stands}
 use Rattle.tca_accounts.proofs.Bills.{rest_later, from_zero, stands_begun}
 use Rattle.tca_accounts.proofs.Steps.{stands_more}
-use Rattle.tca_replay.specs.Course.{Metering, Course, course, start, one}
+use Rattle.tca_replay.specs.inside.Course.{Metering, Course, course, start, one}
 
 module _ {S : Type 0} (w : Metering S) where
   -- where the metering of coloured reports stands before the later ones

@@ -10,8 +10,8 @@ use Rattle.tca_accounts.specs.declared.span.Span.{Span}
 use Rattle.tca_meters.specs.declared.colour.Colour.{Colour}
 use Rattle.tca_replay.specs.declared.run.Run.{Run}
 use Rattle.tca_replay.specs.declared.run.Mark.{Mark}
-use Rattle.tca_replay.specs.Course.{Metering}
-use Rattle.tca_replay.specs.Marks.{IsMark}
+use Rattle.tca_replay.specs.inside.Course.{Metering}
+use Rattle.tca_replay.specs.inside.Marks.{IsMark}
 use Rattle.tca_replay.specs.Lanes.{LaneView, IsLane, lane_put, lane_less, lower_of, row_of}
 use Rattle.tca_log.proofs.OrderedRows.Ranks.{take_put, take_without}
 use Rattle.tca_replay.proofs.Kept.{stays_put, stays_less}

@@ -6,9 +6,9 @@ use Rattle.tca_report.specs.report.Reports.{PacketReport, report_cmp}
 use Rattle.tca_accounts.specs.declared.span.Span.{Span}
 use Rattle.tca_replay.specs.declared.run.Run.{Run}
 use Rattle.tca_replay.specs.declared.run.Mark.{Mark}
-use Rattle.tca_replay.specs.Course.{Metering, Course, course, start, one}
-use Rattle.tca_replay.specs.Runs.{course_at}
-use Rattle.tca_replay.specs.Marks.{IsMark, AreMarks}
+use Rattle.tca_replay.specs.inside.Course.{Metering, Course, course, start, one}
+use Rattle.tca_replay.specs.inside.Runs.{course_at}
+use Rattle.tca_replay.specs.inside.Marks.{IsMark, AreMarks}
 use Rattle.tca_log.specs.Rows.Ordered.{rank, Ordered}
 use Rattle.tca_log.proofs.OrderedRows.Ranks.{rank-le}
 use Rattle.tca_report.proofs.lemmas.report.Order.{report_total}

@@ -20,10 +20,10 @@ use Rattle.tca_accounts.specs.Bills.{coloured_by}
 use Rattle.tca_accounts.specs.Sums.{packet_of}
 use Rattle.tca_accounts.specs.Metering.{CanAdd, closed_by}
 use Rattle.tca_accounts.proofs.Bills.{coloured_length, few_of}
-use Rattle.tca_replay.specs.Course.{Metering, Course, course, start, one}
+use Rattle.tca_replay.specs.inside.Course.{Metering, Course, course, start, one}
 use Rattle.tca_replay.proofs.Course.{StandsAt, stands}
-use Rattle.tca_replay.specs.Runs.{course_at}
-use Rattle.tca_replay.specs.Marks.{IsMark, AreMarks}
+use Rattle.tca_replay.specs.inside.Runs.{course_at}
+use Rattle.tca_replay.specs.inside.Marks.{IsMark, AreMarks}
 
 -- where a list is cut before an element
 cut_take_suc : {A : Type 0} (n : ℕ) (xs : List A) (x : A) (rest : List A) → drop n xs ≡ x ∷ rest → take (suc n) xs ≡ take n xs ++ x ∷ []

@@ -11,8 +11,8 @@ use Rattle.tca_accounts.proofs.Bills as bills
 use Rattle.tca_log.specs.Rows.Ordered.{Ordered}
 use Rattle.tca_replay.specs.declared.run.Run.{Run}
 use Rattle.tca_replay.specs.declared.run.Mark.{Mark}
-use Rattle.tca_replay.specs.Course.{Metering}
-use Rattle.tca_replay.specs.Runs.{course_at}
+use Rattle.tca_replay.specs.inside.Course.{Metering}
+use Rattle.tca_replay.specs.inside.Runs.{course_at}
 use Rattle.tca_replay.specs.Lanes.{IsLane, row_of}
 use Rattle.tca_replay.proofs.Course.{StandsAt, stands}
 

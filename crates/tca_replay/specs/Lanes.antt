@@ -8,9 +8,9 @@ use Rattle.tca_accounts.specs.declared.span.Span.{Span}
 use Rattle.tca_meters.specs.declared.colour.Colour.{Colour}
 use Rattle.tca_replay.specs.declared.run.Run.{Run}
 use Rattle.tca_replay.specs.declared.run.Mark.{Mark}
-use Rattle.tca_replay.specs.Course.{Metering, course, start}
-use Rattle.tca_replay.specs.Runs.{course_at}
-use Rattle.tca_replay.specs.Marks.{IsMark}
+use Rattle.tca_replay.specs.inside.Course.{Metering, course, start}
+use Rattle.tca_replay.specs.inside.Runs.{course_at}
+use Rattle.tca_replay.specs.inside.Marks.{IsMark}
 
 -- What callers see of a lane: the meter, the colour of a code point that has none of its own, the length of a period, how many
 -- rows there are from a mark to the next, the rows, the least row at which one came or went since they were metered, and

@@ -4,10 +4,10 @@ ghost use Rattle.tca_report.specs.report.Reports.{report_cmp, time_end};
 ghost use Rattle.tca_join.specs.Sets.{has, put};
 ghost use Rattle.tca_log.specs.Rows.Ordered.{without, rank, most_rows};
 ghost use Rattle.tca_replay.specs.Lanes.{lane_put, lane_less, lane_ready, lane_resumed, lower_of};
-ghost use Rattle.tca_replay.specs.Course.{start};
+ghost use Rattle.tca_replay.specs.inside.Course.{start};
 ghost use Rattle.tca_accounts.specs.Bills.{coloured_by, tally_of};
 ghost use Rattle.tca_accounts.specs.Metering.{with_last};
-ghost use Rattle.tca_replay.specs.Runs.{course_at, metering};
+ghost use Rattle.tca_replay.specs.inside.Runs.{course_at, metering};
 ghost use Rattle.tca_replay.specs.declared.run.Mark.{Mark};
 ghost use Rattle.tca_replay.specs.declared.run.Terms.{Terms};
 
@@ -46,7 +46,7 @@ pub struct Lane<M: Meter, A: Allocator + Copy = Global> {
 impl<M: Meter, A: Allocator + Copy> Model for Lane<M, A> {
     ghost use Rattle.std.specs.Prelude.{vec_capacity};
     ghost use Rattle.tca_replay.specs.Lanes.{LaneView, IsLane, kept, row_of};
-    ghost use Rattle.tca_replay.specs.Runs.{metering};
+    ghost use Rattle.tca_replay.specs.inside.Runs.{metering};
 
     ghost Value = { LaneView M };
 

@@ -5,9 +5,9 @@ ghost use Rattle.tca_accounts.specs.Sums.{with_packet};
 ghost use Rattle.tca_meters.specs.declared.colour.Colour.{Colour};
 ghost use Rattle.tca_report.specs.report.Reports.{most_octets};
 ghost use Rattle.tca_replay.specs.declared.run.Terms.{Terms};
-ghost use Rattle.tca_replay.specs.Course.{one, course, start};
-ghost use Rattle.tca_replay.specs.Marks.{AreMarks};
-ghost use Rattle.tca_replay.specs.Runs.{course_at, metering};
+ghost use Rattle.tca_replay.specs.inside.Course.{one, course, start};
+ghost use Rattle.tca_replay.specs.inside.Marks.{AreMarks};
+ghost use Rattle.tca_replay.specs.inside.Runs.{course_at, metering};
 
 use std::alloc::Allocator;
 use tca_accounts::{Metered, Period, Span, Sums, meter_next, no_reports};

@@ -3,3 +3,4 @@ pub mod device
 pub mod export
 pub mod input
 pub mod Faults
+pub mod inside

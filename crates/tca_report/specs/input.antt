@@ -4,4 +4,3 @@ pub mod Captures
 pub mod FirstFaults
 pub mod Wants
 pub mod Gathered
-pub mod CaptureReaders

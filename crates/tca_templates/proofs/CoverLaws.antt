@@ -9,7 +9,7 @@ use mathlib.Core.Bool.{beq}
 use Rattle.tca_templates.specs.declared.template.Template.{Template}
 use Rattle.tca_templates.specs.declared.ids.Ids.{Ids}
 use Rattle.tca_templates.specs.Templates.{Key}
-use Rattle.tca_templates.specs.Slotted.{place_of, IsApart, Step, noted, Kind, same_kind, StandsFrom, IsAhead, IsAmong, IsListed, IsNoted, AreNoted, IsCovered}
+use Rattle.tca_templates.specs.inside.Slotted.{place_of, IsApart, Step, noted, Kind, same_kind, StandsFrom, IsAhead, IsAmong, IsListed, IsNoted, AreNoted, IsCovered}
 use Rattle.tca_templates.proofs.Stored.{stays_there}
 use Rattle.tca_templates.proofs.SlotLaws.{leads_back}
 

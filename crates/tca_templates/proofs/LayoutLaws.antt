@@ -13,7 +13,7 @@ use Rattle.tca_templates.specs.Records.{FieldView, fits, field_at, fields_on}
 use Rattle.tca_templates.specs.declared.layout.Spots.{Spots}
 use Rattle.tca_templates.specs.declared.layout.Choice.{Choice}
 use Rattle.tca_templates.specs.Chosen.{times, sizes, code_points, interfaces, sections, first, choice, is_field_of, chosen_of}
-use Rattle.tca_templates.specs.Layouts.{spot_in, fixed_spot, are_fixed, spot_of, spots_of, choice_of, value_in, fields_or, fields_in, IsLaidOut, IsFound}
+use Rattle.tca_templates.specs.inside.Layouts.{spot_in, fixed_spot, are_fixed, spot_of, spots_of, choice_of, value_in, fields_or, fields_in, IsLaidOut, IsFound}
 use Rattle.tca_templates.proofs.Choices.{same_some}
 use Rattle.tca_templates.proofs.Fields.{field_of, field_holds, fields_next, fields_cut, fields_done}
 

@@ -11,7 +11,7 @@ use Rattle.tca_templates.specs.declared.layout.Spots.{Spots}
 use Rattle.tca_templates.specs.declared.layout.Choice.{Choice}
 use Rattle.tca_templates.specs.Records.{field_at}
 use Rattle.tca_templates.specs.Chosen.{is_field_of, chosen_of}
-use Rattle.tca_templates.specs.Layouts.{spot_in, fixed_spot, are_fixed, spot_of, spot_if, spots_of, spots_with, layout_of}
+use Rattle.tca_templates.specs.inside.Layouts.{spot_in, fixed_spot, are_fixed, spot_of, spot_if, spots_of, spots_with, layout_of}
 use Rattle.tca_templates.proofs.Fields.{blank}
 
 -- choosing an element

@@ -6,7 +6,7 @@ use Rattle.std.specs.Result.{IsOk, OnOk, IfOk}
 use Rattle.std.specs.Map.{lookup}
 use Rattle.indexmap.specs.IndexMap.{insert_entry, shift_remove_entry}
 use Rattle.tca_templates.specs.Templates.{Key, same_key}
-use Rattle.tca_templates.specs.Slotted.{filled, place_of, IsApart, IsSlotted}
+use Rattle.tca_templates.specs.inside.Slotted.{filled, place_of, IsApart, IsSlotted}
 use Rattle.tca_templates.proofs.Keys.{same_is, same, back, on, clash, turned}
 
 abbrev Slots : Type 0 → Type 0

@@ -7,7 +7,7 @@ use Rattle.std.proofs.lemmas.Option.{get_or_from_slice_get}
 use Rattle.std.specs.Option.{option_map, is_some}
 use Rattle.std.specs.Map.{lookup}
 use Rattle.tca_templates.specs.Templates.{Key, same_key}
-use Rattle.tca_templates.specs.Slotted.{filled, place_of, IsApart, IsSlotted, Step, undone, AreSteps, noted, before_of, AreFew, IsKept}
+use Rattle.tca_templates.specs.inside.Slotted.{filled, place_of, IsApart, IsSlotted, Step, undone, AreSteps, noted, before_of, AreFew, IsKept}
 use Rattle.tca_templates.proofs.Keys.{on, clash, turned}
 use Rattle.tca_templates.proofs.SlotLaws.{miss, deeper, apart_gap, filled_gap, stands, slotted_put, slotted_push, slotted_out}
 

@@ -9,7 +9,7 @@ use Rattle.tca_wire.specs.declared.message.SetSpan.{SetSpan}
 use Rattle.tca_templates.specs.Templates.{Templates}
 use Rattle.tca_templates.specs.Specifiers.{template_front}
 use Rattle.tca_templates.specs.Reading.{ReadMessage, with_templates, with_records, body_of, set_of}
-use Rattle.tca_templates.specs.Layouts.{fields_in}
+use Rattle.tca_templates.specs.inside.Layouts.{fields_in}
 use Rattle.tca_templates.specs.Taking.{Took}
 use Rattle.tca_templates.specs.Wants.{Leads, IsWanted}
 use Rattle.tca_templates.specs.Refusals.{IsStop, HoldsRecords}

@@ -2,14 +2,12 @@ pub mod Templates
 pub mod Specifiers
 pub mod Records
 pub mod Chosen
-pub mod Layouts
 pub mod Taking
 pub mod Handing
 pub mod Wants
 pub mod Refusals
 pub mod Reading
 pub mod Fields
-pub mod Slotted
 pub mod Outcomes
 pub mod Faults
 pub mod Parts
@@ -17,3 +15,4 @@ pub mod TemplateSets
 pub mod DataSets
 pub mod Sessions
 pub mod FirstFaults
+pub mod inside

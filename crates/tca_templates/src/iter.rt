@@ -19,7 +19,7 @@ impl<'a> Model for TemplatesIter<'a> {
     ghost use Rattle.std.specs.Prelude.{List, ℕ, Bool};
     ghost use Rattle.tca_templates.specs.Templates.{listed};
     ghost use Rattle.tca_templates.specs.Fields.{entries_of};
-    ghost use Rattle.tca_templates.specs.Slotted.{filled};
+    ghost use Rattle.tca_templates.specs.inside.Slotted.{filled};
     ghost use Rattle.std.specs.Slice.Iter.{iter_rest};
 
     ghost Value = { List (ℕ × ℕ × Bool) };

@@ -4,7 +4,7 @@ ghost use Rattle.std.specs.Option.{option_or, option_map};
 ghost use Rattle.std.specs.List.{list_any};
 ghost use Rattle.tca_templates.specs.Records.{fields_on};
 ghost use Rattle.tca_templates.specs.Chosen.{times, sizes, code_points, interfaces, sections, is_field_of, chosen_of};
-ghost use Rattle.tca_templates.specs.Layouts.{spot_in, spot_if, choice_of, spots_of, spots_with, layout_of};
+ghost use Rattle.tca_templates.specs.inside.Layouts.{spot_in, spot_if, choice_of, spots_of, spots_with, layout_of};
 
 use crate::record::measure;
 use crate::template::{FieldSpec, VARIABLE};

@@ -5,7 +5,7 @@ ghost use Rattle.tca_wire.specs.Walks.{walk};
 ghost use Rattle.tca_templates.specs.Templates.{shortest_of};
 ghost use Rattle.tca_templates.specs.Records.{FieldView, PlacedView, field_at, fields_on, data_front};
 ghost use Rattle.tca_templates.specs.Chosen.{times, sizes, code_points, interfaces, sections, choice};
-ghost use Rattle.tca_templates.specs.Layouts.{IsLaidOut, fields_in, value_in};
+ghost use Rattle.tca_templates.specs.inside.Layouts.{IsLaidOut, fields_in, value_in};
 ghost use Rattle.tca_templates.specs.Fields.{template_of};
 ghost use Rattle.tca_templates.specs.Outcomes.{value_view};
 ghost use Rattle.tca_templates.specs.Taking.{GivesAs, Took};
@@ -34,7 +34,7 @@ pub struct Record<'r> {
 
 impl<'r> Model for Record<'r> {
     ghost use Rattle.tca_templates.specs.Records.{PlacedView};
-    ghost use Rattle.tca_templates.specs.Layouts.{IsFound, fields_in};
+    ghost use Rattle.tca_templates.specs.inside.Layouts.{IsFound, fields_in};
 
     ghost Value = { PlacedView };
 

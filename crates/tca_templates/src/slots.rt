@@ -18,7 +18,7 @@ ghost use Rattle.indexmap.specs.IndexMap.{spare};
 ghost use Rattle.tca_templates.specs.declared.template.Template.{Template};
 ghost use Rattle.tca_templates.specs.Templates.{Key, known, define, withdraw, withdraw_all, same_key};
 ghost use Rattle.tca_templates.specs.Fields.{template_of, templates_of};
-ghost use Rattle.tca_templates.specs.Slotted.{filled, noted, same_kind, IsApart, IsSlotted, IsAhead, IsAmong, IsListed};
+ghost use Rattle.tca_templates.specs.inside.Slotted.{filled, noted, same_kind, IsApart, IsSlotted, IsAhead, IsAmong, IsListed};
 
 use crate::ids::Ids;
 use crate::template::Template;
@@ -64,7 +64,7 @@ impl Model for Slots {
     ghost use Rattle.tca_templates.specs.Fields.{SlotsView};
     ghost use Rattle.std.specs.Option.{option_map};
     ghost use Rattle.indexmap.specs.IndexMap.{spare};
-    ghost use Rattle.tca_templates.specs.Slotted.{filled, before_of, IsKept, IsCovered};
+    ghost use Rattle.tca_templates.specs.inside.Slotted.{filled, before_of, IsKept, IsCovered};
 
     ghost Value = { SlotsView };
 

@@ -2,7 +2,7 @@
 ghost use Rattle.std.specs.Prelude.{◌≡◌, ◌<◌, ◌≤◌, ◌*◌, length};
 ghost use Rattle.tca_templates.specs.Templates.{least_of, shortest_of};
 ghost use Rattle.tca_templates.specs.Specifiers.{specs_in};
-ghost use Rattle.tca_templates.specs.Layouts.{choice_of, layout_of};
+ghost use Rattle.tca_templates.specs.inside.Layouts.{choice_of, layout_of};
 
 use crate::layout::{Choice, Spots};
 

@@ -422,21 +422,21 @@ fn long_export(alloc: Global, count: u32) -> Result<Vec<u8>, AllocError> {
     Ok(octets)
 }
 
-// Whether an export of 3,000 reports goes out in three writes.
+// Whether an export of 9,000 reports goes out in three writes.
 fn goes_out_in_three(alloc: Global, octets: &[u8]) -> bool {
     let Ok(reports) = read_export(alloc, octets) else {
         return false;
     };
-    let mut out = make_narrow(alloc, 100_000, 100_000, false);
+    let mut out = make_narrow(alloc, 300_000, 300_000, false);
     let done = write_export(reports.as_slice(), &mut out).is_ok();
     let device = out.into_inner();
     let taken = device.taken.as_slice() == octets;
-    reports.len() == 3000 && done && device.calls == 3 && taken
+    reports.len() == 9000 && done && device.calls == 3 && taken
 }
 
 #[test]
 fn a_long_export_goes_out_in_few_writes(rt: HostRuntime) -> Result<(), Fail> {
-    let octets = long_export(rt.alloc(), 3000)?;
+    let octets = long_export(rt.alloc(), 9000)?;
     assert!(rt; goes_out_in_three(rt.alloc(), &octets));
     Ok(())
 }

@@ -8,7 +8,7 @@ use Rattle.std.specs.declared.cmp.Ordering.{Ordering}
 use Rattle.std.specs.declared.cmp.Ordering.TheVariants.{Less, Equal, Greater}
 use Rattle.std.proofs.lemmas.List.Elements.{filter-append}
 use Rattle.tca_join.specs.Sets.{by_order, has, put}
-use Rattle.tca_log.specs.Rows.Chunks.{starts_after}
+use Rattle.tca_log.specs.inside.Chunks.{starts_after}
 use Rattle.tca_log.specs.Rows.Ordered.{without}
 
 pub or_parts : (a b : Bool) → (a || b) ≡ false → (a ≡ false) × (b ≡ false)

@@ -10,7 +10,7 @@ use Rattle.std.specs.declared.cmp.Ordering.{Ordering}
 use Rattle.std.specs.declared.cmp.Ordering.TheVariants.{Less, Equal, Greater}
 use Rattle.tca_join.specs.Sets.{by_order, has, put}
 use Rattle.tca_join.proofs.Sets.{rises_put}
-use Rattle.tca_log.specs.Rows.Chunks.{starts_after, joined, AreChunks, IsPosition}
+use Rattle.tca_log.specs.inside.Chunks.{starts_after, joined, AreChunks, IsPosition}
 use Rattle.tca_log.specs.Rows.Ordered.{without}
 use Rattle.tca_log.proofs.OrderedRows.Parts.{rises_front, rises_back, put_middle, without_middle, below_since, above_since, without_absent, has_above}
 

@@ -9,7 +9,7 @@ use Rattle.std.proofs.lemmas.List.Elements.{filter-append}
 use Rattle.std.specs.declared.cmp.Ordering.{Ordering}
 use Rattle.std.specs.declared.cmp.Ordering.TheVariants.{Less, Equal, Greater}
 use Rattle.tca_join.specs.Sets.{by_order, put}
-use Rattle.tca_log.specs.Rows.Chunks.{joined, AreChunks, IsPosition}
+use Rattle.tca_log.specs.inside.Chunks.{joined, AreChunks, IsPosition}
 use Rattle.tca_log.specs.Rows.Ordered.{rank, without}
 use Rattle.tca_log.proofs.OrderedRows.Parts.{above_tied, above_less, below_tied}
 use Rattle.tca_log.proofs.OrderedRows.Positions.{joined_at, below_first, above_place}

@@ -7,7 +7,7 @@ use Rattle.std.specs.declared.cmp.Ordering.TheVariants.{Less, Equal, Greater}
 use Rattle.std.proofs.lemmas.List.{append-nil}
 use Rattle.std.proofs.lemmas.List.Elements.{All-nil, All-cons, All-set, All-append, All-take, All-drop}
 use Rattle.tca_join.specs.Sets.{by_order, put}
-use Rattle.tca_log.specs.Rows.Chunks.{joined, AreChunks}
+use Rattle.tca_log.specs.inside.Chunks.{joined, AreChunks}
 use Rattle.tca_log.specs.Rows.Ordered.{without}
 use Rattle.std.specs.List.Sorted.{IsStrictlySortedBy}
 use Rattle.tca_log.proofs.OrderedRows.Positions.{joined_at}

@@ -6,7 +6,7 @@ use Rattle.std.specs.Ordering.{eq_by_cmp}
 use Rattle.std.specs.Cmp.{IsTotalOrder}
 use Rattle.std.specs.declared.cmp.Ordering.{Ordering}
 use Rattle.tca_join.specs.Sets.{has}
-use Rattle.tca_log.specs.Rows.Chunks.{joined, AreChunks, IsPosition}
+use Rattle.tca_log.specs.inside.Chunks.{joined, AreChunks, IsPosition}
 use Rattle.tca_log.specs.Rows.Ordered.{tied}
 use Rattle.tca_log.proofs.OrderedRows.Parts.{has_below, has_above}
 use Rattle.tca_log.proofs.OrderedRows.Positions.{joined_at, below_first, above_place}

@@ -7,7 +7,7 @@ use Rattle.std.specs.declared.cmp.Ordering.{Ordering}
 use Rattle.std.proofs.lemmas.List.{get_or_default, append-nil}
 use Rattle.std.proofs.lemmas.List.Elements.{All-nil, All-cons}
 use Rattle.tca_join.specs.Sets.{has, put}
-use Rattle.tca_log.specs.Rows.Chunks.{starts_after, joined, AreChunks, IsPosition}
+use Rattle.tca_log.specs.inside.Chunks.{starts_after, joined, AreChunks, IsPosition}
 use Rattle.tca_log.specs.Rows.Ordered.{without, tied}
 use Rattle.tca_log.proofs.OrderedRows.Parts.{rises_front, rises_back, put_past, put_before, above_since}
 use Rattle.tca_log.proofs.OrderedRows.Positions.{below_start, chunk_rises, chunks_put, chunks_split, chunks_less, chunks_gone}

@@ -3,7 +3,7 @@ ghost use Rattle.std.specs.Prelude.{◌≡◌, ℕ, true, false, ◌+◌, ◌-�
 ghost use Rattle.std.specs.List.{insert, remove};
 ghost use Rattle.std.specs.List.Sorted.{IsStrictlySortedBy, IsSearchInRange};
 ghost use Rattle.tca_join.specs.Sets.{put};
-ghost use Rattle.tca_log.specs.Rows.Chunks.{starts_after};
+ghost use Rattle.tca_log.specs.inside.Chunks.{starts_after};
 ghost use Rattle.tca_log.specs.Rows.Ordered.{without, rank, tied};
 
 use std::alloc::{AllocError, Allocator};

@@ -1,7 +1,7 @@
 //! The rows of a container, one after another.
 ghost use Rattle.std.specs.Prelude.{◌≡◌, ◌++◌};
 ghost use Rattle.std.specs.Iterator.{YieldsFirstRef, item_count};
-ghost use Rattle.tca_log.specs.Rows.Chunks.{joined};
+ghost use Rattle.tca_log.specs.inside.Chunks.{joined};
 
 use crate::rows::chunk::Chunk;
 use std::alloc::{Allocator, Global};
@@ -16,7 +16,7 @@ pub struct RowsIter<'a, K: Ord + Copy, A: Allocator = Global> {
 
 impl<'a, K: Ord + Copy, A: Allocator> Model for RowsIter<'a, K, A> {
     ghost use Rattle.std.specs.Prelude.{List, ◌++◌};
-    ghost use Rattle.tca_log.specs.Rows.Chunks.{joined};
+    ghost use Rattle.tca_log.specs.inside.Chunks.{joined};
 
     ghost Value = { List K };
 

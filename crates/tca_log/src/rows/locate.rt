@@ -1,6 +1,6 @@
 //! Where a row is among chunks.
 ghost use Rattle.std.specs.Prelude.{◌≡◌, true, false, ◌<◌, ◌≤◌, length, drop};
-ghost use Rattle.tca_log.specs.Rows.Chunks.{IsPosition, joined};
+ghost use Rattle.tca_log.specs.inside.Chunks.{IsPosition, joined};
 ghost use Rattle.tca_log.specs.Rows.Ordered.{most_rows};
 
 use crate::rows::chunk::Chunk;

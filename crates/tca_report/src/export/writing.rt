@@ -12,8 +12,8 @@ use crate::device::{Write, WriteFault, put_all};
 use crate::report::Report;
 use arrayvec::ArrayVec;
 
-// Octets that wait on the stack until they go out: those of 1,129 reports.
-const BUFFER: usize = 32_741;
+// Octets that wait on the stack until they go out: the header and 4,096 reports, which fill 29 pages of 4,096 octets.
+const BUFFER: usize = 118_794;
 
 // Octets of one report.
 const RECORD_SIZE: usize = 29;
@@ -22,7 +22,7 @@ type Buffer = ArrayVec<u8, BUFFER>;
 
 // Appends to a buffer with room.
 fn append(octets: &[u8], buffer: &mut Buffer)
-    requires { array_vec_len buffer.old + length octets.now ≤ 32741 }
+    requires { array_vec_len buffer.old + length octets.now ≤ 118794 }
     ensures { buffer.new.items ≡ buffer.old.items ++ octets.now }
 {
     buffer.try_extend_from_slice(octets).unwrap();
@@ -40,7 +40,7 @@ fn with_header(count: u32) -> Buffer
 
 // Appends the 29 octets of a report.
 fn append_record(report: &Report, buffer: &mut Buffer)
-    requires { array_vec_len buffer.old + 29 ≤ 32741 }
+    requires { array_vec_len buffer.old + 29 ≤ 118794 }
     ensures { buffer.new.items ≡ buffer.old.items ++ record_octets Version2 report.now }
 {
     let identity = report.identity();
@@ -76,7 +76,7 @@ fn put_after<W: Write>(written: u64, octets: &[u8], out: &mut W) -> Result<u64, 
 // Where the buffer has no room for one more record, writes what it has and empties it.
 fn make_room<W: Write>(written: u64, buffer: &mut Buffer, out: &mut W) -> Result<u64, WriteFault>
     requires { written + array_vec_len buffer.old < 2 ^ 64 }
-    ensures room { OnOk result (array_vec_len buffer.new + 29 ≤ 32741) }
+    ensures room { OnOk result (array_vec_len buffer.new + 29 ≤ 118794) }
     ensures more { IfOk result (λ n. written ≤ n) }
     ensures total { IfOk result (λ n. n ≤ written + length buffer.old.items) }
     ensures sent { IfOk result (λ n. Appends (W.written out.old) (W.written out.new)

@@ -7,7 +7,7 @@ ghost use Rattle.tca_wire.specs.Frames.{IsFrame, Framing, Holds};
 ghost use Rattle.tca_report.specs.input.Inputs.{CaptureSoFar, capture_with, capture_after, counts_of, capture_of};
 ghost use Rattle.tca_report.specs.input.Gathered.{gathered_of, gathered_view};
 ghost use Rattle.tca_report.specs.input.Wants.{IsWantedFor, IsWantedInCapture};
-ghost use Rattle.tca_report.specs.input.CaptureReaders.{noted, Agrees, ReaderGives, HasRead, Brings, StandsIn, IsWantedAmong};
+ghost use Rattle.tca_report.specs.inside.CaptureReaders.{noted, Agrees, ReaderGives, HasRead, Brings, StandsIn, IsWantedAmong};
 ghost use Rattle.tca_report.specs.declared.input.extraction.NotReport.{NotReport};
 ghost use Rattle.tca_report.specs.declared.input.InputFault.TheVariants as faults;
 

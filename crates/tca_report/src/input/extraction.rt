@@ -247,21 +247,17 @@ fn pick_interface<R: DataRecord>(placed: &R) -> Result<u64, NotReport>
     }
 }
 
-// Judges what was taken: first whether each has a length that it may have, then its value.
+// Judges the values of what was taken, all of which have a length that they may have.
 fn judge(
-    time: Result<Option<u64>, NotReport>,
-    octets: Result<u64, NotReport>,
-    point: Result<u64, NotReport>,
-    interface: Result<u64, NotReport>,
+    time: Option<u64>,
+    octets: u64,
+    point: u64,
+    interface: u64,
     identity: Identity,
 ) -> Result<Report, NotReport>
-    requires { IfOk interface (λ n. n < 2 ^ 32) }
-    ensures { result ≡ judged time octets point interface identity }
+    requires { interface < 2 ^ 32 }
+    ensures { result ≡ judged (Ok time) (Ok octets) (Ok point) (Ok interface) identity }
 {
-    let time = time?;
-    let octets = octets?;
-    let point = point?;
-    let interface = interface?;
     let Some(time) = time else {
         return Err(NotReport::BadTime);
     };
@@ -301,13 +297,11 @@ pub(crate) fn extract_from<R: DataRecord>(placed: &R) -> Result<Report, NotRepor
     let Some(octets) = pick_octets(placed, section) else {
         return Err(NotReport::NoSize);
     };
-    judge(
-        time,
-        octets,
-        pick_code_point(placed, section),
-        pick_interface(placed),
-        placed.identity(),
-    )
+    let time = time?;
+    let octets = octets?;
+    let point = pick_code_point(placed, section)?;
+    let interface = pick_interface(placed)?;
+    judge(time, octets, point, interface, placed.identity())
 }
 
 /// The report that a data record makes, or why it makes none. It takes no memory.

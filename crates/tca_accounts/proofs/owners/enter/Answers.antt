@@ -1,6 +1,6 @@
 use Rattle.std.proofs.lemmas.Grind.{common_steps}
 use Rattle.std.proofs.Common.{◌≡◌, ℕ, ◌+◌, ◌∷◌, map, drop, None, is_none, sym, ap, subst, ◌∙◌, false, slice_index_or, arith}
-use Rattle.tca_accounts.specs.Owners.{Gains, owner_in}
+use Rattle.tca_accounts.specs.inside.Owners.{Gains, owner_in}
 use Rattle.tca_accounts.proofs.Owning.{cut, from_some, from_none, goes_on, stands, step}
 use Rattle.tca_accounts.proofs.owners.enter.Goals as goal
 

@@ -1,5 +1,5 @@
 use Rattle.std.proofs.Common.{drop, map}
-use Rattle.tca_accounts.specs.Owners.{GoesOn}
+use Rattle.tca_accounts.specs.inside.Owners.{GoesOn}
 use Rattle.tca_accounts.proofs.owners.enter.Given as goal
 
 abbrev pub invariant-loop-pair : goal.invariant-loop-pair

@@ -2,7 +2,7 @@ use Rattle.std.proofs.lemmas.Grind.{common_steps}
 use Rattle.std.proofs.Common.{◌≡◌, ℕ, ◌+◌, List, ◌∷◌, ◌++◌, [], map, drop, length, sym, ap, ◌∙◌, arith}
 use Rattle.std.proofs.Math.Seq.{drop-length}
 use Rattle.tca_accounts.specs.Plans.{PlannedAccount}
-use Rattle.tca_accounts.specs.Owners.{GoesOn, IsTwice, owned}
+use Rattle.tca_accounts.specs.inside.Owners.{GoesOn, IsTwice, owned}
 use Rattle.tca_accounts.proofs.Owning.{all_entered, cut, goes_on, not_all, with_rest}
 use Rattle.tca_accounts.proofs.owners.owners_of.Goals as goal
 

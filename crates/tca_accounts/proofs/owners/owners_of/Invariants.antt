@@ -1,5 +1,5 @@
 use Rattle.std.proofs.Common.{drop, []}
-use Rattle.tca_accounts.specs.Owners.{GoesOn, owned}
+use Rattle.tca_accounts.specs.inside.Owners.{GoesOn, owned}
 use Rattle.tca_accounts.proofs.owners.owners_of.Given as goal
 
 abbrev pub invariant-loop-n : goal.invariant-loop-n

@@ -1,6 +1,6 @@
 use Rattle.std.proofs.Common.{◌≡◌, drop}
 use Rattle.toml.specs.View.{items_view}
-use Rattle.tca_accounts.specs.Readings.{each_is_pair}
+use Rattle.tca_accounts.specs.inside.Readings.{each_is_pair}
 use Rattle.tca_accounts.proofs.pairs.judge.Given as goal
 
 -- what is left decides

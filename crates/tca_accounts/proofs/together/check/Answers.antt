@@ -2,7 +2,7 @@ use Rattle.std.proofs.lemmas.Grind.{common_steps}
 use Rattle.std.proofs.Common.{◌≡◌, ◌&&◌, Ok, true, false, rules, arith}
 use Rattle.toml.specs.View.{items_view}
 use Rattle.tca_accounts.specs.Documents.{accounts_from}
-use Rattle.tca_accounts.specs.Readings.{are_few, names_differ, of_accounts, pairs_differ}
+use Rattle.tca_accounts.specs.inside.Readings.{are_few, names_differ, of_accounts, pairs_differ}
 use Rattle.tca_accounts.proofs.AccountsTogether.{all_right, twice}
 use Rattle.tca_accounts.proofs.together.check.Goals as goal
 

@@ -5,7 +5,7 @@ use Rattle.toml.specs.View.{items_view, view}
 use Rattle.tca_wire.specs.Results.{◌>>=◌}
 use Rattle.tca_accounts.specs.Plans.{same_pair}
 use Rattle.tca_accounts.specs.Documents.{pair_in, pairs_of}
-use Rattle.tca_accounts.specs.Readings.{differ_before, of_accounts, of_pairs}
+use Rattle.tca_accounts.specs.inside.Readings.{differ_before, of_accounts, of_pairs}
 use Rattle.tca_accounts.proofs.AccountsTogether.{behind, pairs_at, pairs_later_fault}
 use Rattle.tca_accounts.proofs.together.differ_from.Goals as goal
 

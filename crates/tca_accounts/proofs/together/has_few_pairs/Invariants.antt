@@ -1,7 +1,7 @@
 use Rattle.std.proofs.Common.{◌≡◌, ◌+◌, drop, length, nat_le}
 use Rattle.toml.specs.View.{items_view}
 use Rattle.tca_accounts.specs.Plans.{all_pairs}
-use Rattle.tca_accounts.specs.Readings.{are_few, of_accounts}
+use Rattle.tca_accounts.specs.inside.Readings.{are_few, of_accounts}
 use Rattle.tca_accounts.proofs.together.has_few_pairs.Given as goal
 
 -- what is left decides, with the pairs so far

@@ -3,7 +3,7 @@ use Rattle.std.specs.List.{list_any}
 use Rattle.std.specs.Str.{bytes_eq}
 use Rattle.toml.specs.View.{view}
 use Rattle.tca_accounts.specs.Documents.{account_in}
-use Rattle.tca_accounts.specs.Readings.{named_in}
+use Rattle.tca_accounts.specs.inside.Readings.{named_in}
 use Rattle.tca_accounts.proofs.AccountsTogether.{accounts_at, any_step, given}
 use Rattle.tca_accounts.proofs.together.has_name.Goals as goal
 

@@ -2,7 +2,7 @@ use Rattle.std.proofs.Common.{◌≡◌, ◌+◌, ◌||◌, drop}
 use Rattle.std.specs.List.{list_any}
 use Rattle.std.specs.Str.{bytes_eq}
 use Rattle.toml.specs.View.{items_view}
-use Rattle.tca_accounts.specs.Readings.{of_accounts}
+use Rattle.tca_accounts.specs.inside.Readings.{of_accounts}
 use Rattle.tca_accounts.proofs.together.has_name.Given as goal
 
 -- what is left decides, unless the name was found

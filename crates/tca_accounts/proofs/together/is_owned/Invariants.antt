@@ -2,7 +2,7 @@ use Rattle.std.proofs.Common.{◌≡◌, ◌+◌, ◌||◌, drop}
 use Rattle.std.specs.List.{list_any}
 use Rattle.toml.specs.View.{items_view}
 use Rattle.tca_accounts.specs.Plans.{owns}
-use Rattle.tca_accounts.specs.Readings.{of_accounts}
+use Rattle.tca_accounts.specs.inside.Readings.{of_accounts}
 use Rattle.tca_accounts.proofs.together.is_owned.Given as goal
 
 -- what is left decides, unless the pair was found

@@ -5,7 +5,7 @@ use Rattle.std.specs.Str.{bytes_eq}
 use Rattle.std.proofs.lemmas.Result.{err_from_is_err_and}
 use Rattle.toml.specs.View.{items_view, view}
 use Rattle.tca_accounts.specs.Documents.{account_in, accounts_from}
-use Rattle.tca_accounts.specs.Readings.{names_differ, of_accounts}
+use Rattle.tca_accounts.specs.inside.Readings.{names_differ, of_accounts}
 use Rattle.tca_accounts.proofs.AccountsTogether.{accounts_at, behind, given, later_fault, names_step}
 use Rattle.tca_accounts.proofs.together.names_differ.Goals as goal
 

@@ -1,6 +1,6 @@
 use Rattle.std.proofs.Common.{◌≡◌, ◌&&◌, drop}
 use Rattle.toml.specs.View.{items_view}
-use Rattle.tca_accounts.specs.Readings.{names_differ, of_accounts}
+use Rattle.tca_accounts.specs.inside.Readings.{names_differ, of_accounts}
 use Rattle.tca_accounts.proofs.together.names_differ.Given as goal
 
 -- what is left decides, unless a name stood twice

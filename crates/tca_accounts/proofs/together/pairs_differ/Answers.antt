@@ -4,7 +4,7 @@ use Rattle.std.specs.Result.{IsOk}
 use Rattle.std.proofs.lemmas.Result.{err_from_is_err_and}
 use Rattle.toml.specs.View.{items_view, view}
 use Rattle.tca_accounts.specs.Documents.{account_in, accounts_from, pairs_of}
-use Rattle.tca_accounts.specs.Readings.{differ_from, pairs_differ}
+use Rattle.tca_accounts.specs.inside.Readings.{differ_from, pairs_differ}
 use Rattle.tca_accounts.proofs.AccountsTogether.{accounts_at, behind, given, others_ok, pairs_fault, pairs_step}
 use Rattle.tca_accounts.proofs.together.pairs_differ.Goals as goal
 

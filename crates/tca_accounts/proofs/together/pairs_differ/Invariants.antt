@@ -2,7 +2,7 @@ use Rattle.std.proofs.Common.{◌≡◌, ◌&&◌, drop}
 use Rattle.std.specs.Result.{IsOk}
 use Rattle.toml.specs.View.{items_view}
 use Rattle.tca_accounts.specs.Documents.{accounts_from}
-use Rattle.tca_accounts.specs.Readings.{of_accounts, pairs_differ}
+use Rattle.tca_accounts.specs.inside.Readings.{of_accounts, pairs_differ}
 use Rattle.tca_accounts.proofs.together.pairs_differ.Given as goal
 
 -- what is left decides, unless a pair stood twice

@@ -1,7 +1,7 @@
 use Rattle.std.proofs.Common.{◌≡◌, ◌∷◌, [], sym, ◌∙◌, arith}
 use Rattle.std.specs.Prelude.{map}
 use Rattle.std.proofs.lemmas.List.{append-nil, append_assoc, nil_from_length}
-use Rattle.tca_audit.specs.Metering.{tally_so_far}
+use Rattle.tca_audit.specs.inside.Metering.{tally_so_far}
 use Rattle.tca_audit.proofs.bill.finish.Goals as goal
 
 pub finish-requires : goal.finish-requires

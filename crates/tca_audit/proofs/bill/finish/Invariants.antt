@@ -2,7 +2,7 @@ use Rattle.std.proofs.Common.{◌≡◌, ◌++◌}
 use Rattle.std.specs.Prelude.{map}
 use Rattle.std.specs.List.{AllByRecursion}
 use Rattle.tca_accounts.specs.Spans.{Ascend}
-use Rattle.tca_audit.specs.Metering.{tally_so_far}
+use Rattle.tca_audit.specs.inside.Metering.{tally_so_far}
 use Rattle.tca_audit.proofs.bill.finish.Given as goal
 
 abbrev pub invariant-loop-account : goal.invariant-loop-account

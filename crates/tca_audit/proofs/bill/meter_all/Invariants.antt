@@ -4,7 +4,7 @@ use Rattle.tca_report.specs.report.Reports.{report_cmp}
 use Rattle.tca_log.specs.Disputes.{settled_of, undisputed}
 use Rattle.tca_accounts.specs.Bills.{unassigned}
 use Rattle.tca_accounts.proofs.Bills.{none_in}
-use Rattle.tca_audit.specs.Metering.{AreMetering}
+use Rattle.tca_audit.specs.inside.Metering.{AreMetering}
 use Rattle.tca_audit.proofs.bill.meter_all.Given as goal
 
 -- each account had the reports so far that it owns and that aren't disputed, and those that none owns were counted

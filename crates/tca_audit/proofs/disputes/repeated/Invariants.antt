@@ -1,5 +1,5 @@
 use Rattle.std.proofs.Common.{◌≡◌, ◌++◌, drop}
-use Rattle.tca_audit.specs.Repeats.{repeats}
+use Rattle.tca_audit.specs.inside.Repeats.{repeats}
 use Rattle.tca_audit.proofs.disputes.repeated.Given as goal
 
 abbrev pub invariant-loop-at : goal.invariant-loop-at

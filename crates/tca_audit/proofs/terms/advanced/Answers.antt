@@ -5,7 +5,7 @@ use Rattle.tca_meters.specs.declared.any_meter.AnyMeter.{AnyMeter}
 use Rattle.tca_meters.specs.AnyMeters.{any_rule}
 use Rattle.tca_meters.specs.Termed.{term, term_at, termed_rule}
 use Rattle.tca_meters.proofs.Terms.{have_times}
-use Rattle.tca_audit.specs.Metering.{levels_of, state_of}
+use Rattle.tca_audit.specs.inside.Metering.{levels_of, state_of}
 use Rattle.tca_audit.proofs.TermsInTurn.{at_earlier, at_last, at_later, by_end, starts_here}
 use Rattle.tca_audit.proofs.terms.advanced.Goals as goal
 use Rattle.tca_audit.proofs.terms.advanced.Goals.{then-last-start+then-start-to, else-last-start, else-last-start-via-then-last-start+else-start-to, else-last-start-via-else-last-start}

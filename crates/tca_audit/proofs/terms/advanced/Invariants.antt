@@ -1,4 +1,4 @@
-use Rattle.tca_audit.specs.Metering.{state_of}
+use Rattle.tca_audit.specs.inside.Metering.{state_of}
 use Rattle.tca_audit.proofs.TermsInTurn.{IsAt}
 use Rattle.tca_audit.proofs.terms.advanced.Given as goal
 

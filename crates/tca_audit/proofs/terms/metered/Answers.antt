@@ -2,7 +2,7 @@ use Rattle.std.proofs.Common.{◌∙◌, sym, ap}
 use Rattle.tca_meters.specs.declared.any_meter.AnyMeter.{AnyMeter}
 use Rattle.tca_meters.specs.AnyMeters.{any_rule}
 use Rattle.tca_meters.specs.Termed.{termed_rule}
-use Rattle.tca_audit.specs.Metering.{levels_of}
+use Rattle.tca_audit.specs.inside.Metering.{levels_of}
 use Rattle.tca_audit.proofs.terms.metered.Goals as goal
 
 pub returns : goal.returns

@@ -22,7 +22,7 @@ impl Meter for Counting {
     type State = Levels;
 
     ghost use Rattle.tca_meters.specs.SrTcm.{single_rate_rule, IsWithinSizes};
-    ghost use Rattle.tca_meters.specs.SrTcmLaws as laws;
+    ghost use Rattle.tca_meters.specs.laws.SrTcmLaws as laws;
 
     ghost rule = { λ m. single_rate_rule m.meter };
 

@@ -1,6 +1,6 @@
 use Rattle.std.proofs.Common.{List, ap, ◌∙◌}
 use Rattle.tca_report.specs.report.Reports.{PacketReport}
-use Rattle.tca_gossip.specs.Kept.{kept_of}
+use Rattle.tca_gossip.specs.inside.Kept.{kept_of}
 use Rattle.tca_gossip.specs.Runs.{fault_of}
 use Rattle.tca_gossip.proofs.AbsorbSteps.{fault_some, fault_none, fault_ends, runs_step}
 use Rattle.tca_gossip.proofs.absorb.refusal.Goals as goal

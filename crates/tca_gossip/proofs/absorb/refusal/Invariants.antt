@@ -1,5 +1,5 @@
 use Rattle.std.proofs.Common.{◌≡◌, drop}
-use Rattle.tca_gossip.specs.Kept.{kept_of}
+use Rattle.tca_gossip.specs.inside.Kept.{kept_of}
 use Rattle.tca_gossip.specs.Runs.{first_fault, AreRuns}
 use Rattle.tca_gossip.proofs.absorb.refusal.Given as goal
 

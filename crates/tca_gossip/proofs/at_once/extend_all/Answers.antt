@@ -1,6 +1,6 @@
 use Rattle.std.proofs.lemmas.Grind.{common_steps}
 use Rattle.std.proofs.Common.{arith}
-use Rattle.tca_gossip.specs.Kept.{kept_of}
+use Rattle.tca_gossip.specs.inside.Kept.{kept_of}
 use Rattle.tca_gossip.proofs.AbsorbSteps.{limit_at}
 use Rattle.tca_gossip.proofs.RunsAtOnce.{kept_first, list_first, kept_next, list_next, kept_last, list_last}
 use Rattle.tca_gossip.proofs.at_once.extend_all.Goals as goal

@@ -1,7 +1,7 @@
 use Rattle.std.proofs.Common.{◌≡◌, ℕ, ◌++◌, take}
 use Rattle.tca_gossip.specs.Replicas.{of, reports_in}
 use Rattle.tca_gossip.specs.Runs.{rests}
-use Rattle.tca_gossip.specs.Kept.{kept_of}
+use Rattle.tca_gossip.specs.inside.Kept.{kept_of}
 use Rattle.tca_gossip.proofs.at_once.extend_all.Given as goal
 
 abbrev pub invariant-loop-run : goal.invariant-loop-run

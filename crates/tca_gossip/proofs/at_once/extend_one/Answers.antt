@@ -2,7 +2,7 @@ use Rattle.std.proofs.lemmas.Grind.{common_steps}
 use Rattle.std.proofs.Common.{◌≡◌, ◌++◌, ◌∙◌, List, ap, arith, length}
 use Rattle.tca_report.specs.report.Reports.{PacketReport}
 use Rattle.tca_gossip.specs.Replicas.{of, with_origin}
-use Rattle.tca_gossip.specs.Kept.{kept_of}
+use Rattle.tca_gossip.specs.inside.Kept.{kept_of}
 use Rattle.tca_gossip.specs.Runs.{rest_of}
 use Rattle.tca_gossip.proofs.RunsAtOnce.{rest_found}
 use Rattle.tca_gossip.proofs.at_once.extend_one.Goals as goal

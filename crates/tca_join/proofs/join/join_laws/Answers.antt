@@ -1,4 +1,4 @@
-use Rattle.tca_join.specs.JoinLaws.{associates_back, above_both, least_above, transitive, antisymmetric}
+use Rattle.tca_join.specs.laws.JoinLaws.{associates_back, above_both, least_above, transitive, antisymmetric}
 use Rattle.tca_join.proofs.join.join_laws.Goals as goal
 
 pub returns : goal.returns

@@ -1,5 +1,5 @@
 use Rattle.std.proofs.Common.{◌≡◌, ◌≤◌, [], length, drop}
-use Rattle.tca_log.specs.Additions.{with_reports}
+use Rattle.tca_log.specs.inside.Additions.{with_reports}
 use Rattle.tca_log.proofs.additions.additions_in_order.Given as goal
 
 -- what the reports so far made of the additions, and then what is left

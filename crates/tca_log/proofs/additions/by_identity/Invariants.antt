@@ -1,5 +1,5 @@
 use Rattle.std.proofs.Common.{◌≡◌, ◌++◌, map}
-use Rattle.tca_log.specs.Logs.{indexed}
+use Rattle.tca_log.specs.inside.Logs.{indexed}
 use Rattle.tca_log.proofs.additions.by_identity.Given as goal
 
 abbrev pub invariant-loop-report : goal.invariant-loop-report

@@ -3,7 +3,7 @@ use Rattle.std.proofs.lemmas.List.{append-nil}
 use Rattle.tca_report.specs.report.Reports.{PacketReport}
 use Rattle.tca_report.specs.declared.report.Identity.{Identity}
 use Rattle.tca_report.specs.report.Identities.{identity_of}
-use Rattle.tca_log.specs.Logs.{origin_of, count_at}
+use Rattle.tca_log.specs.inside.Logs.{origin_of, count_at}
 use Rattle.tca_log.proofs.AscendingPlaces.{IsAbove, alone_more, alone_none, last_of, none_disputed}
 use Rattle.tca_log.proofs.ascending.places_ascend.Goals as goal
 

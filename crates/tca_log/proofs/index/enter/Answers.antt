@@ -2,7 +2,7 @@ use Rattle.std.proofs.Common.{◌≡◌, Some, true, false, refl, rules, sym, ap
 use Rattle.std.specs.Prelude.{is_some}
 use Rattle.tca_join.specs.Sets.{has}
 use Rattle.tca_report.specs.report.Identities.{identity_cmp}
-use Rattle.tca_log.specs.Logs.{index_cmp, indexed, first_of, is_disputed}
+use Rattle.tca_log.specs.inside.Logs.{index_cmp, indexed, first_of, is_disputed}
 use Rattle.tca_log.proofs.OrderedRows.Search.{has_tied}
 use Rattle.tca_log.proofs.Logs.{index_total}
 use Rattle.tca_log.proofs.index.enter.Goals as goal

@@ -2,8 +2,8 @@ use Rattle.std.proofs.Common.{◌≡◌, [], ap, ◌∙◌}
 use Rattle.tca_report.specs.declared.report.Identity.{Identity}
 use Rattle.tca_log.specs.declared.by_identity.ByIdentity.{ByIdentity}
 use Rattle.tca_log.specs.Rows.Ordered.{Ordered}
-use Rattle.tca_log.specs.Logs.{index_cmp}
-use Rattle.tca_log.specs.Additions.{AddedRows, with_reports}
+use Rattle.tca_log.specs.inside.Logs.{index_cmp}
+use Rattle.tca_log.specs.inside.Additions.{AddedRows, with_reports}
 use Rattle.tca_log.proofs.OrderedRows.Each.{apart_none}
 use Rattle.tca_log.proofs.Logs.{index_total}
 use Rattle.tca_log.proofs.Uniting.{index_made}

@@ -2,7 +2,7 @@ use Rattle.std.proofs.Common.{◌≡◌, ◌<◌, ◌≤◌, List, [], ◌∷◌
 use Rattle.std.proofs.lemmas.List.{append-nil}
 use Rattle.std.proofs.lemmas.List.Elements.{All-append}
 use Rattle.std.proofs.lemmas.Grind.{flat_map-append, common_steps}
-use Rattle.tca_log.specs.Rows.Chunks.{joined}
+use Rattle.tca_log.specs.inside.Chunks.{joined}
 use Rattle.tca_log.proofs.OrderedRows.Small.{all_one}
 use Rattle.tca_log.proofs.rows.cut.Goals as goal
 

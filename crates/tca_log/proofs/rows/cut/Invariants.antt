@@ -1,6 +1,6 @@
 use Rattle.std.proofs.Common.{◌≡◌, ◌<◌, ◌≤◌, ◌++◌, length}
 use Rattle.std.specs.List.{All}
-use Rattle.tca_log.specs.Rows.Chunks.{joined}
+use Rattle.tca_log.specs.inside.Chunks.{joined}
 use Rattle.tca_log.proofs.rows.cut.Given as goal
 
 -- the chunks so far, and then what is left to cut

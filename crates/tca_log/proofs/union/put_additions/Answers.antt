@@ -1,6 +1,6 @@
 use Rattle.std.proofs.Common.{◌+◌, ◌≤◌, length, subst, sym, ap, ◌∙◌}
 use Rattle.tca_report.specs.report.Identities.{identity_cmp, identity_total}
-use Rattle.tca_log.specs.Logs.{index_cmp}
+use Rattle.tca_log.specs.inside.Logs.{index_cmp}
 use Rattle.tca_log.specs.Rows.Ordered.{without_each, AreApart}
 use Rattle.tca_log.proofs.OrderedRows.Each.{undone_all}
 use Rattle.tca_log.proofs.union.put_additions.Goals as goal

@@ -10,7 +10,7 @@ use Rattle.tca_wire.proofs.Framings.{joined}
 use Rattle.tca_report.specs.report.Reports.{PacketReport}
 use Rattle.tca_report.specs.input.Inputs.{CaptureSoFar, nothing, capture_after, ended, capture_of}
 use Rattle.tca_report.specs.input.Gathered.{gathered_of}
-use Rattle.tca_report.specs.input.CaptureReaders.{noted, Agrees, HasRead}
+use Rattle.tca_report.specs.inside.CaptureReaders.{noted, Agrees, HasRead}
 use Rattle.tca_report.specs.declared.input.InputFault.{InputFault}
 use Rattle.tca_report.specs.declared.input.InputFault.TheVariants.{Wire}
 use Rattle.tca_report.specs.declared.input.Notes.{Notes}

@@ -19,7 +19,7 @@ use Rattle.tca_templates.specs.Wants as templates
 use Rattle.tca_templates.proofs.SessionMaps.{session_opens}
 use Rattle.tca_report.specs.input.Inputs.{CaptureSoFar, nothing, capture_with, capture_after}
 use Rattle.tca_report.specs.input.Wants.{IsWantedFor, TheSets, ARecord, IsWantedInCapture}
-use Rattle.tca_report.specs.input.CaptureReaders.{HasRead, IsWantedAmong}
+use Rattle.tca_report.specs.inside.CaptureReaders.{HasRead, IsWantedAmong}
 use Rattle.tca_report.specs.declared.input.capture.CaptureReader.{CaptureReader}
 use Rattle.tca_report.proofs.lemmas.input.CaptureParts.{all_none, all_on, all_next}
 use Rattle.tca_report.proofs.lemmas.input.CapturePieces.{fed}

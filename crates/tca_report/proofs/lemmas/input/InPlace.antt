@@ -18,7 +18,7 @@ use Rattle.tca_templates.proofs.SessionMaps.{session_opens}
 use Rattle.tca_report.specs.input.Inputs.{CaptureSoFar, nothing, with_split, capture_with, capture_after, capture_of}
 use Rattle.tca_report.specs.input.Captures.{AreRead}
 use Rattle.tca_report.specs.input.Wants.{IsWantedFor, IsWantedInCapture}
-use Rattle.tca_report.specs.input.CaptureReaders.{Agrees, HasRead, StandsIn}
+use Rattle.tca_report.specs.inside.CaptureReaders.{Agrees, HasRead, StandsIn}
 use Rattle.tca_report.specs.declared.input.InputFault.{InputFault}
 use Rattle.tca_report.specs.declared.input.capture.CaptureReader.{CaptureReader}
 use Rattle.tca_report.proofs.lemmas.input.CaptureParts.{all_none, all_on, all_next}

@@ -13,7 +13,7 @@ use Rattle.tca_templates.specs.declared.fault.DecodeFault.{DecodeFault}
 use Rattle.tca_report.specs.report.Reports.{PacketReport}
 use Rattle.tca_report.specs.input.Extract.{extract_of}
 use Rattle.tca_report.specs.input.Inputs.{CaptureSoFar, or_taken, reports_of, reasons_of, counts_of, one_if, with_message, with_reading, with_split, capture_with}
-use Rattle.tca_report.specs.input.CaptureReaders.{Agrees}
+use Rattle.tca_report.specs.inside.CaptureReaders.{Agrees}
 use Rattle.tca_report.specs.declared.input.extraction.NotReport.{NotReport}
 use Rattle.tca_report.specs.declared.input.Notes.{Notes}
 use Rattle.tca_report.specs.declared.input.capture.CaptureReader.{CaptureReader}

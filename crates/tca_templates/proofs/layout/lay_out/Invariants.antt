@@ -1,5 +1,5 @@
 use Rattle.std.proofs.Common.{◌≡◌, ◌≤◌, ◌*◌, drop}
-use Rattle.tca_templates.specs.Layouts.{fixed_spot, are_fixed, spots_of, spots_with}
+use Rattle.tca_templates.specs.inside.Layouts.{fixed_spot, are_fixed, spots_of, spots_with}
 use Rattle.tca_templates.proofs.layout.lay_out.Given as goal
 
 abbrev pub invariant-loop-spec : goal.invariant-loop-spec

@@ -1,7 +1,7 @@
 use Rattle.std.proofs.Common.{◌≡◌, ◌+◌, [], length, drop}
 use Rattle.std.specs.Prelude.{option_map}
 use Rattle.tca_templates.specs.Records.{fields_on}
-use Rattle.tca_templates.specs.Layouts.{spot_in, spots_of, spots_with}
+use Rattle.tca_templates.specs.inside.Layouts.{spot_in, spots_of, spots_with}
 use Rattle.tca_templates.proofs.layout.locate.Given as goal
 
 abbrev pub invariant-loop-spec : goal.invariant-loop-spec

@@ -5,7 +5,7 @@ use Rattle.std.specs.Option.{is_some}
 use Rattle.std.proofs.lemmas.List.{length-drop, drop-take, map-append}
 use Rattle.tca_templates.specs.declared.outcome.FieldValue.{FieldValue}
 use Rattle.tca_templates.specs.Records.{field_at, fields_on}
-use Rattle.tca_templates.specs.Layouts.{fields_or}
+use Rattle.tca_templates.specs.inside.Layouts.{fields_or}
 use Rattle.tca_templates.specs.Outcomes.{value_view}
 use Rattle.tca_templates.proofs.Fields.{blank, field_of, fields_step, fields_stop, fields_all}
 use Rattle.tca_templates.proofs.record.copied_fields.Goals as goal

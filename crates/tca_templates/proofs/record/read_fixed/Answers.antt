@@ -4,7 +4,7 @@ use Rattle.std.proofs.lemmas.List.{length-drop}
 use Rattle.std.proofs.lemmas.Result.{err_from_is_err_and}
 use Rattle.tca_templates.specs.Templates.{shortest_of}
 use Rattle.tca_templates.specs.Records.{fields_on}
-use Rattle.tca_templates.specs.Layouts.{fields_in}
+use Rattle.tca_templates.specs.inside.Layouts.{fields_in}
 use Rattle.tca_templates.specs.Fields.{template_of}
 use Rattle.tca_templates.proofs.Records.{data_ends}
 use Rattle.tca_templates.proofs.LayoutLaws.{found_fixed, size_fixed}

@@ -6,7 +6,7 @@ use Rattle.std.proofs.lemmas.Result.{err_from_is_err_and}
 use Rattle.tca_templates.specs.declared.template.FieldSpec.{FieldSpec}
 use Rattle.tca_templates.specs.Templates.{shortest_of}
 use Rattle.tca_templates.specs.Records.{fields_on}
-use Rattle.tca_templates.specs.Layouts.{spots_of, spot_in}
+use Rattle.tca_templates.specs.inside.Layouts.{spots_of, spot_in}
 use Rattle.tca_templates.specs.Fields.{template_of}
 use Rattle.tca_templates.proofs.Fields.{fields_holds}
 use Rattle.tca_templates.proofs.Records.{data_ends, data_bad}

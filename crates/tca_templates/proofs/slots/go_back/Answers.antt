@@ -1,7 +1,7 @@
 use Rattle.std.proofs.Common.{rules, Some, sym, subst}
 use Rattle.std.specs.Prelude.{Option}
 use Rattle.tca_templates.specs.declared.ids.Ids.{Ids}
-use Rattle.tca_templates.specs.Slotted.{IsAhead, IsAmong}
+use Rattle.tca_templates.specs.inside.Slotted.{IsAhead, IsAmong}
 use Rattle.tca_templates.proofs.CoverLaws.{ahead_one, among_one, one_is, among}
 use Rattle.tca_templates.proofs.slots.go_back.Goals as goal
 

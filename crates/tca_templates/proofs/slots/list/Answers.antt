@@ -2,7 +2,7 @@ use Rattle.std.proofs.Common.{rules, ℕ, List, sym, ap, subst}
 use Rattle.std.specs.Prelude.{Option}
 use Rattle.std.specs.Map.{lookup}
 use Rattle.tca_templates.specs.declared.ids.Ids.{Ids}
-use Rattle.tca_templates.specs.Slotted.{Kind, same_kind, IsAhead, IsAmong}
+use Rattle.tca_templates.specs.inside.Slotted.{Kind, same_kind, IsAhead, IsAmong}
 use Rattle.tca_templates.proofs.CoverLaws.{ahead_one, among_one, one_is, stands_more, stands_last}
 use Rattle.tca_templates.proofs.slots.list.Goals as goal
 

@@ -2,7 +2,7 @@ use Rattle.std.proofs.Common.{◌≡◌, ℕ, Option, Some, take}
 use Rattle.std.specs.Prelude.{slice_get}
 use Rattle.tca_templates.specs.declared.template.Template.{Template}
 use Rattle.tca_templates.specs.Templates.{Key}
-use Rattle.tca_templates.specs.Slotted.{IsListed}
+use Rattle.tca_templates.specs.inside.Slotted.{IsListed}
 use Rattle.tca_templates.proofs.slots.listed.Given as goal
 
 abbrev pub invariant-loop-slot : goal.invariant-loop-slot

@@ -4,7 +4,7 @@ use Rattle.std.specs.Map.{lookup}
 use Rattle.std.proofs.lemmas.Option.{slice_get_read}
 use Rattle.tca_templates.specs.declared.template.Template.{Template}
 use Rattle.tca_templates.specs.Templates.{Key, same_key}
-use Rattle.tca_templates.specs.Slotted.{IsSlotted}
+use Rattle.tca_templates.specs.inside.Slotted.{IsSlotted}
 use Rattle.tca_templates.proofs.SlotLaws.{slotted_none, slotted_push, slotted_gap, take_more, take_all, take_count, none_before, on_ok, grown}
 use Rattle.tca_templates.proofs.slots.number.Goals.{in-Some, in_default}
 use Rattle.tca_templates.proofs.slots.number.Goals as goal

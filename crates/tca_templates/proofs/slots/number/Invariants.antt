@@ -1,6 +1,6 @@
 use Rattle.std.proofs.Common.{◌+◌, ◌≤◌, length, take}
 use Rattle.indexmap.specs.IndexMap.{spare}
-use Rattle.tca_templates.specs.Slotted.{IsSlotted}
+use Rattle.tca_templates.specs.inside.Slotted.{IsSlotted}
 use Rattle.tca_templates.proofs.slots.number.Given as goal
 
 abbrev pub invariant-loop-place : goal.invariant-loop-place

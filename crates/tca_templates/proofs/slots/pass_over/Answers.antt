@@ -1,7 +1,7 @@
 use Rattle.std.proofs.Common.{rules, sym, subst}
 use Rattle.std.specs.Prelude.{Option}
 use Rattle.tca_templates.specs.declared.ids.Ids.{Ids}
-use Rattle.tca_templates.specs.Slotted.{IsAmong}
+use Rattle.tca_templates.specs.inside.Slotted.{IsAmong}
 use Rattle.tca_templates.proofs.CoverLaws.{among_one}
 use Rattle.tca_templates.proofs.slots.pass_over.Goals as goal
 

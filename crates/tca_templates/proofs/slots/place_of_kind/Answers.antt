@@ -3,7 +3,7 @@ use Rattle.std.specs.Prelude.{Option, Some, None, slice_get}
 use Rattle.std.proofs.lemmas.Option.{slice_get_read}
 use Rattle.tca_templates.specs.declared.template.Template.{Template}
 use Rattle.tca_templates.specs.Templates.{Key}
-use Rattle.tca_templates.specs.Slotted.{place_of}
+use Rattle.tca_templates.specs.inside.Slotted.{place_of}
 use Rattle.tca_templates.proofs.SlotLaws.{has_key, stands}
 use Rattle.tca_templates.proofs.CoverLaws.{beq_is, unlike, none_there, one_there}
 use Rattle.tca_templates.proofs.slots.place_of_kind.Goals as goal

@@ -1,5 +1,5 @@
 use Rattle.std.proofs.Common.{ℕ, ◌*◌, ◌/◌, ◌%◌, ap}
-use Rattle.tca_accounts.specs.Owners.{slot_of}
+use Rattle.tca_accounts.specs.inside.Owners.{slot_of}
 use Rattle.tca_accounts.proofs.pair.Pair.slot.Goals as goal
 
 pub returns-clause-value : goal.returns-clause-value

@@ -4,7 +4,7 @@ use Rattle.tca_meters.specs.declared.termed.InTerm.{InTerm}
 use Rattle.tca_meters.specs.Termed.{termed_rule}
 use Rattle.tca_accounts.specs.Metering.{answer_for}
 use Rattle.tca_accounts.proofs.Steps.{stands_more}
-use Rattle.tca_audit.specs.Metering.{standing, state_of}
+use Rattle.tca_audit.specs.inside.Metering.{standing, state_of}
 use Rattle.tca_audit.proofs.account.Account.add.Goals as goal
 
 pub returns-clause-metering : goal.returns-clause-metering

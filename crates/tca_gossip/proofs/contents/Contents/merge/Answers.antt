@@ -8,7 +8,7 @@ use Rattle.tca_join.specs.Faults.{IsJoinFault}
 use Rattle.tca_join.specs.Maps.{clash_key, map_full, merged}
 use Rattle.tca_log.specs.LogJoin.{log_full}
 use Rattle.tca_gossip.specs.Replicas.{ReplicaView, chain_of, merge_clash}
-use Rattle.tca_gossip.specs.Kept.{held_in, replica_of}
+use Rattle.tca_gossip.specs.inside.Kept.{held_in, replica_of}
 use Rattle.tca_gossip.proofs.Agreeing.{merged_agrees, neither, without_book}
 use Rattle.tca_gossip.proofs.Clashing.{memory_alone, within_limit}
 use Rattle.tca_gossip.proofs.Exact.{exact_report}

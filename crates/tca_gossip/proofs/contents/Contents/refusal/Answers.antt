@@ -2,7 +2,7 @@ use Rattle.std.proofs.Common.{◌≡◌, ℕ, List, ◌∙◌, sym, ap}
 use Rattle.tca_report.specs.report.Reports.{PacketReport}
 use Rattle.tca_gossip.specs.Replicas.{ReplicaView, chain_of}
 use Rattle.tca_gossip.specs.Runs.{first_fault}
-use Rattle.tca_gossip.specs.Kept.{kept_of, replica_of}
+use Rattle.tca_gossip.specs.inside.Kept.{kept_of, replica_of}
 use Rattle.tca_gossip.proofs.Plains.{chain_held}
 use Rattle.tca_gossip.proofs.contents.Contents.refusal.Goals as goal
 

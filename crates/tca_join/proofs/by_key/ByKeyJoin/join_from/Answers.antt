@@ -1,6 +1,6 @@
 use Rattle.std.proofs.lemmas.Grind.{common_steps}
 use Rattle.std.proofs.Common.{arith}
-use Rattle.tca_join.specs.MapLaws.{rises_merged}
+use Rattle.tca_join.specs.laws.MapLaws.{rises_merged}
 use Rattle.tca_join.proofs.by_key.ByKeyJoin.join_from.Goals as goal
 
 pub invariant_of-self : goal.invariant_of-self

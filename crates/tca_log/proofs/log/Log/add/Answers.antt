@@ -1,7 +1,7 @@
 use Rattle.std.proofs.lemmas.Grind.{common_steps}
 use Rattle.std.proofs.Common.{◌<◌, List, length, sym, subst, ◌∙◌, arith}
 use Rattle.tca_report.specs.report.Reports.{PacketReport}
-use Rattle.tca_log.specs.Logs.{IsLog}
+use Rattle.tca_log.specs.inside.Logs.{IsLog}
 use Rattle.tca_log.proofs.Logs.{repeat, repeat_put, kept, next_log, next_answer}
 use Rattle.tca_log.proofs.log.Log.add.Goals as goal
 

@@ -1,7 +1,7 @@
 use Rattle.std.proofs.lemmas.Grind.{common_steps}
 use Rattle.std.proofs.Common.{◌≡◌, ℕ, ◌+◌, ◌<◌, List, ◌++◌, length, get_or, drop, append_assoc, sym, ap, ◌∙◌, arith}
 use Rattle.std.proofs.lemmas.List.{drop_more}
-use Rattle.tca_log.specs.Rows.Chunks.{joined}
+use Rattle.tca_log.specs.inside.Chunks.{joined}
 use Rattle.tca_log.proofs.rows.Rows.listed.Goals as goal
 
 -- one chunk more

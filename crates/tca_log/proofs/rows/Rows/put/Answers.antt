@@ -1,6 +1,6 @@
 use Rattle.std.proofs.Common.{◌≡◌, ◌+◌, length, ap, arith, false}
 use Rattle.tca_join.specs.Sets.{has}
-use Rattle.tca_log.specs.Rows.Chunks.{joined}
+use Rattle.tca_log.specs.inside.Chunks.{joined}
 use Rattle.tca_log.proofs.OrderedRows.Positions.{length_put}
 use Rattle.tca_log.proofs.rows.Rows.put.Goals as goal
 

@@ -1,5 +1,5 @@
 use Rattle.std.proofs.Common.{◌+◌, ◌≤◌, List, length, take, sym, ap, ◌∙◌, arith}
-use Rattle.tca_log.specs.Rows.Chunks.{joined, IsPosition}
+use Rattle.tca_log.specs.inside.Chunks.{joined, IsPosition}
 use Rattle.tca_log.specs.Rows.Ordered.{rank}
 use Rattle.tca_log.proofs.OrderedRows.Ranks.{rank_place, rank_none, front-le}
 use Rattle.tca_log.proofs.OrderedRows.Small.{here-le}

@@ -1,6 +1,6 @@
 use Rattle.std.proofs.Common.{◌≡◌, ◌+◌, length, arith, true}
 use Rattle.tca_join.specs.Sets.{has}
-use Rattle.tca_log.specs.Rows.Chunks.{joined}
+use Rattle.tca_log.specs.inside.Chunks.{joined}
 use Rattle.tca_log.proofs.OrderedRows.Positions.{length_without}
 use Rattle.tca_log.proofs.OrderedRows.Whole.{has_some}
 use Rattle.tca_log.proofs.rows.Rows.withdraw.Goals as goal

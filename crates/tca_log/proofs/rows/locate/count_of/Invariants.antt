@@ -1,5 +1,5 @@
 use Rattle.std.proofs.Common.{◌≡◌, ◌+◌, length, drop}
-use Rattle.tca_log.specs.Rows.Chunks.{joined}
+use Rattle.tca_log.specs.inside.Chunks.{joined}
 use Rattle.tca_log.proofs.rows.locate.count_of.Given as goal
 
 abbrev pub invariant-loop-chunk : goal.invariant-loop-chunk

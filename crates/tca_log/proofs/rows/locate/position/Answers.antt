@@ -1,5 +1,5 @@
 use Rattle.std.proofs.Common.{◌≡◌, true, ◌+◌, get_or, [], subst, arith}
-use Rattle.tca_log.specs.Rows.Chunks.{starts_after}
+use Rattle.tca_log.specs.inside.Chunks.{starts_after}
 use Rattle.tca_log.proofs.rows.locate.position.Goals as goal
 
 pub returns : goal.returns

@@ -1,5 +1,5 @@
 use Rattle.std.proofs.Common.{◌≡◌, true, false, ◌-◌, ◌<◌, ◌≤◌, length, get_or, []}
-use Rattle.tca_log.specs.Rows.Chunks.{starts_after}
+use Rattle.tca_log.specs.inside.Chunks.{starts_after}
 use Rattle.tca_log.proofs.rows.locate.position.Given as goal
 
 abbrev pub invariant-loop-low : goal.invariant-loop-low

@@ -1,7 +1,7 @@
 use Rattle.std.proofs.Common.{◌≡◌, ◌∙◌, Some, sym, arith}
 use Rattle.tca_meters.specs.AnyMeters.{any_rule}
 use Rattle.tca_meters.specs.Termed.{begun}
-use Rattle.tca_meters.specs.TermedLaws.{has_started}
+use Rattle.tca_meters.specs.laws.TermedLaws.{has_started}
 use Rattle.tca_meters.proofs.Slots.{began, has_slot, slot_has}
 use Rattle.tca_meters.proofs.termed.Termed.enter.Goals as goal
 

@@ -1,6 +1,6 @@
 use Rattle.std.proofs.Common.{ap}
 use Rattle.tca_replay.specs.declared.run.Terms.{Terms}
-use Rattle.tca_replay.specs.Runs.{metering}
+use Rattle.tca_replay.specs.inside.Runs.{metering}
 use Rattle.tca_replay.proofs.Rooms.{lane_empty}
 use Rattle.tca_replay.proofs.lane.Lane.new.Goals as goal
 

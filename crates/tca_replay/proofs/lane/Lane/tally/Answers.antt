@@ -2,7 +2,7 @@ use Rattle.std.proofs.Common.{◌≡◌, None, List, ap, sym, subst, ◌∙◌}
 use Rattle.tca_accounts.specs.Spans.{Ascend}
 use Rattle.tca_accounts.specs.Metering.{with_last}
 use Rattle.tca_accounts.specs.declared.span.Span.{Span}
-use Rattle.tca_replay.specs.Runs.{metering}
+use Rattle.tca_replay.specs.inside.Runs.{metering}
 use Rattle.tca_replay.specs.Lanes.{row_of}
 use Rattle.tca_replay.proofs.Tallies.{spans_ascend, tally_done}
 use Rattle.tca_replay.proofs.lane.Lane.tally.Goals as goal

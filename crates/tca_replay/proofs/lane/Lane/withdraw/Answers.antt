@@ -2,7 +2,7 @@ use Rattle.std.proofs.lemmas.Grind.{common_steps}
 use Rattle.std.proofs.Common.{◌≡◌, true, arith}
 use Rattle.tca_report.specs.report.Reports.{report_cmp}
 use Rattle.tca_join.specs.Sets.{has}
-use Rattle.tca_replay.specs.Runs.{metering}
+use Rattle.tca_replay.specs.inside.Runs.{metering}
 use Rattle.tca_replay.proofs.Lanes.{lane_lost, view_less}
 use Rattle.tca_replay.proofs.lane.Lane.withdraw.Goals as goal
 

@@ -9,7 +9,7 @@ use Rattle.std.proofs.lemmas.Result.{err_from_is_err_and}
 use Rattle.tca_report.specs.input.Inputs.{capture_of}
 use Rattle.tca_report.specs.input.Gathered.{gathered_of}
 use Rattle.tca_report.specs.input.Wants.{IsWantedInCapture}
-use Rattle.tca_report.specs.input.CaptureReaders.{Brings}
+use Rattle.tca_report.specs.inside.CaptureReaders.{Brings}
 use Rattle.tca_report.specs.declared.input.InputFault.{InputFault}
 use Rattle.tca_report.specs.declared.input.InputFault.TheVariants as faults
 use Rattle.tca_report.proofs.lemmas.input.CapturePieces.{all_gathered, cut_at, no_memory_at_end}

@@ -1,5 +1,5 @@
 use Rattle.std.proofs.Common.{◌≡◌, ◌++◌, ℕ, List, length}
-use Rattle.tca_report.specs.input.CaptureReaders.{HasRead}
+use Rattle.tca_report.specs.inside.CaptureReaders.{HasRead}
 use Rattle.tca_report.proofs.input.capture.read_capture.Given as goal
 
 -- what was read, in front of the rest

@@ -5,18 +5,6 @@ use Rattle.tca_report.proofs.input.extraction.judge.Goals as goal
 pub returns-in_default : goal.returns-in_default
 returns-in_default c = search rules
 
-pub returns-in_err-time : goal.returns-in_err-time
-returns-in_err-time c = grind (arith, common_steps)
-
-pub returns-in_err-octets : goal.returns-in_err-octets
-returns-in_err-octets c = grind (arith, common_steps)
-
-pub returns-in_err-point : goal.returns-in_err-point
-returns-in_err-point c = grind (arith, common_steps)
-
-pub returns-in_err-interface : goal.returns-in_err-interface
-returns-in_err-interface c = grind (arith, common_steps)
-
 pub returns-then-time-ge-TIME_END : goal.returns-then-time-ge-TIME_END
 returns-then-time-ge-TIME_END c = grind (arith, common_steps)
 

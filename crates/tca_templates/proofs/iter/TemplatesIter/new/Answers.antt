@@ -1,7 +1,7 @@
 use Rattle.std.proofs.Common.{ap, arith, length, ◌∙◌}
 use Rattle.tca_templates.specs.Templates.{listed}
 use Rattle.tca_templates.specs.Fields.{entries_of}
-use Rattle.tca_templates.specs.Slotted.{filled}
+use Rattle.tca_templates.specs.inside.Slotted.{filled}
 use Rattle.tca_templates.proofs.Stored.{length-templates, length-listed}
 use Rattle.tca_templates.proofs.SlotLaws.{filled_few}
 use Rattle.tca_templates.proofs.iter.TemplatesIter.new.Goals as goal

@@ -4,7 +4,7 @@ use Rattle.std.specs.Slice.Iter.{iter_rest}
 use Rattle.tca_templates.specs.declared.template.Template.{Template}
 use Rattle.tca_templates.specs.Templates.{Key, listed}
 use Rattle.tca_templates.specs.Fields.{entries_of}
-use Rattle.tca_templates.specs.Slotted.{filled}
+use Rattle.tca_templates.specs.inside.Slotted.{filled}
 use Rattle.tca_templates.proofs.SlotLaws.{filled_none}
 use Rattle.tca_templates.proofs.iter.TemplatesIterIterator.next.Goals as goal
 

@@ -1,6 +1,6 @@
 use Rattle.std.proofs.Common.{◌≡◌, length}
 use Rattle.std.specs.Slice.Iter.{iter_rest}
-use Rattle.tca_templates.specs.Slotted.{filled}
+use Rattle.tca_templates.specs.inside.Slotted.{filled}
 use Rattle.tca_templates.proofs.iter.TemplatesIterIterator.next.Given as goal
 
 abbrev pub invariant-loop-slot : goal.invariant-loop-slot

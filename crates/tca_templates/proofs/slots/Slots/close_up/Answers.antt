@@ -5,7 +5,7 @@ use Rattle.std.specs.Option.{is_some}
 use Rattle.std.proofs.lemmas.Fn.{filter_same}
 use Rattle.tca_templates.specs.Templates.{Key}
 use Rattle.tca_templates.specs.declared.template.Template.{Template}
-use Rattle.tca_templates.specs.Slotted.{filled, IsApart, IsSlotted}
+use Rattle.tca_templates.specs.inside.Slotted.{filled, IsApart, IsSlotted}
 use Rattle.tca_templates.proofs.CoverLaws.{full_in}
 use Rattle.tca_templates.proofs.SlotLaws.{full_apart, full_count, filled_full, filled_few}
 use Rattle.tca_templates.proofs.StepLaws.{no_before, no_steps}

@@ -5,7 +5,7 @@ use Rattle.std.specs.Map.{lookup}
 use Rattle.tca_templates.specs.declared.template.Template.{Template}
 use Rattle.tca_templates.specs.Templates.{Key, same_key, define}
 use Rattle.tca_templates.specs.Fields.{SlotsView, template_of, entries_of}
-use Rattle.tca_templates.specs.Slotted.{place_of, filled}
+use Rattle.tca_templates.specs.inside.Slotted.{place_of, filled}
 use Rattle.tca_templates.proofs.Stored.{templates-insert}
 use Rattle.tca_templates.proofs.SlotLaws.{stands, filled_put, unknown}
 use Rattle.tca_templates.proofs.StepLaws.{kept_as, kept_room, kept_put, before_put}

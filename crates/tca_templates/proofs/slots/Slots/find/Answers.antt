@@ -5,7 +5,7 @@ use Rattle.std.proofs.lemmas.Option.{get_or_from_slice_get}
 use Rattle.tca_templates.specs.declared.template.Template.{Template}
 use Rattle.tca_templates.specs.Templates.{Key}
 use Rattle.tca_templates.specs.Fields.{template_of}
-use Rattle.tca_templates.specs.Slotted.{place_of, filled}
+use Rattle.tca_templates.specs.inside.Slotted.{place_of, filled}
 use Rattle.tca_templates.proofs.Stored.{templates-known}
 use Rattle.tca_templates.proofs.SlotLaws.{stands, unknown}
 use Rattle.tca_templates.proofs.slots.Slots.find.Goals as goal

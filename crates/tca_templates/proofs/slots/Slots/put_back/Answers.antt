@@ -5,7 +5,7 @@ use Rattle.std.proofs.lemmas.Option.{slice_get_read}
 use Rattle.indexmap.specs.IndexMap.{spare}
 use Rattle.tca_templates.specs.declared.template.Template.{Template}
 use Rattle.tca_templates.specs.Templates.{Key}
-use Rattle.tca_templates.specs.Slotted.{IsCovered, filled, place_of, IsApart, IsSlotted, Step, undone, AreSteps}
+use Rattle.tca_templates.specs.inside.Slotted.{IsCovered, filled, place_of, IsApart, IsSlotted, Step, undone, AreSteps}
 use Rattle.tca_templates.proofs.SlotLaws.{leads_back, slotted_out, on_ok, grown}
 use Rattle.tca_templates.proofs.StepLaws.{undone_last, steps_last, alone, slotted_in, emptied, kept_as, kept_back}
 use Rattle.tca_templates.proofs.CoverLaws.{covered_as, covered_again, covered_back}

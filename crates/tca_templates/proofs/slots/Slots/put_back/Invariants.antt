@@ -1,6 +1,6 @@
 use Rattle.std.proofs.Common.{◌≡◌, Some, None}
 use Rattle.indexmap.specs.IndexMap.{spare}
-use Rattle.tca_templates.specs.Slotted.{filled, undone, IsKept, IsCovered}
+use Rattle.tca_templates.specs.inside.Slotted.{filled, undone, IsKept, IsCovered}
 use Rattle.tca_templates.proofs.slots.Slots.put_back.Given as goal
 
 abbrev pub invariant-loop-place : goal.invariant-loop-place

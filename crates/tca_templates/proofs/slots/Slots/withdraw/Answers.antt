@@ -4,7 +4,7 @@ use Rattle.std.specs.Prelude.{Some, None}
 use Rattle.tca_templates.specs.declared.template.Template.{Template}
 use Rattle.tca_templates.specs.Templates.{Key, withdraw}
 use Rattle.tca_templates.specs.Fields.{SlotsView, entries_of}
-use Rattle.tca_templates.specs.Slotted.{place_of, filled}
+use Rattle.tca_templates.specs.inside.Slotted.{place_of, filled}
 use Rattle.tca_templates.proofs.Stored.{templates-remove}
 use Rattle.tca_templates.proofs.SlotLaws.{stands, filled_out, absent_out, unknown}
 use Rattle.tca_templates.proofs.StepLaws.{kept_as, kept_room, kept_out, before_put}

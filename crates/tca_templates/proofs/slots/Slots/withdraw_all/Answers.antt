@@ -6,7 +6,7 @@ use Rattle.tca_templates.specs.declared.template.Template.{Template}
 use Rattle.tca_templates.specs.declared.ids.Ids.{Ids}
 use Rattle.tca_templates.specs.Templates.{Key, withdraw_all}
 use Rattle.tca_templates.specs.Fields.{SlotsView, entries_of}
-use Rattle.tca_templates.specs.Slotted.{filled, place_of, Step, before_of, IsAhead, IsSlotted}
+use Rattle.tca_templates.specs.inside.Slotted.{filled, place_of, Step, before_of, IsAhead, IsSlotted}
 use Rattle.tca_templates.proofs.Stored.{stays_there, templates-filter, goes, other_kind}
 use Rattle.tca_templates.proofs.SlotLaws.{IsThinned, thinned_same, thinned_all, thinned_out, leads_back}
 use Rattle.tca_templates.proofs.StepLaws.{kept_as, kept_room, kept_out, before_put}

@@ -3,7 +3,7 @@ use Rattle.std.specs.Prelude.{slice_get}
 use Rattle.std.specs.Option.{option_map}
 use Rattle.indexmap.specs.IndexMap.{spare}
 use Rattle.tca_templates.specs.declared.template.Template.{Template}
-use Rattle.tca_templates.specs.Slotted.{IsKept, IsCovered, before_of}
+use Rattle.tca_templates.specs.inside.Slotted.{IsKept, IsCovered, before_of}
 use Rattle.tca_templates.proofs.Stored.{stays_there}
 use Rattle.tca_templates.proofs.SlotLaws.{IsThinned}
 use Rattle.tca_templates.proofs.slots.Slots.withdraw_all.Given as goal

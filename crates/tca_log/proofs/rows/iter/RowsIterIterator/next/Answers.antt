@@ -1,6 +1,6 @@
 use Rattle.std.proofs.lemmas.Grind.{common_steps}
 use Rattle.std.proofs.Common.{sym, ap, ◌∙◌, ◌++◌, length, arith}
-use Rattle.tca_log.specs.Rows.Chunks.{joined}
+use Rattle.tca_log.specs.inside.Chunks.{joined}
 use Rattle.tca_log.proofs.rows.iter.RowsIterIterator.next.Goals as goal
 
 pub returns-clause-steps : goal.returns-clause-steps

@@ -6,7 +6,7 @@ use Rattle.std.proofs.lemmas.Result.{err_from_is_err_and}
 use Rattle.tca_wire.specs.Frames.{Holds}
 use Rattle.tca_report.specs.report.Reports.{PacketReport}
 use Rattle.tca_report.specs.input.Gathered.{gathered_of}
-use Rattle.tca_report.specs.input.CaptureReaders.{StandsIn}
+use Rattle.tca_report.specs.inside.CaptureReaders.{StandsIn}
 use Rattle.tca_report.specs.declared.input.Notes.{Notes}
 use Rattle.tca_report.specs.declared.input.InputFault.{InputFault}
 use Rattle.tca_report.specs.declared.input.InputFault.TheVariants as faults

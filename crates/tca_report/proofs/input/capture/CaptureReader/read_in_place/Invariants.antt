@@ -1,5 +1,5 @@
 use Rattle.std.proofs.Common.{ℕ, ◌-◌, length}
-use Rattle.tca_report.specs.input.CaptureReaders.{StandsIn}
+use Rattle.tca_report.specs.inside.CaptureReaders.{StandsIn}
 use Rattle.tca_report.proofs.input.capture.CaptureReader.read_in_place.Given as goal
 
 abbrev pub invariant-loop-reader : goal.invariant-loop-reader

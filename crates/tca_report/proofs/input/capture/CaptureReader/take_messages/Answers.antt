@@ -5,7 +5,7 @@ use Rattle.std.proofs.lemmas.List.{length-append}
 use Rattle.std.proofs.lemmas.Result.{err_from_is_err_and}
 use Rattle.tca_wire.specs.Frames.{IsFrame}
 use Rattle.tca_report.specs.input.Inputs.{capture_after}
-use Rattle.tca_report.specs.input.CaptureReaders.{IsWantedAmong}
+use Rattle.tca_report.specs.inside.CaptureReaders.{IsWantedAmong}
 use Rattle.tca_report.proofs.lemmas.input.CaptureParts.{all_none, all_next, all_refused}
 use Rattle.tca_report.proofs.lemmas.input.CaptureWants.{wanted_first, wanted_later}
 use Rattle.tca_report.proofs.input.capture.CaptureReader.take_messages.Goals as goal

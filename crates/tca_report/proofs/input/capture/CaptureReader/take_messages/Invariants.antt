@@ -2,7 +2,7 @@ use Rattle.std.proofs.Common.{◌≡◌, ◌+◌, length}
 use Rattle.std.specs.List.{AllByRecursion, concat}
 use Rattle.tca_wire.specs.Frames.{IsFrame}
 use Rattle.tca_report.specs.input.Inputs.{CaptureSoFar, capture_after}
-use Rattle.tca_report.specs.input.CaptureReaders.{Agrees, IsWantedAmong}
+use Rattle.tca_report.specs.inside.CaptureReaders.{Agrees, IsWantedAmong}
 use Rattle.tca_report.proofs.input.capture.CaptureReader.take_messages.Given as goal
 
 abbrev pub invariant-loop-message : goal.invariant-loop-message

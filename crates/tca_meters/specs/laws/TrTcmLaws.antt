@@ -8,8 +8,8 @@ use Rattle.tca_meters.specs.declared.colour.Colour.{Colour}
 use Rattle.tca_meters.specs.declared.colour.Colour.TheVariants.{Green, Yellow, Red}
 use Rattle.tca_meters.specs.declared.levels.Levels.{Levels}
 use Rattle.tca_meters.specs.Colours.{colour_number, is_yellow, is_red, counted}
-use Rattle.tca_meters.specs.Laws.{IsAdditive, KeepsSizes, NeverBetters, IgnoresPrecolours, RedKeeps}
-use Rattle.tca_meters.specs.LevelsLaws.{full_levels_of_sizes, filled_apart_parts, filled_apart_of_sizes, counted_never_betters}
+use Rattle.tca_meters.specs.MeterLaws.{IsAdditive, KeepsSizes, NeverBetters, IgnoresPrecolours, RedKeeps}
+use Rattle.tca_meters.specs.laws.LevelsLaws.{full_levels_of_sizes, filled_apart_parts, filled_apart_of_sizes, counted_never_betters}
 use Rattle.tca_meters.specs.TrTcm.{PeakRate, peak_rate_rule, judged_packet, IsWithinSizes}
 
 pub additive : (m : PeakRate) → IsAdditive (peak_rate_rule m)

@@ -1,11 +1,11 @@
 -- The laws that a meter of any of the three kinds keeps: those of the meter that it has.
 use Rattle.tca_meters.specs.declared.any_meter.AnyMeter.{AnyMeter}
 use Rattle.tca_meters.specs.declared.any_meter.AnyMeter.TheVariants.{SrTcm, TrTcm, Rfc4115}
-use Rattle.tca_meters.specs.Laws.{IsAdditive, KeepsSizes, NeverBetters, IgnoresPrecolours, RedKeeps}
+use Rattle.tca_meters.specs.MeterLaws.{IsAdditive, KeepsSizes, NeverBetters, IgnoresPrecolours, RedKeeps}
 use Rattle.tca_meters.specs.AnyMeters.{any_rule, is_aware, IsWithinSizes}
-use Rattle.tca_meters.specs.SrTcmLaws as single
-use Rattle.tca_meters.specs.TrTcmLaws as peak
-use Rattle.tca_meters.specs.Rfc4115Laws as excess
+use Rattle.tca_meters.specs.laws.SrTcmLaws as single
+use Rattle.tca_meters.specs.laws.TrTcmLaws as peak
+use Rattle.tca_meters.specs.laws.Rfc4115Laws as excess
 
 pub additive : (m : AnyMeter) → IsAdditive (any_rule m)
 additive (SrTcm m) = single.additive m

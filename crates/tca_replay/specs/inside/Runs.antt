@@ -4,7 +4,7 @@ use Rattle.tca_meters.specs.Packets.{Rule}
 use Rattle.tca_accounts.specs.declared.span.Span.{Span}
 use Rattle.tca_replay.specs.declared.run.Run.{Run}
 use Rattle.tca_replay.specs.declared.run.Terms.{Terms}
-use Rattle.tca_replay.specs.Course.{Metering, Course}
+use Rattle.tca_replay.specs.inside.Course.{Metering, Course}
 
 -- a meter's rule under these terms
 abbrev pub metering : {S : Type 0} → Rule S → Terms → Metering S

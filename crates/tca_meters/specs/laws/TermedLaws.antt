@@ -8,8 +8,8 @@ use Rattle.std.proofs.lemmas.List.Sums.{prefix_len_passes}
 use Rattle.tca_meters.specs.declared.any_meter.AnyMeter.{AnyMeter}
 use Rattle.tca_meters.specs.declared.termed.InTerm.{InTerm}
 use Rattle.tca_meters.specs.AnyMeters.{any_rule}
-use Rattle.tca_meters.specs.AnyMeterLaws as any
-use Rattle.tca_meters.specs.Laws.{IsAdditive, KeepsSizes, NeverBetters, IgnoresPrecolours, RedKeeps}
+use Rattle.tca_meters.specs.laws.AnyMeterLaws as any
+use Rattle.tca_meters.specs.MeterLaws.{IsAdditive, KeepsSizes, NeverBetters, IgnoresPrecolours, RedKeeps}
 use Rattle.tca_meters.specs.Termed.{TermedMeter, term, term_at, begun, levels_since, after_tokens, termed_rule, IsWithinSizes, is_aware_in}
 
 passed_later : (t a b : ℕ) → a ≤ b → nat_le t a ≡ true → nat_le t b ≡ true

@@ -2,8 +2,8 @@
 use Rattle.std.specs.Prelude.{refl}
 use Rattle.tca_buckets.specs.Tokens.{due}
 use Rattle.tca_meters.specs.Colours.{counted}
-use Rattle.tca_meters.specs.Laws.{IsAdditive, KeepsSizes, NeverBetters, IgnoresPrecolours, RedKeeps}
-use Rattle.tca_meters.specs.LevelsLaws.{full_levels_of_sizes, filled_apart_parts, filled_apart_of_sizes, committed_or_excess_of_sizes, committed_or_excess_never_betters, committed_or_excess_red_keeps, counted_never_betters}
+use Rattle.tca_meters.specs.MeterLaws.{IsAdditive, KeepsSizes, NeverBetters, IgnoresPrecolours, RedKeeps}
+use Rattle.tca_meters.specs.laws.LevelsLaws.{full_levels_of_sizes, filled_apart_parts, filled_apart_of_sizes, committed_or_excess_of_sizes, committed_or_excess_never_betters, committed_or_excess_red_keeps, counted_never_betters}
 use Rattle.tca_meters.specs.Rfc4115.{ExcessRate, excess_rate_rule, judged_packet, IsWithinSizes}
 
 pub additive : (m : ExcessRate) → IsAdditive (excess_rate_rule m)

@@ -9,7 +9,7 @@ use Rattle.tca_report.specs.report.Identities.{identity_of, identity_cmp}
 use Rattle.tca_report.specs.declared.report.Identity.{Identity}
 use Rattle.tca_log.specs.declared.by_identity.ByIdentity.{ByIdentity}
 use Rattle.tca_log.specs.Rows.Ordered.{AreApart}
-use Rattle.tca_log.specs.Logs.{index_cmp, indexed, count_at}
+use Rattle.tca_log.specs.inside.Logs.{index_cmp, indexed, count_at}
 
 -- the first contents of identities that were unknown, and the identities that become disputed
 pub record AddedRows : Type 0 where

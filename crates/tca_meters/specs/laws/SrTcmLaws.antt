@@ -7,8 +7,8 @@ use Rattle.tca_buckets.proofs.Due.{due_parts}
 use Rattle.tca_buckets.proofs.Steps.{repeated_parts, repeated_spill_of_size}
 use Rattle.tca_meters.specs.declared.levels.Levels.{Levels}
 use Rattle.tca_meters.specs.Colours.{counted}
-use Rattle.tca_meters.specs.Laws.{IsAdditive, KeepsSizes, NeverBetters, IgnoresPrecolours, RedKeeps}
-use Rattle.tca_meters.specs.LevelsLaws.{full_levels_of_sizes, committed_or_excess_of_sizes, committed_or_excess_never_betters, committed_or_excess_red_keeps, counted_never_betters}
+use Rattle.tca_meters.specs.MeterLaws.{IsAdditive, KeepsSizes, NeverBetters, IgnoresPrecolours, RedKeeps}
+use Rattle.tca_meters.specs.laws.LevelsLaws.{full_levels_of_sizes, committed_or_excess_of_sizes, committed_or_excess_never_betters, committed_or_excess_red_keeps, counted_never_betters}
 use Rattle.tca_meters.specs.SrTcm.{SingleRate, single_rate_rule, levels, judged_packet, IsWithinSizes}
 
 pub additive : (m : SingleRate) → IsAdditive (single_rate_rule m)
