@@ -1,5 +1,5 @@
 -- The sum of two statements is a statement.
-use Rattle.std.proofs.Common.{◌≡◌, inl, inr, ◌<◌, ◌+◌, ◌++◌, ◌∷◌, [], ℕ, suc, zero, List, Result, Ok, Err, length, arith, subst, sym, ap, refl, ◌∙◌}
+use Rattle.std.proofs.Common.{◌≡◌, inl, inr, ◌<◌, ◌+◌, ◌++◌, ◌∷◌, [], ℕ, suc, zero, List, Result, Ok, Err, length, arith, subst, sym, ap, refl, ◌∙◌, ◌^◌}
 use Rattle.std.specs.Prelude.{IfOk, map}
 use Rattle.std.specs.List.{AllByRecursion, IsDistinct}
 use Rattle.std.specs.Str.{bytes_eq}
@@ -105,7 +105,7 @@ swap c d =
 move_right : (c y d : ColourFigures) → plus c (plus y d) ≡ plus y (plus c d)
 move_right c y d = sym (move_left c y d) ∙ (ap (λ z. plus z d) (swap c y) ∙ move_left y c d)
 
-all_cons : (x : SpanFigures) (spans : List SpanFigures) → all_of (x ∷ spans) ≡ plus x.sums (all_of spans)
+pub all_cons : (x : SpanFigures) (spans : List SpanFigures) → all_of (x ∷ spans) ≡ plus x.sums (all_of spans)
 all_cons x spans i = record {
   green = record { octets = sum_by-cons (λ s. s.sums.green.octets) x spans i; packets = sum_by-cons (λ s. s.sums.green.packets) x spans i };
   yellow = record { octets = sum_by-cons (λ s. s.sums.yellow.octets) x spans i; packets = sum_by-cons (λ s. s.sums.yellow.packets) x spans i };
@@ -145,7 +145,7 @@ pub all_in_order : (period : ℕ) (accounts : List StatedAccount) → AllByRecur
 all_in_order period [] h = tt
 all_in_order period (a ∷ accounts) h = (in_order_of period a h.0, all_in_order period accounts h.1)
 
-account_sum : (period : ℕ) (a b : StatedAccount) → IsAccount period a → IsAccount period b → FitsAccount (added_account a b) → IsAccount period (added_account a b)
+pub account_sum : (period : ℕ) (a b : StatedAccount) → IsAccount period a → IsAccount period b → FitsAccount (added_account a b) → IsAccount period (added_account a b)
 account_sum period a b h g f =
     let one = in_order_of period a h in
     let two = in_order_of period b g in
@@ -201,6 +201,16 @@ added_none left right n e =
     let one = nil_from_length left n in
     let two : right ≡ [] = nil_from_length right (sym (names_length right) ∙ (ap length (sym e) ∙ (names_length left ∙ n))) in
     rw (one, two) refl
+
+-- the parts of a sum
+pub is_sum : (a b : Stated) (reports disputed unassigned : ℕ) (accounts : List StatedAccount) → IsStatement a → IsStatement b → AreAlike a b
+    → reports ≡ a.reports + b.reports → disputed ≡ a.disputed + b.disputed → unassigned ≡ a.unassigned + b.unassigned → accounts ≡ added_accounts a.accounts b.accounts
+    → reports < 2 ^ 64 → disputed < 2 ^ 64 → unassigned < 2 ^ 64 → AllByRecursion FitsAccount accounts
+    → IsStatement (record { period = a.period; reports = reports; disputed = disputed; unassigned = unassigned; accounts = accounts })
+is_sum a b reports disputed unassigned accounts h g alike er ed eu ea fr fd fu fa =
+    let e : record { period = a.period; reports = reports; disputed = disputed; unassigned = unassigned; accounts = accounts } ≡ added a b =
+    λ i. record { period = a.period; reports = er i; disputed = ed i; unassigned = eu i; accounts = ea i } in
+    subst IsStatement (sym e) (statement_sum a b h g alike (subst Fits e (record { reports = fr; disputed = fd; unassigned = fu; accounts = fa })))
 
 pub is_statement : {E : Type 0} (a b : Stated) (r : Result Stated E) → IsStatement a → IsStatement b → AreAlike a b
     → IfOk r (λ sum. (sum ≡ added a b) × Fits sum) → IfOk r IsStatement

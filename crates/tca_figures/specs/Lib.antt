@@ -4,3 +4,4 @@ pub mod Progress
 pub mod Reading
 pub mod Faults
 pub mod Sums
+pub mod Totals

@@ -183,12 +183,15 @@ pub struct Figures {
     pub(crate) accounts: Vec<AccountFigures>,
 }
 
+// Figures are those of a statement in form.
 impl Model for Figures {
-    ghost use Rattle.tca_figures.specs.Figures.{Stated};
+    ghost use Rattle.tca_figures.specs.Figures.{IsStatement, Stated};
 
     ghost Value = { Stated };
 
     ghost view = { λ f. record { period = f.period; reports = f.reports; disputed = f.disputed; unassigned = f.unassigned; accounts = f.accounts.items } };
+
+    ghost invariant = { λ f. IsStatement (record { period = f.period; reports = f.reports; disputed = f.disputed; unassigned = f.unassigned; accounts = f.accounts.items }) };
 }
 
 impl Figures {

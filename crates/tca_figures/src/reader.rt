@@ -1,6 +1,6 @@
 //! A statement, line by line.
 ghost use Rattle.std.specs.Prelude.{◌≡◌, ◌≢◌, true, ◌++◌, ◌∷◌, [], IfErr, IsErrOf, MatchBool, MatchResult, OnOk, length};
-ghost use Rattle.tca_figures.specs.Figures.{IsSummed};
+ghost use Rattle.tca_figures.specs.Figures.{IsStatement, IsSummed};
 ghost use Rattle.tca_figures.specs.Lines.{name_line};
 ghost use Rattle.tca_figures.specs.Progress.{Follows, FollowsAt, IsBehind, IsOpened, IsSound, IsWrongSum, Progress, closed, ended, has_name, opened, unread};
 ghost use Rattle.tca_accounts.specs.Plans.{is_name};
@@ -362,6 +362,7 @@ impl Reader {
 
     /// The statement with the accounts whose lines are all read.
     pub(crate) fn into_figures(self) -> Figures
+        requires { IsStatement self.stated }
         ensures { result ≡ self.stated }
     {
         Figures {

@@ -174,10 +174,9 @@ fn account_sums(
 
 // The sum of two statements that are alike.
 fn sum_of(alloc: Global, first: &Figures, second: &Figures) -> Result<Figures, StatementFault>
-    requires first { AllByRecursion (λ a. AreInOrder a.spans) first.now.accounts }
-    requires second { AllByRecursion (λ a. AreInOrder a.spans) second.now.accounts }
     requires alike { AreAlike first.now second.now }
     ensures added { IfOk result (λ sum. (sum ≡ added first.now second.now) × Fits sum) }
+    ensures statement { IfOk result IsStatement }
     ensures refused { IfErr result (λ e. (e ≡ faults.Memory) ⊎ ((e ≡ faults.Range) × ¬ Fits (added first.now second.now))) }
 {
     Ok(Figures {
@@ -193,8 +192,6 @@ fn sum_of(alloc: Global, first: &Figures, second: &Figures) -> Result<Figures, S
 /// periods. A period that just one has is kept. `Other` tells the first line of the second statement that is of another period or account, `Range`
 /// that they are alike and a sum has more than 64 bits.
 pub fn add(alloc: Global, first: &Figures, second: &Figures) -> Result<Figures, StatementFault>
-    requires first { IsStatement first.now }
-    requires second { IsStatement second.now }
     ensures added { IfOk result (λ sum. sum ≡ added first.now second.now) }
     ensures alike { IfOk result (λ sum. AreAlike first.now second.now × Fits sum) }
     ensures statement { IfOk result IsStatement }

@@ -4,7 +4,7 @@ pub mod LineFaults
 pub mod Devices
 pub mod Faults
 pub mod Runs
-pub mod Reads
 pub mod Noted
 pub mod Planned
 pub mod Endings
+pub mod inside

@@ -2,10 +2,10 @@
 ghost use Rattle.std.specs.Prelude.{◌≡◌, ◌≤◌, IfOk, false, option_map};
 ghost use Rattle.clap.specs.Words.{all_of, app_of, first_of, found_of, new_app, rows_of, rule_of};
 ghost use Rattle.clap.specs.declared.builder.command.Command.TheViews.{out-Command as fields_of};
-ghost use Rattle.tca_program.specs.Arguments.{many_words, one_word, option_word};
+ghost use Rattle.tca_program.specs.Arguments.{flag, is_given, many_words, one_word, option_word};
 ghost use Rattle.tca_program.specs.Words.{texts};
 
-use clap::{Arg, ArgMatches, Command};
+use clap::{Arg, ArgAction, ArgMatches, Command};
 use std::alloc::{AllocError, Global};
 
 /// A word that has to be given once.
@@ -36,6 +36,17 @@ pub fn option_word<'a>(alloc: Global, id: &'a str, name: &'a str, help: &'a str)
     Arg::new(alloc, id).long(id).value_name(name).help(help)
 }
 
+/// `--id`, which may be left out and takes no word.
+pub fn flag<'a>(alloc: Global, id: &'a str, help: &'a str) -> Arg<'a>
+    ensures rule { rule_of result ≡ flag id.entry.now }
+    ensures local { result.global ≡ false }
+{
+    Arg::new(alloc, id)
+        .long(id)
+        .action(ArgAction::SetTrue)
+        .help(help)
+}
+
 /// A command without words, and what help says of it.
 pub fn named<'a>(alloc: Global, name: &'a str, about: &'a str, after: &'a str) -> Command<'a>
     ensures command { app_of result ≡ new_app name.entry.now }
@@ -49,6 +60,16 @@ pub fn text<'a>(matches: &ArgMatches<'a>, id: &str) -> Option<&'a str>
     ensures { option_map (λ s. s.now) result ≡ first_of id.now (rows_of (found_of matches.now)) }
 {
     matches.get_str(id)
+}
+
+/// Whether a flag was given.
+pub fn is_given(matches: &ArgMatches<'_>, id: &str) -> bool
+    ensures { result ≡ is_given id.now (rows_of (found_of matches.now)) }
+{
+    match text(matches, id) {
+        Some(given) => given == "true",
+        None => false,
+    }
 }
 
 /// All words that were given for an argument.

@@ -16,7 +16,7 @@ mod inputs;
 mod line_fault;
 mod word;
 
-pub use arguments::{many_words, named, one_word, option_word, text, texts};
+pub use arguments::{flag, is_given, many_words, named, one_word, option_word, text, texts};
 pub use ending::{Ending, end, print_help, texts_of, words_of};
 pub use fault::{Family, RunFault};
 pub use files::{create, read_inputs, read_numbered, read_plan};

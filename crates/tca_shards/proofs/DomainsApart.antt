@@ -130,7 +130,7 @@ module _ (rs more : List PacketReport) where
       (λ m. or_right (has_none_of (union report_cmp rs more) a) (has_none_of zs a) m) h
 
   -- what is apart from each of two sets is apart from their union
-  united_apart : (plan : AccountPlan) (zs : List PacketReport) → HaveDomainsApart plan rs zs → HaveDomainsApart plan more zs → HaveDomainsApart plan (union report_cmp rs more) zs
+  pub united_apart : (plan : AccountPlan) (zs : List PacketReport) → HaveDomainsApart plan rs zs → HaveDomainsApart plan more zs → HaveDomainsApart plan (union report_cmp rs more) zs
   united_apart plan zs h k = record {
     apart = all_both (λ (r : PacketReport). has_domain rs r.domain ≡ false) (λ (r : PacketReport). has_domain more r.domain ≡ false)
         (λ (r : PacketReport). has_domain (union report_cmp rs more) r.domain ≡ false) zs (λ r. not_united r.domain) h.apart k.apart;

@@ -9,3 +9,7 @@ pub mod SpanBySpan
 pub mod AnyOrder
 pub mod AllWindows
 pub mod DomainsApart
+pub mod Figured
+pub mod Accounted
+pub mod Stating
+pub mod Summing

@@ -14,7 +14,7 @@ use Rattle.tca_report.proofs.lemmas.report.Order.{report_total, report_exact}
 use Rattle.tca_report.proofs.lemmas.report.Identities.{identity_exact}
 use Rattle.tca_report.specs.declared.report.Identity.{Identity}
 use Rattle.tca_log.specs.Disputes.{has_identity, contents, disputed, undisputed}
-use Rattle.tca_log.specs.Logs.{count_at}
+use Rattle.tca_log.specs.inside.Logs.{count_at}
 use Rattle.tca_log.proofs.Contents.{has-filter, has-disputed, disputed_rises, disputed_is}
 use Rattle.tca_shards.proofs.Kept.{filter_within, filter_apart, filter_swap, length_split, of_member, left_kept, right_kept}
 

@@ -19,11 +19,11 @@ use Rattle.tca_meters.specs.declared.termed.InTerm.{InTerm}
 use Rattle.tca_meters.specs.declared.any_meter.AnyMeter.{AnyMeter}
 use Rattle.tca_meters.specs.Packets.{Packet, Rule, coloured}
 use Rattle.tca_meters.specs.Termed.{IsTermed, TermedMeter, after_tokens, ascend_from, levels_since, term, term_at, termed_rule}
-use Rattle.tca_meters.specs.TermedLaws.{begins}
+use Rattle.tca_meters.specs.laws.TermedLaws.{begins}
 use Rattle.tca_meters.proofs.Terms.{ascends}
 use Rattle.tca_meters.proofs.Coloured.{reached, coloured-append, answer_to}
 use Rattle.tca_log.specs.Disputes.{has_identity, contents, disputed, undisputed}
-use Rattle.tca_log.specs.Logs.{count_at}
+use Rattle.tca_log.specs.inside.Logs.{count_at}
 use Rattle.tca_log.proofs.Contents.{has-filter, has-disputed, disputed_rises, disputed_is}
 use Rattle.tca_log.proofs.Undisputed.{member_counts, undisputed_rises}
 use Rattle.tca_log.proofs.OrderedRows.Each.{members}

@@ -1,2 +1,3 @@
 pub mod Shards
 pub mod Windows
+pub mod Statements

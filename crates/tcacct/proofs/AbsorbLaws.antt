@@ -7,7 +7,7 @@ use Rattle.tca_gossip.specs.Replicas.{ReplicaView}
 use Rattle.tca_ingest.specs.Passes.{PassView}
 use Rattle.tca_accounts.specs.Plans.{AccountPlan}
 use Rattle.tca_ingest.specs.Closed.{ClosedView}
-use Rattle.tcacct.specs.Absorbs.{Absorbs, AbsorbsEach, AreJoined}
+use Rattle.tcacct.specs.inside.Absorbs.{Absorbs, AbsorbsEach, AreJoined}
 
 -- each of these, and behind them one more
 pub one_more : (vs : List ReplicaView) (v : ReplicaView) (a b c : PassView) → AbsorbsEach vs a b → Absorbs v b c → AbsorbsEach (vs ++ v ∷ []) a c

@@ -6,6 +6,6 @@ pub mod Metered
 pub mod Combined
 pub mod Billed
 pub mod Replicated
-pub mod Absorbs
 pub mod Endings
 pub mod Audited
+pub mod inside

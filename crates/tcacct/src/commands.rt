@@ -11,10 +11,32 @@ use tca_program::{many_words, named, one_word, option_word};
 
 const ABOUT: &str = "Usage accounting by three-colour meters (RFC 2697, RFC 2698, RFC 4115)";
 
-const AFTER: &str = "Example: tcacct meter rfc2697:1000:2000:1000:blind reports.tcax
+const AFTER: &str = "Bill, and check the bill:
+  tcacct bill --export monday.tcax plan.toml 1@north.ipfix 2@south.ipfix > monday.txt
+  tcacct audit plan.toml monday.tcax monday.txt
+Unite exports, and meter without a plan:
+  tcacct combine week.tcax monday.tcax tuesday.tcax
+  tcacct meter rfc2697:1000:2000:1000:blind week.tcax
+Itemise a bill, or find what two exports differ in: see tcatool --help
 
-Exit status: 0 done, 1 refused (one line on standard error says what and where),
-2 wrong command line.";
+Exit status: 0 done, 1 refused or an audit that differs, 2 wrong command line. A refused run
+prints one line on standard error, `tcacct: WORD: FAMILY NUMBER`. WORD is the argument that
+was refused, or else the command.
+  read 1      a file isn't there or can't be read; 2 it doesn't end
+  export 1    no log export; 2 another version; 3 too many reports or octets; 4 cut short;
+              5 a report out of range; 6 reports out of order, or one twice
+  wire 1      cut within a message; 2 no IPFIX message; 3 a message's length is below 16;
+              4, 5, 6 a set's length is wrong
+  decode 1    a template's number is below 256; 2, 3, 4 the template is faulty; 5 too many
+              templates or fields; 6 a data record passes the end of its set
+  plan 1      no TOML; 2 a key is missing; 3 a value is wrong; 4 an unknown key;
+              5 numbers that make no meter; 6 a pair or a name twice; 7 too many of
+              accounts, pairs or terms, or no account
+  spec 1      none of the forms of a meter; 2 numbers that make no meter
+  log 1       more than 4194304 reports; of several replicas absorb 4
+  write 1     OUT or standard output can't be written
+  work 3      a thread couldn't be started
+  too little memory: memory 1, read 3, plan 8, log 2, share 3, absorb 4, work 5";
 
 const METER: &str = "Meters the undisputed reports of one or two inputs, and prints the octets and
 packets of each colour";
@@ -31,8 +53,8 @@ where one has to be left. MODE is blind, or aware where the colour that a packet
 point gives it (RFC 2597) counts; a code point without colour is green.
 
 An input is a log export (a file that begins with TCAX), or else a capture of IPFIX
-messages, one after the other. Reports that both inputs hold count once. Three lines are
-printed: a colour, its octets, its packets.
+messages, one after the other. Reports that both inputs hold count once; both together hold
+at most 4194304. Three lines are printed: a colour, its octets, its packets.
 
 INPUT is a path, or N@PATH for the file at PATH as a capture of session N. A session is one
 transport connection of one exporter process; where its sequence numbers start anew, another
@@ -46,20 +68,26 @@ other, and disputed reports aren't metered. A file with the messages of two sess
 be cut into two inputs. A log export carries the session of each report, so that N makes no
 difference there.
 
-Example: tcacct meter rfc2698:2000:2000:1000:1000:blind 1@north.ipfix 2@south.ipfix";
+Examples: tcacct meter rfc2697:1000:2000:1000:blind monday.tcax
+          tcacct meter rfc2698:2000:2000:1000:1000:blind 1@north.ipfix 2@south.ipfix";
 
 const COMBINE: &str = "Writes the union of the inputs' reports to OUT as one log export, and prints
 how many reports it holds";
 
 const COMBINE_AFTER: &str =
     "An input is a log export or a capture, and N@PATH one of session N, as `tcacct meter
---help` says. All inputs are read before OUT is made, so OUT may be one of them.
+--help` says. They hold at most 4194304 reports together. One line is printed: reports, and
+how many there are.
+
+All inputs are read before OUT is made, so OUT may be one of them. But where one is refused
+OUT is left empty: write to a new file.
 
 OUT is an export of version 2, which carries the session of each report. Exports of version
 1 are read too, all their reports as of session 0: `tcacct combine OUT OLD` writes one anew
 in version 2.
 
-Example: tcacct combine week.tcax monday.tcax tuesday.tcax";
+Examples: tcacct combine monday.tcax 1@north.ipfix 2@south.ipfix
+          tcacct combine week.tcax monday.tcax tuesday.tcax";
 
 const BILL: &str =
     "Prints the statement of the inputs' union under PLAN: for each account the octets and
@@ -67,9 +95,17 @@ packets of each colour, in all and by period";
 
 const BILL_AFTER: &str =
     "An input is a log export or a capture, and N@PATH one of session N, as `tcacct meter
---help` says. All files are read before OUT is made, so OUT may be one of them. For each
-capture with records that are no reports, messages with a set of an unknown template, or
-skipped sets, a line on standard error says how many of each.
+--help` says. They hold at most 4194304 reports together. All files are read before OUT is
+made, so OUT may be one of them. But where one is refused OUT is left empty: write to a new
+file.
+
+The statement's lines: period, in milliseconds; reports, distinct ones; disputed, identities
+of two or more reports, none of which is metered; unassigned, undisputed reports of no
+account. For each account its name, and six numbers, the octets and packets of green, of
+yellow and of red: in total, and in each span, a period counted from the start of 1970 (UTC).
+
+For each capture with records that are no reports, messages with a set of an unknown
+template, or skipped sets, a line on standard error, notes, says how many of each.
 
 PLAN may change the meter of an account at stated milliseconds: each [[account.term]] has its
 `from`, and a meter that goes on from there with full buckets.
@@ -79,7 +115,8 @@ workers; then each takes in what the others read, and all are compared. The stat
 OUT are the same for every number of both. A replica costs memory for all reports, and
 workers let a machine with several processors read several inputs at a time.
 
-Example: tcacct bill --export week.tcax plan.toml monday.tcax 1@tuesday.ipfix";
+Examples: tcacct bill plan.toml monday.ipfix
+          tcacct bill --export week.tcax plan.toml monday.tcax 1@tuesday.ipfix";
 
 /// The most replicas of a bill, workers of each of them, and inputs.
 pub(crate) const MOST_REPLICAS: u32 = 16;
@@ -95,9 +132,11 @@ PLAN, by letting tokens in one at a time";
 const AUDIT_AFTER: &str =
     "EXPORT is a log export, as `tcacct bill --export` writes it. One line is printed: agrees, or
 differs at N, where N is the first octet that differs, counted from 0, or the length of the
-shorter text. Exit status: 0 agrees, 1 differs or refused.
+shorter text. Exit status: 0 agrees, 1 differs or refused. Where two sides have two exports,
+`tcatool diff` says which reports only one of them has.
 
-Example: tcacct audit plan.toml week.tcax statement.txt";
+Examples: tcacct audit plan.toml week.tcax statement.txt
+          tcacct audit plan.toml theirs.tcax their-statement.txt";
 
 fn number_up_to<'a>(alloc: Global, id: &'a str, most: u32, help: &'a str) -> Arg<'a>
     ensures rule { rule_of result ≡ number_up_to id.entry.now most }

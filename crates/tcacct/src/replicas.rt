@@ -4,7 +4,7 @@ ghost use Rattle.std.specs.Prelude.{◌≡◌, ◌≤◌, ◌<◌, ◌+◌, IfOk
 ghost use Rattle.tca_ingest.specs.Closed.{replicas_of};
 ghost use Rattle.tca_ingest.specs.Passes.{AreClosing};
 ghost use Rattle.tca_ingest.specs.Shares.{IsReplayed};
-ghost use Rattle.tcacct.specs.Absorbs.{Absorbs, AreAgreed, AreJoined, HasAbsorbed, HasRightJournal, closed_with, names_of, with_lacking};
+ghost use Rattle.tcacct.specs.inside.Absorbs.{Absorbs, AreAgreed, AreJoined, HasAbsorbed, HasRightJournal, closed_with, names_of, with_lacking};
 ghost use Rattle.tcacct.specs.Replicated.{AreRead, AreReplicasRefused, IsReadingRefused, IsRunRefused, IsWithinLimits, share_of};
 ghost use Rattle.tca_program.specs.Runs.{views_of};
 ghost use Rattle.tca_report.specs.input.Inputs.{input_view};

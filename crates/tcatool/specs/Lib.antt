@@ -6,3 +6,11 @@ pub mod ReportLines
 pub mod Diffed
 pub mod Paired
 pub mod Pairing
+pub mod Moments
+pub mod Told
+pub mod Table
+pub mod Json
+pub mod Added
+pub mod Listed
+pub mod Itemised
+pub mod inside

@@ -1,9 +1,16 @@
-//! What a difference of two sets comes to.
-ghost use Rattle.std.specs.Prelude.{◌≡◌, ◌+◌, ◌&&◌, ◌||◌, List, [], length, not};
+//! What a difference of two sets comes to, and what the items of a list do.
+ghost use Rattle.std.specs.Prelude.{◌≡◌, ℕ, ◌+◌, ◌&&◌, ◌||◌, List, [], Some, length, map, not, slice_get};
 ghost use Rattle.std.specs.List.Sorted.{IsStrictlySortedBy};
 ghost use Rattle.tca_join.specs.Sets.{has};
 ghost use Rattle.tca_report.specs.report.Reports.{PacketReport, report_cmp};
+ghost use Rattle.tca_meters.specs.declared.colour.Colour.{Colour};
+ghost use Rattle.tca_accounts.specs.Plans.{AccountPlan};
+ghost use Rattle.tca_accounts.specs.Bills.{bill_of};
+ghost use Rattle.tca_accounts.specs.declared.tally.Tally.{Tally};
 ghost use Rattle.tcatool.specs.Diffed.{both_sets, lone, only_first, only_second, shared};
+ghost use Rattle.tcatool.specs.Itemised.{billed_octets, billed_packets, item_octets, item_packets, items_in, sums_in};
+ghost use Rattle.tcatool.specs.Listed.{AreItemsUnder};
+ghost use Rattle.tcatool.specs.declared.item.Item.{Item};
 
 /// What only the first of two sets has, what only the second has and what both have are, without overlap, their union; a line goes out
 /// for each report of the first two kinds; and none goes out exactly where the sets are equal.
@@ -16,4 +23,23 @@ pub fn a_difference_is_a_partition()
     ensures lines { (a b : List PacketReport) → length (lone a b) ≡ length (only_first a b) + length (only_second a b) }
     ensures equal { (a b : List PacketReport) → IsStrictlySortedBy report_cmp a → IsStrictlySortedBy report_cmp b → lone a b ≡ [] → a ≡ b }
     ensures no_line { (a : List PacketReport) → IsStrictlySortedBy report_cmp a → lone a a ≡ [] }
+{}
+
+/// The items of a list add up to the bill. There is one for each report of the set, in order; and of each account of the bill of that set
+/// under the same plan, for each colour, the octets and the number of its items are those of the bill, in all and in each period, where
+/// a period that has no span in the bill has none of either.
+pub fn items_add_up_to_the_bill()
+    ensures lines { (plan : AccountPlan) (rs : List PacketReport) (items : List Item) → AreItemsUnder plan rs items → map (λ i. i.report) items ≡ rs }
+    ensures octets { (plan : AccountPlan) (rs : List PacketReport) (items : List Item) → AreItemsUnder plan rs items
+        → (n : ℕ) (t : Tally) → slice_get (bill_of plan rs).accounts n ≡ Some t
+        → (c : Colour) → item_octets n c items ≡ billed_octets c t.total }
+    ensures packets { (plan : AccountPlan) (rs : List PacketReport) (items : List Item) → AreItemsUnder plan rs items
+        → (n : ℕ) (t : Tally) → slice_get (bill_of plan rs).accounts n ≡ Some t
+        → (c : Colour) → item_packets n c items ≡ billed_packets c t.total }
+    ensures period_octets { (plan : AccountPlan) (rs : List PacketReport) (items : List Item) → AreItemsUnder plan rs items
+        → (n : ℕ) (t : Tally) → slice_get (bill_of plan rs).accounts n ≡ Some t
+        → (c : Colour) (index : ℕ) → item_octets n c (items_in plan.period index items) ≡ billed_octets c (sums_in index t.spans) }
+    ensures period_packets { (plan : AccountPlan) (rs : List PacketReport) (items : List Item) → AreItemsUnder plan rs items
+        → (n : ℕ) (t : Tally) → slice_get (bill_of plan rs).accounts n ≡ Some t
+        → (c : Colour) (index : ℕ) → item_packets n c (items_in plan.period index items) ≡ billed_packets c (sums_in index t.spans) }
 {}

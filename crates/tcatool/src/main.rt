@@ -5,21 +5,34 @@
 //! word of that line.
 //!
 //! - `commands`, `line`, `ending`: the command line, what it asks for, and the word of a fault line;
-//! - `pairs`, `diff`: the commands; `cell`, `row`, `report_line`: lines of CSV that go out in pieces.
+//! - `pairs`, `list`, `diff`, `split`: the commands over inputs, with `item` and `sharing` (what a report is billed as) and `progress`;
+//! - `table`, `json`, `page`, `add`: the commands over statements, with `told` and `moment`;
+//! - `cell`, `row`, `report_line`: lines of CSV that go out in pieces; `laws`: what the lines of commands come to.
 #![tactic(auto)]
 
+mod add;
 mod cell;
 mod commands;
 mod diff;
 mod ending;
+mod item;
+mod json;
 mod laws;
 mod line;
+mod list;
+mod moment;
+mod page;
 mod pairs;
+mod progress;
 mod report_line;
 mod row;
+mod sharing;
 mod shell;
+mod split;
+mod table;
 #[cfg(test)]
 mod tests;
+mod told;
 
 use shell::{NAME, run_words};
 use std::io;

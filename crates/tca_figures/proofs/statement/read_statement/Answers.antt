@@ -100,3 +100,12 @@ returns-else-is_empty-clause-only c s is octets_are =
       | else-is_empty-via-then-is_empty+else-is_ended v ↦ absurd (v.if-is_ended.ensures (ap (λ (z : Progress). z.stage) (sym here) ∙ w.whole.0))
       | else-is_empty-via-else-is_empty v ↦ absurd (true≢false (sym (v.if-is_empty.ensures ∙ ap (λ (z : List ℕ). length z == 0) nothing)))
     ]
+
+pub into_figures-requires : goal.into_figures-requires
+into_figures-requires c =
+    let i = c.loop-line.invariant in
+    let last = i.1 ∙ ap (λ z. i.0 ++ z) (c.in_default.ensures.none refl) in
+    let whole = all_lines c.args.octets.now i.0 c.loop-line.rest.now last in
+    let nothing : c.loop-line.rest.now ≡ [] = nil_from_length c.loop-line.rest.now (eqb-true _ _ (sym c.if-is_empty.ensures)) in
+    let cut = last ∙ (ap (λ z. i.0 ++ z ∷ []) nothing ∙ ap (λ z. z ++ [] ∷ []) (sym whole)) in
+    (said c.args.octets.now c.loop-line.reader (subst (λ z. Follow unread z c.loop-line.reader) (sym whole) i.4) (c.if-is_ended.ensures, cut) i.6).1

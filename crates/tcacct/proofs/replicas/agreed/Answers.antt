@@ -3,7 +3,7 @@ use Rattle.std.specs.List.{AllPairs}
 use Rattle.std.proofs.Math.Seq.{take-append_seam}
 use Rattle.std.proofs.lemmas.List.{length-map}
 use Rattle.tca_ingest.specs.Closed.{AgreeAll, ClosedView, replicas_of}
-use Rattle.tcacct.specs.Absorbs.{closed_with}
+use Rattle.tcacct.specs.inside.Absorbs.{closed_with}
 use Rattle.tcacct.proofs.replicas.agreed.Goals as goal
 
 pub returns-clause-agreed : goal.returns-clause-agreed

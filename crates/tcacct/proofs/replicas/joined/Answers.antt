@@ -6,7 +6,7 @@ use Rattle.std.proofs.lemmas.Result.{IfErr-weaker, IfOk-weaker}
 use Rattle.tca_gossip.specs.Replicas.{ReplicaView}
 use Rattle.tca_ingest.specs.Closed.{ClosedView, replicas_of}
 use Rattle.tca_ingest.specs.Passes.{AreClosing, calls_of}
-use Rattle.tcacct.specs.Absorbs.{Absorbs, AbsorbsEach, HasAbsorbed}
+use Rattle.tcacct.specs.inside.Absorbs.{Absorbs, AbsorbsEach, HasAbsorbed}
 use Rattle.tcacct.specs.Replicated.{IsReadingRefused, IsRunRefused}
 use Rattle.tcacct.proofs.RefusalLaws.{in_run}
 use Rattle.tcacct.proofs.AbsorbLaws.{all_last, one_more, same_number}

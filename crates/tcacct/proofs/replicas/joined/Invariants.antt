@@ -1,6 +1,6 @@
 use Rattle.std.proofs.Common.{[], take}
 use Rattle.tca_ingest.specs.Closed.{replicas_of}
-use Rattle.tcacct.specs.Absorbs.{AbsorbsEach}
+use Rattle.tcacct.specs.inside.Absorbs.{AbsorbsEach}
 use Rattle.tcacct.proofs.replicas.joined.Given as goal
 
 -- the pass had its replica absorb what it lacked of those so far

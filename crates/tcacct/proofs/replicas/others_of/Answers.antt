@@ -4,7 +4,7 @@ use Rattle.std.specs.List.{All, range_with_len}
 use Rattle.std.proofs.lemmas.List.{map-append}
 use Rattle.std.proofs.lemmas.List.Elements.{All-append, All-cons, All-nil}
 use Rattle.tca_ingest.specs.Shares.{IsReplayed}
-use Rattle.tcacct.specs.Absorbs.{HasRightJournal, names_of}
+use Rattle.tcacct.specs.inside.Absorbs.{HasRightJournal, names_of}
 use Rattle.tcacct.proofs.AbsorbLaws.{range_more}
 use Rattle.tcacct.proofs.replicas.others_of.Goals as goal
 

@@ -1,6 +1,6 @@
 use Rattle.std.proofs.Common.{◌≡◌, ◌+◌, length}
 use Rattle.std.specs.List.{All, range_with_len}
-use Rattle.tcacct.specs.Absorbs.{HasRightJournal, names_of}
+use Rattle.tcacct.specs.inside.Absorbs.{HasRightJournal, names_of}
 use Rattle.tcacct.proofs.replicas.others_of.Given as goal
 
 -- those made so far, and their journals are right

@@ -4,7 +4,7 @@ use Rattle.std.specs.List.{All}
 use Rattle.std.proofs.lemmas.List.{length-map}
 use Rattle.tca_ingest.specs.Closed.{ClosedView, replicas_of}
 use Rattle.tca_ingest.specs.Shares.{IsReplayed}
-use Rattle.tcacct.specs.Absorbs.{HasAbsorbed, HasRightJournal, closed_with}
+use Rattle.tcacct.specs.inside.Absorbs.{HasAbsorbed, HasRightJournal, closed_with}
 use Rattle.tcacct.proofs.ReadLaws.{all_sound}
 use Rattle.tcacct.proofs.replicas.run_replicas.Goals as goal
 

@@ -6,7 +6,7 @@ use Rattle.std.specs.Prelude.{List, slice_set}
 use Rattle.tca_gossip.specs.Replicas.{ReplicaView}
 use Rattle.tca_ingest.specs.Closed.{ClosedView}
 use Rattle.tca_ingest.specs.Entries.{EntryView}
-use Rattle.tcacct.specs.Absorbs.{closed_with, with_lacking}
+use Rattle.tcacct.specs.inside.Absorbs.{closed_with, with_lacking}
 use Rattle.tcacct.proofs.replicas.tell_all.Goals as goal
 
 pub loop-other-preserved : goal.loop-other-preserved

@@ -1,5 +1,5 @@
 use Rattle.std.proofs.Common.{◌≡◌, ◌++◌, map, take, drop}
-use Rattle.tcacct.specs.Absorbs.{closed_with}
+use Rattle.tcacct.specs.inside.Absorbs.{closed_with}
 use Rattle.tcacct.proofs.replicas.tell_all.Given as goal
 
 -- those so far have what they lacked of the first, and the others are as they were

@@ -1,0 +1,2 @@
+-- What private functions and invariants alone cite. No public contract speaks of it.
+pub mod Reads

@@ -1,0 +1,5 @@
+use Rattle.tca_split.proofs.LentFrames.{both_frames}
+use Rattle.tca_split.proofs.buffers.Buffers.take_piece.Goals as goal
+
+pub take_messages-requires : goal.take_messages-requires
+take_messages-requires g c = record { frames = both_frames _ _ _ c.messages.ensures }

@@ -1,0 +1,162 @@
+//! The second reading of a capture: each message goes to the file of its domain, by a buffer of its own.
+ghost use Rattle.std.specs.Prelude.{◌≡◌, ◌≤◌, ◌++◌, ℕ, List, length, IfOk, IfErr, OnOk};
+ghost use Rattle.std.specs.List.{AllByRecursion};
+ghost use Rattle.tca_wire.specs.Frames.{IsFrame};
+ghost use Rattle.tca_split.specs.Folders.{Lengthens};
+
+use crate::fault::{SplitFault, framing_fault};
+use crate::folder::{Folder, append_all};
+use crate::survey::{PIECE, domain_of, new_piece};
+use indexmap::IndexMap;
+use std::alloc::{AllocError, Global};
+use tca_report::{Read, ReadFault};
+use tca_wire::{Framer, Messages};
+
+// Octets of all buffers together.
+const ALL_ROOM: usize = 33_554_432;
+
+// The most octets of one buffer.
+const MOST_ROOM: usize = 1_048_576;
+
+/// A buffer for each domain of a capture.
+#[derive(Drop)]
+pub(crate) struct Buffers {
+    pub(crate) buffers: IndexMap<u32, Vec<u8>>,
+    /// The most octets that are kept of one domain.
+    room: usize,
+}
+
+// How many octets each of so many buffers has.
+fn room_of(domains: usize) -> usize {
+    if domains == 0 {
+        return MOST_ROOM;
+    }
+    (ALL_ROOM / domains).min(MOST_ROOM)
+}
+
+// Writes what a buffer holds to the file of its domain, where so many octets more aren't to be kept.
+fn make_room<F: Folder>(
+    domain: u32,
+    buffer: &mut Vec<u8>,
+    more: usize,
+    room: usize,
+    folder: &mut F,
+) -> Result<(), SplitFault> {
+    if more <= room && buffer.len() <= room - more {
+        return Ok(());
+    }
+    append_all(domain, buffer.as_slice(), folder)?;
+    buffer.clear();
+    Ok(())
+}
+
+// Keeps a message in the buffer of its domain, behind what is there, or writes it where it is too long.
+fn keep<F: Folder>(
+    domain: u32,
+    buffer: &mut Vec<u8>,
+    message: &[u8],
+    room: usize,
+    folder: &mut F,
+) -> Result<(), SplitFault> {
+    make_room(domain, buffer, message.len(), room, folder)?;
+    if message.len() > room {
+        return append_all(domain, message, folder);
+    }
+    buffer.extend_from_slice(message)?;
+    Ok(())
+}
+
+impl Buffers {
+    // An empty buffer for each of the domains, with its room.
+    pub(crate) fn new(alloc: Global, domains: &[u32]) -> Result<Buffers, AllocError> {
+        let room = room_of(domains.len());
+        let mut buffers = IndexMap::new(alloc);
+        for domain in domains {
+            buffers.insert(*domain, Vec::with_capacity(alloc, room)?)?;
+        }
+        Ok(Buffers { buffers, room })
+    }
+
+    // Takes a message.
+    fn take_message<F: Folder>(&mut self, message: &[u8], folder: &mut F) -> Result<(), SplitFault>
+        requires { 16 ≤ length message.now }
+    {
+        let domain = domain_of(message);
+        let room = self.room;
+        match self.buffers.get_mut(&domain) {
+            Some(buffer) => keep(domain, buffer, message, room, folder),
+            None => Err(SplitFault::Changed),
+        }
+    }
+
+    // Takes messages in their order.
+    fn take_messages<F: Folder>(
+        &mut self,
+        messages: Messages<'_>,
+        folder: &mut F,
+    ) -> Result<(), SplitFault>
+        requires frames { AllByRecursion IsFrame messages }
+    {
+        for message in messages {
+            self.take_message(message, folder)?;
+        }
+        Ok(())
+    }
+
+    // Takes the next piece of the capture.
+    fn take_piece<F: Folder>(
+        &mut self,
+        framer: &mut Framer,
+        piece: &[u8],
+        folder: &mut F,
+    ) -> Result<(), SplitFault> {
+        let lent = match framer.lend(piece) {
+            Ok(lent) => lent,
+            Err(fault) => return Err(framing_fault(fault)),
+        };
+        self.take_messages(lent.messages(), folder)?;
+        match lent.fault {
+            Some(fault) => Err(framing_fault(fault)),
+            None => Ok(()),
+        }
+    }
+
+    // Reads a capture to its end.
+    pub(crate) fn take_all<R: Read, F: Folder>(
+        &mut self,
+        alloc: Global,
+        reader: &mut R,
+        folder: &mut F,
+    ) -> Result<(), SplitFault> {
+        let mut piece = new_piece(alloc, PIECE)?;
+        let mut framer = Framer::new(alloc);
+        for _ in 0..u64::MAX {
+            match reader.read(piece.as_mut_slice()) {
+                Ok(0) => {
+                    return match framer.finish() {
+                        Ok(()) => Ok(()),
+                        Err(fault) => Err(framing_fault(fault)),
+                    };
+                }
+                Ok(n) => self.take_piece(&mut framer, &piece[..n], folder)?,
+                Err(_) => return Err(SplitFault::Read(ReadFault::Read)),
+            }
+        }
+        Err(SplitFault::Read(ReadFault::Turns))
+    }
+
+    // Writes what the buffers of these domains hold.
+    pub(crate) fn empty<F: Folder>(
+        &mut self,
+        domains: &[u32],
+        folder: &mut F,
+    ) -> Result<(), SplitFault> {
+        for domain in domains {
+            if let Some(buffer) = self.buffers.get_mut(domain) {
+                append_all(*domain, buffer.as_slice(), folder)?;
+                buffer.clear();
+            }
+        }
+        Ok(())
+    }
+}

@@ -1,0 +1,109 @@
+//! The first reading of a capture: which observation domains it has messages of, and whether its framing is right.
+ghost use Rattle.std.specs.Prelude.{◌≡◌, ◌≤◌, length, IfOk};
+ghost use Rattle.std.specs.List.{AllByRecursion};
+ghost use Rattle.tca_wire.specs.Frames.{IsFrame};
+ghost use Rattle.tca_split.specs.Parts.{domain_of};
+
+use crate::fault::{SplitFault, framing_fault};
+use byteorder::{BigEndian, ByteOrder};
+use indexmap::IndexSet;
+use std::alloc::{AllocError, Global};
+use tca_report::{Read, ReadFault};
+use tca_wire::{Framer, Messages};
+
+// Octets of a capture that are read together.
+pub(crate) const PIECE: usize = 65_536;
+
+// Observation domains of a capture.
+const MOST_DOMAINS: usize = 4096;
+
+/// What a first reading has found.
+#[derive(Drop)]
+pub(crate) struct Survey {
+    /// The domains, in the order in which they first came.
+    pub(crate) domains: IndexSet<u32>,
+    /// How many messages came; 2^64 - 1 stands for all above it too.
+    pub(crate) messages: u64,
+}
+
+// The observation domain of a message.
+pub(crate) fn domain_of(message: &[u8]) -> u32
+    requires { 16 ≤ length message.now }
+    ensures { result ≡ domain_of message.now }
+{
+    BigEndian::read_u32(&message[12..])
+}
+
+// The length is a parameter, since a proof would write out a list of a known length.
+pub(crate) fn new_piece(alloc: Global, size: usize) -> Result<Vec<u8>, AllocError>
+    ensures { IfOk result (λ v. length v.items ≡ size) }
+{
+    vec![in alloc; 0u8; size]
+}
+
+impl Survey {
+    fn new(alloc: Global) -> Survey {
+        Survey {
+            domains: IndexSet::new(alloc),
+            messages: 0,
+        }
+    }
+
+    // Counts a message, and notes its domain.
+    fn take_message(self, message: &[u8]) -> Result<Survey, SplitFault>
+        requires { 16 ≤ length message.now }
+    {
+        let domain = domain_of(message);
+        let mut domains = self.domains;
+        let messages = self.messages.saturating_add(1);
+        domains.insert(domain)?;
+        if domains.len() > MOST_DOMAINS {
+            return Err(SplitFault::Limits);
+        }
+        Ok(Survey { domains, messages })
+    }
+
+    // Takes messages in their order.
+    fn take_messages(self, messages: Messages<'_>) -> Result<Survey, SplitFault>
+        requires frames { AllByRecursion IsFrame messages }
+    {
+        let mut survey = self;
+        for message in messages {
+            survey = survey.take_message(message)?;
+        }
+        Ok(survey)
+    }
+
+    // Takes the next piece of the capture.
+    fn take_piece(self, framer: &mut Framer, piece: &[u8]) -> Result<Survey, SplitFault> {
+        let lent = match framer.lend(piece) {
+            Ok(lent) => lent,
+            Err(fault) => return Err(framing_fault(fault)),
+        };
+        let survey = self.take_messages(lent.messages())?;
+        match lent.fault {
+            Some(fault) => Err(framing_fault(fault)),
+            None => Ok(survey),
+        }
+    }
+}
+
+// Reads a capture to its end.
+pub(crate) fn first_reading<R: Read>(alloc: Global, reader: &mut R) -> Result<Survey, SplitFault> {
+    let mut piece = new_piece(alloc, PIECE)?;
+    let mut framer = Framer::new(alloc);
+    let mut survey = Survey::new(alloc);
+    for _ in 0..u64::MAX {
+        match reader.read(piece.as_mut_slice()) {
+            Ok(0) => {
+                return match framer.finish() {
+                    Ok(()) => Ok(survey),
+                    Err(fault) => Err(framing_fault(fault)),
+                };
+            }
+            Ok(n) => survey = survey.take_piece(&mut framer, &piece[..n])?,
+            Err(_) => return Err(SplitFault::Read(ReadFault::Read)),
+        }
+    }
+    Err(SplitFault::Read(ReadFault::Turns))
+}

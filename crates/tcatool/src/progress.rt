@@ -1,0 +1,124 @@
+//! How far a long command is, told on standard error.
+
+use std::io;
+use std::rt::Clock;
+use std::time::{Duration, Instant};
+use tca_report::Write;
+
+// Octets of a mebibyte.
+const MEBIBYTE: u64 = 1_048_576;
+
+/// Hears how much is done.
+pub trait Watch {
+    /// So many octets are done.
+    fn done(&mut self, octets: u64);
+}
+
+/// Tells nothing.
+#[derive(Drop)]
+pub(crate) struct Silent;
+
+impl Watch for Silent {
+    fn done(&mut self, _octets: u64) {}
+}
+
+/// Tells at most once a second how many MiB of all are done, first after a second. What can't be timed or written is left out.
+#[derive(Drop)]
+pub(crate) struct Progress<'r, R, V> {
+    rt: &'r R,
+    errors: &'r mut V,
+    command: &'static str,
+    all: Option<u64>,
+    told: Option<Instant>,
+}
+
+impl<'r, R: Clock, V: io::Write> Progress<'r, R, V> {
+    /// Of a command with so many octets in all, where that is known.
+    pub(crate) fn new(
+        rt: &'r R,
+        errors: &'r mut V,
+        command: &'static str,
+        all: Option<u64>,
+    ) -> Progress<'r, R, V> {
+        Progress {
+            rt,
+            errors,
+            command,
+            all,
+            told: Instant::now(rt).ok(),
+        }
+    }
+
+    // Whether a second has gone since it was told last.
+    fn is_due(&self, now: Instant) -> bool {
+        match self.told {
+            None => true,
+            Some(told) => match now.checked_duration_since(told) {
+                Some(gone) => gone >= Duration::from_secs(1),
+                None => false,
+            },
+        }
+    }
+}
+
+impl<'r, R, V: io::Write> Progress<'r, R, V> {
+    // Prints how many MiB are done.
+    fn tell(&mut self, done: u64) {
+        let command = self.command;
+        let _unwritten = match self.all {
+            Some(all) => {
+                let all = all / MEBIBYTE;
+                write!(self.errors, "tcatool: {command}: {done} of {all} MiB\n")
+            }
+            None => write!(self.errors, "tcatool: {command}: {done} MiB\n"),
+        };
+    }
+}
+
+impl<'r, R: Clock, V: io::Write> Watch for Progress<'r, R, V> {
+    fn done(&mut self, octets: u64) {
+        let Ok(now) = Instant::now(self.rt) else {
+            return;
+        };
+        if self.is_due(now) {
+            self.tell(octets / MEBIBYTE);
+            self.told = Some(now);
+        }
+    }
+}
+
+/// A writer that tells how many octets it has taken.
+#[derive(Drop)]
+pub(crate) struct WatchedWriter<'w, D, T> {
+    writer: D,
+    taken: u64,
+    watch: &'w mut T,
+}
+
+impl<'w, D, T> WatchedWriter<'w, D, T> {
+    /// The writer, of which no octet is counted yet.
+    pub(crate) fn new(writer: D, watch: &'w mut T) -> WatchedWriter<'w, D, T> {
+        WatchedWriter {
+            writer,
+            taken: 0,
+            watch,
+        }
+    }
+}
+
+impl<'w, D: Write, T: Watch> Write for WatchedWriter<'w, D, T> {
+    ghost written = { λ w. D.written w.writer };
+
+    ghost failures = { λ w. D.failures w.writer };
+
+    fn write(&mut self, octets: &[u8]) -> io::Result<usize> {
+        match self.writer.write(octets) {
+            Ok(n) => {
+                self.taken = self.taken.saturating_add(n as u64);
+                self.watch.done(self.taken);
+                Ok(n)
+            }
+            Err(error) => Err(error),
+        }
+    }
+}

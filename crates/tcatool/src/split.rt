@@ -1,0 +1,273 @@
+//! The command `split`.
+ghost use Rattle.std.specs.Prelude.{◌≡◌, ◌<◌, ◌≤◌, IfOk, length};
+
+use crate::progress::{Progress, Silent, Watch};
+use std::alloc::Global;
+use std::fs::{self, OpenOptions};
+use std::io::{self, ErrorKind, Write as _};
+use std::rt::{Clock, Files};
+use tca_program::{Family, RunFault};
+use tca_report::{Host, Read, ReadFault, Write, put_all};
+use tca_split::{Folder, Parts, SplitFault, split};
+
+// A directory with the file `D.ipfix` for each observation domain D.
+#[derive(Drop)]
+struct Directory<'r, R: Files> {
+    rt: &'r R,
+    path: &'r str,
+    /// Files that are open, each with its domain.
+    open: Vec<(u32, R::File)>,
+    failures: u64,
+}
+
+impl<'r, R: Files + AllocGlobal> Directory<'r, R> {
+    fn new(rt: &'r R, path: &'r str) -> Directory<'r, R> {
+        Directory {
+            rt,
+            path,
+            open: Vec::new(rt.alloc()),
+            failures: 0,
+        }
+    }
+}
+
+// Whether the file of a domain is there.
+fn look_for<R: Files + AllocGlobal>(rt: &R, folder: &str, domain: u32) -> io::Result<bool> {
+    let path = format!(in rt.alloc(); "{folder}/{domain}.ipfix")?;
+    match fs::symlink_metadata(rt, path.as_str()) {
+        Ok(_) => Ok(true),
+        Err(error) if error.kind() == ErrorKind::NotFound => Ok(false),
+        Err(error) => Err(error),
+    }
+}
+
+// Opens the file of a domain. Where no more may be open at once, the one that was opened last is closed first. So the
+// others stay open, however many domains take turns.
+fn open_file<R: Files + AllocGlobal>(
+    rt: &R,
+    folder: &str,
+    open: &mut Vec<(u32, R::File)>,
+    domain: u32,
+    how: &OpenOptions,
+) -> io::Result<()> {
+    let path = format!(in rt.alloc(); "{folder}/{domain}.ipfix")?;
+    for _ in 0..=open.len() {
+        match how.open(rt, path.as_str()) {
+            Ok(file) => {
+                open.push((domain, file))?;
+                return Ok(());
+            }
+            Err(error) => {
+                if open.pop().is_none() {
+                    return Err(error);
+                }
+            }
+        }
+    }
+    Err(io::Error::from(ErrorKind::Other))
+}
+
+// Where the open file of a domain is in the list.
+fn place_of<F>(open: &[(u32, F)], domain: u32) -> Option<usize> {
+    open.iter().position(|one| one.0 == domain)
+}
+
+// Writes some of the octets to a file.
+fn write_some<F: io::Write>(file: &mut F, octets: &[u8]) -> io::Result<usize>
+    ensures bound { IfOk result (λ n. n ≤ length octets.now) }
+    ensures some { IfOk result (λ n. 0 < n) }
+{
+    match file.write(octets) {
+        Ok(0) => Err(io::Error::from(ErrorKind::WriteZero)),
+        Ok(n) => Ok(n),
+        Err(error) => Err(error),
+    }
+}
+
+// Writes some of the octets at the end of a domain's file, which is opened where it isn't open.
+fn append_to<R: Files + AllocGlobal>(
+    rt: &R,
+    folder: &str,
+    open: &mut Vec<(u32, R::File)>,
+    domain: u32,
+    octets: &[u8],
+) -> io::Result<usize>
+    ensures bound { IfOk result (λ n. n ≤ length octets.now) }
+    ensures some { IfOk result (λ n. 0 < n) }
+{
+    let place = match place_of(open.as_slice(), domain) {
+        Some(place) => place,
+        None => {
+            open_file(rt, folder, open, domain, OpenOptions::new().append(true))?;
+            open.len().saturating_sub(1)
+        }
+    };
+    match open.get_mut(place) {
+        Some(one) => write_some(&mut one.1, octets),
+        None => Err(io::Error::from(ErrorKind::Other)),
+    }
+}
+
+impl<'r, R: Files + AllocGlobal> Folder for Directory<'r, R> {
+    ghost use Rattle.std.specs.Prelude.{None};
+
+    // What files hold isn't known.
+    ghost files = { λ _. None };
+
+    ghost failures = { λ d. d.failures };
+
+    fn has(&mut self, domain: u32) -> io::Result<bool> {
+        match look_for(self.rt, self.path, domain) {
+            Ok(there) => Ok(there),
+            Err(error) => {
+                self.failures = self.failures.saturating_add(1);
+                Err(error)
+            }
+        }
+    }
+
+    fn create(&mut self, domain: u32) -> io::Result<()> {
+        let mut how = OpenOptions::new();
+        how.write(true).create_new(true);
+        match open_file(self.rt, self.path, &mut self.open, domain, &how) {
+            Ok(()) => Ok(()),
+            Err(error) => {
+                self.failures = self.failures.saturating_add(1);
+                Err(error)
+            }
+        }
+    }
+
+    fn append(&mut self, domain: u32, octets: &[u8]) -> io::Result<usize> {
+        match append_to(self.rt, self.path, &mut self.open, domain, octets) {
+            Ok(n) => Ok(n),
+            Err(error) => {
+                self.failures = self.failures.saturating_add(1);
+                Err(error)
+            }
+        }
+    }
+}
+
+// A reader that tells how many octets it has given.
+#[derive(Drop)]
+struct Watched<'w, D, W> {
+    reader: D,
+    given: u64,
+    watch: &'w mut W,
+}
+
+impl<'w, D: Read, W: Watch> Read for Watched<'w, D, W> {
+    ghost left = { λ w. D.left w.reader };
+
+    ghost failures = { λ w. D.failures w.reader };
+
+    ghost reads = { λ w. D.reads w.reader };
+
+    fn read(&mut self, into: &mut [u8]) -> io::Result<usize> {
+        match self.reader.read(into) {
+            Ok(n) => {
+                self.given = self.given.saturating_add(n as u64);
+                self.watch.done(self.given);
+                Ok(n)
+            }
+            Err(error) => Err(error),
+        }
+    }
+}
+
+// The refusal of the capture, or of the command, by a fault of splitting.
+fn refusal_of(fault: SplitFault) -> RunFault {
+    let (family, number) = match fault {
+        SplitFault::Read(fault) => (Family::Read, fault.number()),
+        SplitFault::Changed => (Family::Read, ReadFault::Read.number()),
+        SplitFault::Wire(fault) => (Family::Wire, fault.number()),
+        SplitFault::Limits => (Family::Limits, 1),
+        SplitFault::Exists | SplitFault::Write => return RunFault::write(),
+        SplitFault::Memory => return RunFault::without_input(Family::Memory, 1),
+    };
+    RunFault {
+        input: Some(0),
+        family,
+        number,
+    }
+}
+
+// Prints how many domains and messages there are.
+fn print_parts<W: Write>(parts: Parts, out: &mut W) -> Result<(), RunFault> {
+    let mut digits = itoa::Buffer::new();
+    put_all(b"domains ", out)?;
+    put_all(digits.format(parts.domains).as_bytes(), out)?;
+    put_all(b"\nmessages ", out)?;
+    put_all(digits.format(parts.messages).as_bytes(), out)?;
+    put_all(b"\n", out)?;
+    Ok(())
+}
+
+/// Splits a capture that comes from two readings of it into files of a folder, one for each observation domain, and prints how many
+/// domains and messages there are.
+pub fn run_split<A: Read, B: Read, F: Folder, W: Write>(
+    alloc: Global,
+    first: &mut A,
+    second: &mut B,
+    folder: &mut F,
+    out: &mut W,
+) -> Result<(), RunFault> {
+    match split(alloc, first, second, folder) {
+        Ok(parts) => print_parts(parts, out),
+        Err(fault) => Err(refusal_of(fault)),
+    }
+}
+
+// Opens the capture.
+fn open<R: Files>(rt: &R, capture: &str) -> Result<Host<R::File>, RunFault> {
+    match fs::open(rt, capture) {
+        Ok(file) => Ok(Host::new(file)),
+        Err(_) => Err(RunFault::read(Some(0), ReadFault::Read)),
+    }
+}
+
+// Splits the file of a capture, each reading of which is watched.
+fn split_watched<R: Files + AllocGlobal, T: Watch, W: Write>(
+    rt: &R,
+    folder: &str,
+    capture: &str,
+    watch: &mut T,
+    out: &mut W,
+) -> Result<(), RunFault> {
+    let (first, second) = (open(rt, capture)?, open(rt, capture)?);
+    let mut folder = Directory::new(rt, folder);
+    let mut silent = Silent;
+    let mut first = Watched {
+        reader: first,
+        given: 0,
+        watch: &mut silent,
+    };
+    let mut second = Watched {
+        reader: second,
+        given: 0,
+        watch,
+    };
+    run_split(rt.alloc(), &mut first, &mut second, &mut folder, out)
+}
+
+/// Splits the file of a capture into files of a folder, one for each observation domain. Where it is asked for, how far the second
+/// reading is is told on standard error.
+pub fn split_file<R: Files + Clock + AllocGlobal, W: Write, V: io::Write>(
+    rt: &R,
+    folder: &str,
+    capture: &str,
+    tells: bool,
+    out: &mut W,
+    errors: &mut V,
+) -> Result<(), RunFault> {
+    if !tells {
+        return split_watched(rt, folder, capture, &mut Silent, out);
+    }
+    let all = match fs::metadata(rt, capture) {
+        Ok(metadata) => metadata.len(),
+        Err(_) => return Err(RunFault::read(Some(0), ReadFault::Read)),
+    };
+    let mut progress = Progress::new(rt, errors, "split", Some(all));
+    split_watched(rt, folder, capture, &mut progress, out)
+}
