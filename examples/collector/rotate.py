@@ -29,10 +29,17 @@ def has_templates(message):
     return False
 
 
+def first_number(folder, session):
+    """One more than the highest number that a file of this session has, here or in the folders beside, where files are billed."""
+    beside = os.path.dirname(os.path.abspath(folder))
+    found = [name for at in (folder, f"{beside}/billing", f"{beside}/billed") if os.path.isdir(at) for name in os.listdir(at)]
+    return max((int(name[len(session) + 1 :].split(".")[0]) + 1 for name in found if name.startswith(f"{session}-")), default=0)
+
+
 def main():
     folder, size = sys.argv[1], int(sys.argv[2])
     session = sys.argv[3] if len(sys.argv) > 3 else "0"
-    number, written, templates, file = 0, 0, [], None
+    number, written, templates, file = first_number(folder, session), 0, [], None
     signal.signal(signal.SIGTERM, lambda *_: sys.stdin.close())
 
     def finish():

@@ -4,12 +4,12 @@ import shutil
 import subprocess
 import unittest
 
-from program import PROGRAM, ROOT, SECONDS, ProgramTest
+from program import PROGRAM, ROOT, SECONDS, TOOL, ProgramTest
 
 
 class Examples(ProgramTest):
-    def check(self, name):
-        settings = {**os.environ, "TCACCT": str(PROGRAM)}
+    def check(self, name, **more):
+        settings = {**os.environ, "TCACCT": str(PROGRAM), "TCATOOL": str(TOOL), **more}
         done = subprocess.run([ROOT / "examples" / name / "run"], env=settings, capture_output=True, timeout=SECONDS)
         self.assertEqual((done.returncode, done.stdout.decode()), (0, f"{name}: as it should be\n"), done.stderr)
 
@@ -19,3 +19,8 @@ class Examples(ProgramTest):
     @unittest.skipUnless(shutil.which("socat"), "needs socat")
     def test_collector(self):
         self.check("collector")
+
+    @unittest.skipUnless(shutil.which("make"), "needs make")
+    def test_cluster(self):
+        # The engines that need no other host and no service.
+        self.check("cluster", ENGINES="make again", REPORTS="200")

@@ -9,11 +9,11 @@ import tempfile
 from pathlib import Path
 
 from model import capture
-from program import PROGRAM, SECONDS, TESTS, ProgramTest
-from rows import PLAN, STATEMENT, THREE, THREE_2, TIME
+from program import PROGRAM, SECONDS, TESTS, TOOL, ProgramTest
+from rows import ONE, PLAN, SHORT, STATEMENT, THREE, THREE_2, TIME
 
 MOST_GROWTHS = 2000
-FAMILIES = (b"memory 1", b"plan 8", b"log 2", b"share 3", b"work 5", b"work 3", b"read 3", b"absorb 4")
+FAMILIES = (b"memory 1", b"plan 8", b"log 2", b"share 3", b"work 5", b"work 3", b"read 3", b"absorb 4", b"wire 7", b"statement 5")
 
 # Tests that hold whether one growth is refused or not.
 HOLDS = {
@@ -71,18 +71,18 @@ class Growths(ProgramTest):
                     self.assertEqual(done.returncode, 0, done)
                     self.assertGreater(held, 0)
 
-    def check_run(self, words, out, files, all_after):
+    def check_run(self, words, out, files, all_after, program=PROGRAM, err=b""):
         """Each growth of this run refused: it writes what it writes, or says that it lacks memory and has written nothing."""
         for number in range(1, MOST_GROWTHS):
             for name in files:
                 (self.folder / name).unlink(missing_ok=True)
-            done, refused = self.run_refused(number, [str(PROGRAM), *words], all_after)
+            done, refused = self.run_refused(number, [str(program), *words], all_after)
             if not refused:
-                self.assertEqual((done.returncode, done.stdout, done.stderr), (0, out, b""))
+                self.assertEqual((done.returncode, done.stdout, done.stderr), (0, out, err))
                 break
             self.assertIn(done.returncode, (0, 1), (number, done))
             if done.returncode == 0:
-                self.assertEqual((done.stdout, done.stderr), (out, b""))
+                self.assertEqual((done.stdout, done.stderr), (out, err))
                 self.assertEqual({name: self.read(name) for name in files}, files)
             else:
                 self.assertEqual(done.stdout, b"", number)
@@ -110,3 +110,53 @@ class Growths(ProgramTest):
             ):
                 with self.subTest(words=words, all_after=all_after):
                     self.check_run(words, out, files, all_after)
+
+    def test_of_the_tool(self):
+        self.write("plan", PLAN.toml())
+        self.write("reports", THREE_2)
+        self.write("statement", STATEMENT)
+        header = b"time,domain,session,place,octets,dscp,interface,state,account,colour\n"
+        items = (
+            b"1700000000000,7,0,0,1500,0,1,settled,alpha,green\n"
+            b"1700000000100,7,0,1,1000,0,1,settled,alpha,yellow\n"
+            b"1700000000200,7,0,2,800,0,1,settled,alpha,red\n"
+        )
+        table = (
+            b"account,span,start,green_octets,green_packets,yellow_octets,yellow_packets,red_octets,red_packets\n"
+            b"alpha,,,1500,1,1000,1,800,1\nalpha,472222,2023-11-14T22:00:00Z,1500,1,1000,1,800,1\n"
+        )
+        pairs = b"domain,interface,reports,packets,octets,first,last\n7,1,3,3,3300,1700000000000,1700000000200\n"
+        sides = b"side,time,domain,session,place,octets,dscp,interface\n"
+        same = b"tcatool: diff: only A 0, only B 0, both 3\n"
+        for all_after in (False, True):
+            for words, out, err in (
+                (["pairs", "reports"], pairs, b""),
+                (["list", "--plan", "plan", "reports"], header + items, b""),
+                (["diff", "reports", "reports"], sides, same),
+                (["table", "statement"], table, b""),
+                (["add", "statement"], STATEMENT, b""),
+            ):
+                with self.subTest(words=words, all_after=all_after):
+                    self.check_run(words, out, {}, all_after, TOOL, err)
+
+    def test_of_a_split(self):
+        (self.folder / "parts").mkdir()
+        self.write("capture", ONE + SHORT[:12] + b"\0\0\0\t" + SHORT[16:])
+        whole = {"7.ipfix": ONE, "9.ipfix": SHORT[:12] + b"\0\0\0\t" + SHORT[16:]}
+        for number in range(1, MOST_GROWTHS):
+            done, refused = self.run_refused(number, [str(TOOL), "split", "parts", "capture"])
+            files = {path.name: path.read_bytes() for path in (self.folder / "parts").iterdir()}
+            if done.returncode == 0:
+                self.assertEqual((done.stdout, files), (b"domains 2\nmessages 2\n", whole))
+            else:
+                self.assertEqual((done.returncode, done.stdout), (1, b""), number)
+                for name, octets in files.items():
+                    self.assertTrue(whole[name].startswith(octets), number)
+            if not refused:
+                self.assertEqual(done.returncode, 0)
+                break
+            for path in (self.folder / "parts").iterdir():
+                path.unlink()
+        else:
+            self.fail("each run met a refusal")
+        self.assertGreater(number, 10)

@@ -1,0 +1,150 @@
+"""What the second program makes of any statement, after Python's own CSV, JSON and calendar, and each octet of a page."""
+import csv
+import io
+import json
+import random
+import re
+from datetime import datetime, timedelta, timezone
+from pathlib import Path
+from xml.etree import ElementTree
+
+from test_tool import ToolTest
+
+HERE = Path(__file__).resolve().parent
+COLOURS = ("green", "yellow", "red")
+HEADER = "account,span,start,green_octets,green_packets,yellow_octets,yellow_packets,red_octets,red_packets".split(",")
+ROW = [("alpha", [(472222, (1500, 1, 1000, 1, 800, 1))])]
+ONE = ROW[0][1][0][1]
+# The last second for which a moment is shown.
+LAST = 253_402_207_200
+
+
+def total(spans):
+    return tuple(sum(sums[k] for _, sums in spans) for k in range(6))
+
+
+def statement(period, accounts, reports=3, disputed=0, unassigned=0):
+    lines = ["tcacct statement 1", f"period {period}", f"reports {reports}", f"disputed {disputed}", f"unassigned {unassigned}"]
+    for name, spans in accounts:
+        lines += [f"account {name}", "total " + " ".join(map(str, total(spans)))]
+        lines += [f"span {index} " + " ".join(map(str, sums)) for index, sums in spans]
+    return "\n".join(lines + ["end", ""]).encode()
+
+
+def moment(milliseconds):
+    """The moment as RFC 3339 has it, by Python's calendar; none past the last second that is shown."""
+    if milliseconds // 1000 > LAST:
+        return None
+    when = datetime(1970, 1, 1, tzinfo=timezone.utc) + timedelta(milliseconds=milliseconds)
+    fraction = f".{milliseconds % 1000:03}".rstrip("0") if milliseconds % 1000 else ""
+    return when.strftime("%Y-%m-%dT%H:%M:%S") + fraction + "Z"
+
+
+def table(period, accounts):
+    rows = [HEADER]
+    for name, spans in accounts:
+        rows.append([name, "", "", *total(spans)])
+        rows += [[name, index, moment(index * period) or "", *sums] for index, sums in spans]
+    text = io.StringIO()
+    csv.writer(text, lineterminator="\n").writerows(rows)
+    return text.getvalue().encode()
+
+
+def colours(sums):
+    return {colour: {"octets": sums[2 * k], "packets": sums[2 * k + 1]} for k, colour in enumerate(COLOURS)}
+
+
+def as_json(period, accounts, reports=3, disputed=0, unassigned=0):
+    listed = [{"name": name, "total": colours(total(spans)),
+               "spans": [{"index": index, "start": moment(index * period), **colours(sums)} for index, sums in spans]}
+              for name, spans in accounts]
+    whole = {"format": 1, "period": period, "reports": reports, "disputed": disputed, "unassigned": unassigned, "accounts": listed}
+    return json.dumps(whole, sort_keys=True, separators=(",", ":")).encode() + b"\n"
+
+
+def any_accounts(numbers, most):
+    accounts = []
+    for place in range(numbers.randrange(1, 5)):
+        indexes = sorted(numbers.sample(range(most + 1), min(numbers.randrange(6), most + 1)))
+        accounts.append((f"account_{place}", [(index, any_sums(numbers)) for index in indexes]))
+    return accounts
+
+
+def any_sums(numbers):
+    sums = []
+    for colour in range(3):
+        packets = numbers.choice([0, numbers.randrange(1, 10 ** numbers.randrange(1, 13))]) if colour else numbers.randrange(1, 9)
+        sums += [packets * numbers.randrange(1, 65_576), packets]
+    return tuple(sums)
+
+
+class AnyStatements(ToolTest):
+    def assert_tells(self, octets, command, expected):
+        self.write("statement", octets)
+        run = self.run_tool(command, "statement")
+        self.assertEqual((run.status, run.out, run.err), (0, expected, b""))
+
+    def test_any_statement(self):
+        numbers = random.Random(11)
+        for _ in range(60):
+            period = numbers.choice([1, 7, 250, 1000, 3_600_000, 86_400_000, numbers.randrange(1, 2**48)])
+            accounts = any_accounts(numbers, (2**48 - 1) // period)
+            octets = statement(period, accounts, 2**64 - 1, 5, 6)
+            self.assert_tells(octets, "table", table(period, accounts))
+            self.assert_tells(octets, "json", as_json(period, accounts, 2**64 - 1, 5, 6))
+
+    def test_moments(self):
+        starts = [0, 1, 10, 100, 999, 1000, 951_782_399_999, 951_782_400_000, 1_709_164_800_000, 4_107_542_400_000,
+                  LAST * 1000 + 999, (LAST + 1) * 1000, 2**48 - 1]
+        accounts = [("alpha", [(start, ONE) for start in starts])]
+        octets = statement(1, accounts)
+        self.assert_tells(octets, "table", table(1, accounts))
+        self.assert_tells(octets, "json", as_json(1, accounts))
+
+
+class WholePages(ToolTest):
+    def page_of(self, octets):
+        self.write("statement", octets)
+        run = self.run_tool("page", "out.html", "statement")
+        self.assertEqual((run.status, run.out, run.err), (0, b"", b""))
+        return self.read("out.html")
+
+    def tree_of(self, octets):
+        text = self.page_of(octets).decode()
+        for word in ("<script", "http:", "https:", "@import", "@font-face", "src=", "href="):
+            self.assertNotIn(word, text)
+        return ElementTree.fromstring(text)
+
+    def test_one_row(self):
+        self.assertEqual(self.page_of(statement(3_600_000, ROW)), (HERE / "page.html").read_bytes())
+
+    def test_a_bar_for_each_period(self):
+        numbers = random.Random(12)
+        accounts = any_accounts(numbers, 1000)
+        sections = self.tree_of(statement(86_400_000, accounts)).findall(".//section")
+        self.assertEqual([section.find("h2").text for section in sections], [name for name, _ in accounts])
+        for section, (_, spans) in zip(sections, accounts):
+            cells = [re.sub(r"\D", "", cell.text) for cell in section.findall(".//tbody/tr/td")]
+            self.assertEqual(cells[:6], [str(number) for number in total(spans)])
+            titles = [bar.find("title").text for bar in section.findall(".//figure/svg/g")]
+            self.assertEqual(len(titles), len(spans))
+            for title, (index, sums) in zip(titles, spans):
+                start, *lines = title.split("\n")
+                self.assertEqual(start, moment(index * 86_400_000))
+                self.assertEqual([int(n) for line in lines for n in re.findall(r"\d+", line.replace("\u202f", ""))], list(sums))
+
+    def test_bars_stand_one_above_the_other(self):
+        accounts = [("alpha", [(n, any_sums(random.Random(n))) for n in range(700)])]
+        tree = self.tree_of(statement(3_600_000, accounts))
+        right = 0
+        for bar in tree.findall(".//figure/svg/g"):
+            pieces = [{key: piece.get(key) for key in piece.keys()} for piece in bar.findall("rect")]
+            column = pieces.pop(0)
+            self.assertGreaterEqual(int(column["x"]), right)
+            right = int(column["x"]) + int(column["width"])
+            floor = int(column["y"]) + int(column["height"])
+            for piece in pieces:
+                self.assertGreater(int(piece["width"]), 0)
+                self.assertEqual(int(piece["y"]) + int(piece["height"]), floor)
+                floor = int(piece["y"])
+            self.assertGreaterEqual(floor, int(column["y"]))

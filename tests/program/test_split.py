@@ -1,0 +1,158 @@
+"""The command `split`, over real files: a capture for each observation domain."""
+import os
+import random
+import resource
+import signal
+import struct
+
+from model import capture
+from program import TOOL, ProgramTest
+
+M10 = bytes.fromhex(
+    "000a0041" "6553f100" "00000005" "00000007" "00020018" "01000004" "01430008" "00e00008" "00c30001" "000a0004"
+    "01000019" "0000018bcfe56800" "00000000000005dc" "0a" "00000001"
+)
+M21 = bytes.fromhex("000a002f" "6553f100" "00000000" "00000009" "00020010" "01000002" "01420004" "0139ffff" "0100000f" "6553f100" "ff0004" "45b805dc")
+
+
+def message(domain, body=b"", version=10, length=None):
+    """A message by its framing alone: a header of RFC 7011, and octets of any value."""
+    length = 16 + len(body) if length is None else length
+    return struct.pack(">HHIII", version, length, 0, 0, domain) + body
+
+
+class Splitting(ProgramTest):
+    def setUp(self):
+        super().setUp()
+        (self.folder / "parts").mkdir()
+
+    def split(self, *words, **options):
+        return self.run_program("split", *words, program=TOOL, **options)
+
+    def parts(self):
+        return {path.name: path.read_bytes() for path in (self.folder / "parts").iterdir()}
+
+    def assert_split(self, messages, run):
+        domains = {}
+        for octets in messages:
+            domains.setdefault(struct.unpack(">I", octets[12:16])[0], []).append(octets)
+        text = f"domains {len(domains)}\nmessages {len(messages)}\n".encode()
+        self.assertEqual((run.status, run.out, run.err), (0, text, b""))
+        self.assertEqual(self.parts(), {f"{domain}.ipfix": b"".join(own) for domain, own in domains.items()})
+
+    def assert_refused_by(self, run, word, family, number, left=None):
+        line = f"tcatool: {word}: {family} {number}\n".encode()
+        self.assertEqual((run.status, run.out, run.err), (1, b"", line))
+        self.assertEqual(self.parts(), left or {})
+
+    def test_two_domains(self):
+        self.write("capture", M10 + M21)
+        self.assert_split([M10, M21], self.split("parts", "capture"))
+        self.assertEqual(self.parts(), {"7.ipfix": M10, "9.ipfix": M21})
+
+    def test_no_message(self):
+        self.write("capture", b"")
+        self.assert_split([], self.split("parts", "capture"))
+        self.assert_split([], self.split("nowhere", "capture"))
+
+    def test_a_file_that_is_there(self):
+        self.write("capture", message(5) + M10 + M21)
+        self.write("parts/7.ipfix", b"mine")
+        self.assert_refused_by(self.split("parts", "capture"), "split", "write", 1, {"7.ipfix": b"mine"})
+
+    def test_the_capture_itself(self):
+        self.write("parts/7.ipfix", M10)
+        self.assert_refused_by(self.split("parts", "parts/7.ipfix"), "split", "write", 1, {"7.ipfix": M10})
+
+    def test_a_link_that_leads_nowhere(self):
+        self.write("capture", message(5) + M10)
+        (self.folder / "parts/7.ipfix").symlink_to("nowhere")
+        run = self.split("parts", "capture")
+        self.assertEqual((run.status, run.out, run.err), (1, b"", b"tcatool: split: write 1\n"))
+        self.assertEqual(os.listdir(self.folder / "parts"), ["7.ipfix"])
+
+    def test_a_folder_that_is_not_there(self):
+        self.write("capture", M10)
+        self.assert_refused_by(self.split("nowhere", "capture"), "split", "write", 1)
+
+    def test_a_capture_that_is_not_there(self):
+        self.assert_refused_by(self.split("parts", "capture"), "capture", "read", 1)
+
+    def test_framing(self):
+        for octets, number in (
+            (M10[:-1], 1),
+            (M10 + M21[:15], 1),
+            (M10 + message(9, version=9), 2),
+            (M10 + message(9, length=15), 3),
+            (b"TCAX" + bytes(20), 2),
+        ):
+            self.write("capture", octets)
+            self.assert_refused_by(self.split("parts", "capture"), "capture", "wire", number)
+
+    def test_sets_are_not_judged(self):
+        odd = message(7, b"\x00\x02\x00\x01odd")
+        self.write("capture", odd)
+        self.assert_split([odd], self.split("parts", "capture"))
+
+    def test_most_domains(self):
+        most = [message(domain * 7, bytes(domain % 90)) for domain in range(4096)]
+        self.write("capture", b"".join(most))
+        self.assert_split(most, self.split("parts", "capture"))
+
+    def test_one_domain_more(self):
+        more = b"".join(message(domain) for domain in range(4097))
+        self.write("capture", more)
+        self.assert_refused_by(self.split("parts", "capture"), "capture", "limits", 1)
+        self.write("capture", more + message(1, version=9))
+        self.assert_refused_by(self.split("parts", "capture"), "capture", "limits", 1)
+        self.write("capture", more[:-16] + message(1, version=9) + message(4097))
+        self.assert_refused_by(self.split("parts", "capture"), "capture", "wire", 2)
+        self.write("capture", more[:-1])
+        self.assert_refused_by(self.split("parts", "capture"), "capture", "wire", 1)
+
+    def any_messages(self, numbers, domains, count, longest):
+        return [message(numbers.choice(domains), numbers.randbytes(numbers.randrange(longest))) for _ in range(count)]
+
+    def test_any_messages(self):
+        numbers = random.Random(3)
+        for longest in (1, 100, 3000, 65520):
+            domains = [numbers.randrange(2**32) for _ in range(numbers.randrange(1, 60))]
+            messages = self.any_messages(numbers, domains, 400, longest)
+            self.write("capture", b"".join(messages))
+            self.assert_split(messages, self.split("parts", "capture"))
+            for name in self.parts():
+                (self.folder / "parts" / name).unlink()
+
+    def test_few_open_files(self):
+        messages = self.any_messages(random.Random(4), range(700), 9000, 4000)
+        self.write("capture", b"".join(messages))
+        run = self.split("parts", "capture", preexec_fn=lambda: resource.setrlimit(resource.RLIMIT_NOFILE, (12, 12)))
+        self.assert_split(messages, run)
+
+    def test_a_late_write_that_fails(self):
+        def limit():
+            signal.signal(signal.SIGXFSZ, signal.SIG_IGN)
+            resource.setrlimit(resource.RLIMIT_FSIZE, (100_000, 100_000))
+
+        messages = self.any_messages(random.Random(5), [1, 2], 3000, 3000)
+        self.write("capture", b"".join(messages))
+        run = self.split("parts", "capture", preexec_fn=limit)
+        self.assertEqual((run.status, run.out, run.err), (1, b"", b"tcatool: split: write 1\n"))
+        for domain in (1, 2):
+            own = b"".join(octets for octets in messages if octets[12:16] == struct.pack(">I", domain))
+            front = self.read(f"parts/{domain}.ipfix")
+            self.assertLess(len(front), len(own))
+            self.assertTrue(own.startswith(front))
+
+    def test_parts_are_billed_as_the_whole(self):
+        start = 1_700_000_000_000
+        whole = capture(7, 0, [(start + 40 * n, 700, 0, 1) for n in range(50)]) + capture(8, 0, [(start + 30 * n, 900, 0, 1) for n in range(50)])
+        accounts = "".join(f'[[account]]\nname = "d{n}"\nmeter = "rfc2697"\ncir = 9000\ncbs = 2000\nebs = 1000\nkeys = [[{n}, 1]]\n' for n in (7, 8))
+        self.write("plan", f"period = 1000\n{accounts}".encode())
+        self.write("capture", whole)
+        self.assertEqual(self.split("parts", "capture").status, 0)
+        for n in (7, 8):
+            self.write(f"s{n}", self.run_program("bill", "plan", f"parts/{n}.ipfix").out)
+        bill = self.run_program("bill", "plan", "capture").out
+        self.assertNotEqual(self.read("s7"), self.read("s8"))
+        self.assert_done(self.run_program("add", "s8", "s7", program=TOOL), bill)
