@@ -5,3 +5,9 @@ pub mod Added
 pub mod PartsRead
 pub mod FileSteps
 pub mod LentFrames
+pub mod DomainLists
+pub mod BufferSteps
+pub mod SurveySteps
+pub mod ReadSteps
+pub mod CreateSteps
+pub mod SplitSteps

@@ -36,9 +36,11 @@ abbrev pub IsBegun : List ℕ → ℕ → Option (List ℕ) → Option (List ℕ
 IsBegun octets domain before now =
     (now ≡ before) ⊎ ((has_part octets domain ≡ true) × (before ≡ None) × (front : List ℕ) × (rest : List ℕ) × (now ≡ Some front) × (part_of domain octets ≡ front ++ rest))
 
--- Each file is as it was or begun.
+-- Nothing was made; or there was no file of any domain of the capture, and each is as it was or begun.
 abbrev pub AreBegun : List ℕ → Files → Option Files → Type 0
-AreBegun octets before after = (files : Files) × (after ≡ Some files) × ((domain : ℕ) → IsBegun octets domain (before domain) (files domain))
+AreBegun octets before after =
+    (after ≡ Some before) ⊎ ((files : Files) × (after ≡ Some files) × ((domain : ℕ) → has_part octets domain ≡ true → before domain ≡ None)
+    × ((domain : ℕ) → IsBegun octets domain (before domain) (files domain)))
 
 -- A file of a domain's name was there. So nothing was made.
 pub record IsTaken (octets : List ℕ) (before : Files) (after : Option Files) : Type 0 where

@@ -1,8 +1,12 @@
 //! The second reading of a capture: each message goes to the file of its domain, by a buffer of its own.
-ghost use Rattle.std.specs.Prelude.{◌≡◌, ◌≤◌, ◌++◌, ℕ, List, length, IfOk, IfErr, OnOk};
+ghost use Rattle.std.specs.Prelude.{◌≡◌, ◌⊎◌, ◌≤◌, ◌++◌, ◌∷◌, [], ℕ, List, Option, Some, None, Ok, ◌==◌, false, true, length, IfOk, IfErr, OnOk};
 ghost use Rattle.std.specs.List.{AllByRecursion};
-ghost use Rattle.tca_wire.specs.Frames.{IsFrame};
-ghost use Rattle.tca_split.specs.Folders.{Lengthens};
+ghost use Rattle.tca_wire.specs.Frames.{IsFrame, frames_of, ending};
+ghost use Rattle.tca_split.specs.Parts.{domain_of};
+ghost use Rattle.tca_split.specs.Surveys.{is_among};
+ghost use Rattle.tca_split.specs.Folders.{Files, Lengthens};
+ghost use Rattle.tca_split.specs.inside.Surveying.{IsFramed};
+ghost use Rattle.tca_split.specs.inside.Buffering.{buffered, empty_for, HoldAll, FrontAll, SameDomains, AreRefused, IsSecondRefused};
 
 use crate::fault::{SplitFault, framing_fault};
 use crate::folder::{Folder, append_all};
@@ -41,7 +45,13 @@ fn make_room<F: Folder>(
     more: usize,
     room: usize,
     folder: &mut F,
-) -> Result<(), SplitFault> {
+) -> Result<(), SplitFault>
+    ensures ok { OnOk result ((written : List ℕ) × (buffer.old.items ≡ written ++ buffer.new.items)
+        × Lengthens domain written (F.files folder.old) (F.files folder.new)) }
+    ensures err { IfErr result (λ e. (front : List ℕ) × (rest : List ℕ) × (buffer.old.items ≡ front ++ rest)
+        × Lengthens domain front (F.files folder.old) (F.files folder.new)) }
+    ensures fault { IfErr result (λ e. e ≡ SplitFault.Write) }
+{
     if more <= room && buffer.len() <= room - more {
         return Ok(());
     }
@@ -57,7 +67,13 @@ fn keep<F: Folder>(
     message: &[u8],
     room: usize,
     folder: &mut F,
-) -> Result<(), SplitFault> {
+) -> Result<(), SplitFault>
+    ensures ok { OnOk result ((written : List ℕ) × (buffer.old.items ++ message.now ≡ written ++ buffer.new.items)
+        × Lengthens domain written (F.files folder.old) (F.files folder.new)) }
+    ensures err { IfErr result (λ e. (front : List ℕ) × (rest : List ℕ) × (buffer.old.items ++ message.now ≡ front ++ rest)
+        × Lengthens domain front (F.files folder.old) (F.files folder.new)) }
+    ensures fault { IfErr result (λ e. (e ≡ SplitFault.Write) ⊎ (e ≡ SplitFault.Memory)) }
+{
     make_room(domain, buffer, message.len(), room, folder)?;
     if message.len() > room {
         return append_all(domain, message, folder);
@@ -68,7 +84,9 @@ fn keep<F: Folder>(
 
 impl Buffers {
     // An empty buffer for each of the domains, with its room.
-    pub(crate) fn new(alloc: Global, domains: &[u32]) -> Result<Buffers, AllocError> {
+    pub(crate) fn new(alloc: Global, domains: &[u32]) -> Result<Buffers, AllocError>
+        ensures { IfOk result (λ b. (d : ℕ) → buffered b d ≡ empty_for domains.now d) }
+    {
         let room = room_of(domains.len());
         let mut buffers = IndexMap::new(alloc);
         for domain in domains {
@@ -78,8 +96,18 @@ impl Buffers {
     }
 
     // Takes a message.
-    fn take_message<F: Folder>(&mut self, message: &[u8], folder: &mut F) -> Result<(), SplitFault>
+    fn take_message<F: Folder>(
+        &mut self,
+        message: &[u8],
+        folder: &mut F,
+    ) -> Result<(), SplitFault>
         requires { 16 ≤ length message.now }
+        ensures same { SameDomains (buffered self.old) (buffered self.new) }
+        ensures ok { OnOk result ((ms : List (List ℕ)) (before : Option Files) → HoldAll ms before (buffered self.old) (F.files folder.old)
+            → HoldAll (ms ++ message.now ∷ []) before (buffered self.new) (F.files folder.new)) }
+        ensures err { IfErr result (λ e. (ms : List (List ℕ)) (before : Option Files) → HoldAll ms before (buffered self.old) (F.files folder.old)
+            → FrontAll (ms ++ message.now ∷ []) before (buffered self.old) (F.files folder.new)) }
+        ensures fault { IfErr result (λ e. (ms : List (List ℕ)) → AreRefused (ms ++ message.now ∷ []) (buffered self.old) e) }
     {
         let domain = domain_of(message);
         let room = self.room;
@@ -96,6 +124,12 @@ impl Buffers {
         folder: &mut F,
     ) -> Result<(), SplitFault>
         requires frames { AllByRecursion IsFrame messages }
+        ensures same { SameDomains (buffered self.old) (buffered self.new) }
+        ensures ok { OnOk result ((ms : List (List ℕ)) (before : Option Files) → HoldAll ms before (buffered self.old) (F.files folder.old)
+            → HoldAll (ms ++ messages.entry) before (buffered self.new) (F.files folder.new)) }
+        ensures err { IfErr result (λ e. (ms : List (List ℕ)) (before : Option Files) → HoldAll ms before (buffered self.old) (F.files folder.old)
+            → FrontAll (ms ++ messages.entry) before (buffered self.old) (F.files folder.new)) }
+        ensures fault { IfErr result (λ e. (ms : List (List ℕ)) → AreRefused (ms ++ messages.entry) (buffered self.old) e) }
     {
         for message in messages {
             self.take_message(message, folder)?;
@@ -109,7 +143,17 @@ impl Buffers {
         framer: &mut Framer,
         piece: &[u8],
         folder: &mut F,
-    ) -> Result<(), SplitFault> {
+    ) -> Result<(), SplitFault>
+        ensures same { SameDomains (buffered self.old) (buffered self.new) }
+        ensures ok { OnOk result ((octets : List ℕ) (ms : List (List ℕ)) (before : Option Files) → IsFramed octets ms framer.old
+            → HoldAll ms before (buffered self.old) (F.files folder.old)
+            → (ns : List (List ℕ)) × IsFramed (octets ++ piece.now) ns framer.new × HoldAll ns before (buffered self.new) (F.files folder.new)) }
+        ensures err { IfErr result (λ e. (octets behind : List ℕ) (ms : List (List ℕ)) (before : Option Files) → IsFramed octets ms framer.old
+            → HoldAll ms before (buffered self.old) (F.files folder.old)
+            → FrontAll (frames_of ((octets ++ piece.now) ++ behind)).0 before (buffered self.old) (F.files folder.new)) }
+        ensures fault { IfErr result (λ e. (octets behind : List ℕ) (ms : List (List ℕ)) → IsFramed octets ms framer.old
+            → IsSecondRefused ((octets ++ piece.now) ++ behind) (buffered self.old) e) }
+    {
         let lent = match framer.lend(piece) {
             Ok(lent) => lent,
             Err(fault) => return Err(framing_fault(fault)),
@@ -127,10 +171,19 @@ impl Buffers {
         alloc: Global,
         reader: &mut R,
         folder: &mut F,
-    ) -> Result<(), SplitFault> {
+    ) -> Result<(), SplitFault>
+        ensures same { SameDomains (buffered self.old) (buffered self.new) }
+        ensures ok { OnOk result ((octets : List ℕ) (before : Option Files) → R.left reader.old ≡ Some octets
+            → HoldAll [] before (buffered self.old) (F.files folder.old)
+            → HoldAll (frames_of octets).0 before (buffered self.new) (F.files folder.new)) }
+        ensures err { IfErr result (λ e. (octets : List ℕ) (before : Option Files) → R.left reader.old ≡ Some octets
+            → HoldAll [] before (buffered self.old) (F.files folder.old)
+            → FrontAll (frames_of octets).0 before (buffered self.old) (F.files folder.new)) }
+        ensures fault { IfErr result (λ e. (octets : List ℕ) → R.left reader.old ≡ Some octets → IsSecondRefused octets (buffered self.old) e) }
+    {
         let mut piece = new_piece(alloc, PIECE)?;
         let mut framer = Framer::new(alloc);
-        for _ in 0..u64::MAX {
+        for _turn in 0..u64::MAX {
             match reader.read(piece.as_mut_slice()) {
                 Ok(0) => {
                     return match framer.finish() {
@@ -145,17 +198,40 @@ impl Buffers {
         Err(SplitFault::Read(ReadFault::Turns))
     }
 
+    // Writes what the buffer of a domain holds, where it has one.
+    fn empty_one<F: Folder>(&mut self, domain: u32, folder: &mut F) -> Result<(), SplitFault>
+        ensures same { SameDomains (buffered self.old) (buffered self.new) }
+        ensures ok { OnOk result ((ms : List (List ℕ)) (before : Option Files) → HoldAll ms before (buffered self.old) (F.files folder.old)
+            → HoldAll ms before (buffered self.new) (F.files folder.new)) }
+        ensures empty { OnOk result ((kept : List ℕ) → buffered self.new domain ≡ Some kept → kept ≡ []) }
+        ensures others { (d : ℕ) → (d == domain) ≡ false → buffered self.new d ≡ buffered self.old d }
+        ensures err { IfErr result (λ e. (ms : List (List ℕ)) (before : Option Files) → HoldAll ms before (buffered self.old) (F.files folder.old)
+            → FrontAll ms before (buffered self.old) (F.files folder.new)) }
+        ensures fault { IfErr result (λ e. e ≡ SplitFault.Write) }
+    {
+        if let Some(buffer) = self.buffers.get_mut(&domain) {
+            append_all(domain, buffer.as_slice(), folder)?;
+            buffer.clear();
+        }
+        Ok(())
+    }
+
     // Writes what the buffers of these domains hold.
     pub(crate) fn empty<F: Folder>(
         &mut self,
         domains: &[u32],
         folder: &mut F,
-    ) -> Result<(), SplitFault> {
+    ) -> Result<(), SplitFault>
+        ensures same { SameDomains (buffered self.old) (buffered self.new) }
+        ensures ok { OnOk result ((ms : List (List ℕ)) (before : Option Files) → HoldAll ms before (buffered self.old) (F.files folder.old)
+            → HoldAll ms before (buffered self.new) (F.files folder.new)) }
+        ensures empty { OnOk result ((d : ℕ) (kept : List ℕ) → is_among d domains.now ≡ true → buffered self.new d ≡ Some kept → kept ≡ []) }
+        ensures err { IfErr result (λ e. (ms : List (List ℕ)) (before : Option Files) → HoldAll ms before (buffered self.old) (F.files folder.old)
+            → FrontAll ms before (buffered self.old) (F.files folder.new)) }
+        ensures fault { IfErr result (λ e. e ≡ SplitFault.Write) }
+    {
         for domain in domains {
-            if let Some(buffer) = self.buffers.get_mut(domain) {
-                append_all(*domain, buffer.as_slice(), folder)?;
-                buffer.clear();
-            }
+            self.empty_one(*domain, folder)?;
         }
         Ok(())
     }
