@@ -1,9 +1,10 @@
 //! The second reading of a capture: each message goes to the file of its domain, by a buffer of its own.
-ghost use Rattle.std.specs.Prelude.{◌≡◌, ◌⊎◌, ◌≤◌, ◌++◌, ◌∷◌, [], ℕ, List, Option, Some, None, Ok, ◌==◌, false, true, length, IfOk, IfErr, OnOk};
+ghost use Rattle.std.specs.Prelude.{◌≡◌, ◌⊎◌, ◌≤◌, ◌++◌, ◌∷◌, [], ℕ, List, Option, Some, None, Ok, ◌==◌, false, true, length, IfOk, IfErr, OnOk, IsErrOf, ◌+◌};
 ghost use Rattle.std.specs.List.{AllByRecursion};
 ghost use Rattle.tca_wire.specs.Frames.{IsFrame, frames_of, ending};
 ghost use Rattle.tca_split.specs.Parts.{domain_of};
 ghost use Rattle.tca_split.specs.Surveys.{is_among};
+ghost use Rattle.tca_split.specs.Failures.{CountsWrite, CountsRead, most_turns};
 ghost use Rattle.tca_split.specs.Folders.{Files, Lengthens};
 ghost use Rattle.tca_split.specs.inside.Surveying.{IsFramed};
 ghost use Rattle.tca_split.specs.inside.Buffering.{buffered, empty_for, HoldAll, FrontAll, SameDomains, AreRefused, IsSecondRefused};
@@ -51,6 +52,7 @@ fn make_room<F: Folder>(
     ensures err { IfErr result (λ e. (front : List ℕ) × (rest : List ℕ) × (buffer.old.items ≡ front ++ rest)
         × Lengthens domain front (F.files folder.old) (F.files folder.new)) }
     ensures fault { IfErr result (λ e. e ≡ SplitFault.Write) }
+    ensures count { CountsWrite result (F.failures folder.old) (F.failures folder.new) }
 {
     if more <= room && buffer.len() <= room - more {
         return Ok(());
@@ -73,6 +75,7 @@ fn keep<F: Folder>(
     ensures err { IfErr result (λ e. (front : List ℕ) × (rest : List ℕ) × (buffer.old.items ++ message.now ≡ front ++ rest)
         × Lengthens domain front (F.files folder.old) (F.files folder.new)) }
     ensures fault { IfErr result (λ e. (e ≡ SplitFault.Write) ⊎ (e ≡ SplitFault.Memory)) }
+    ensures count { CountsWrite result (F.failures folder.old) (F.failures folder.new) }
 {
     make_room(domain, buffer, message.len(), room, folder)?;
     if message.len() > room {
@@ -108,6 +111,7 @@ impl Buffers {
         ensures err { IfErr result (λ e. (ms : List (List ℕ)) (before : Option Files) → HoldAll ms before (buffered self.old) (F.files folder.old)
             → FrontAll (ms ++ message.now ∷ []) before (buffered self.old) (F.files folder.new)) }
         ensures fault { IfErr result (λ e. (ms : List (List ℕ)) → AreRefused (ms ++ message.now ∷ []) (buffered self.old) e) }
+        ensures count { CountsWrite result (F.failures folder.old) (F.failures folder.new) }
     {
         let domain = domain_of(message);
         let room = self.room;
@@ -130,6 +134,7 @@ impl Buffers {
         ensures err { IfErr result (λ e. (ms : List (List ℕ)) (before : Option Files) → HoldAll ms before (buffered self.old) (F.files folder.old)
             → FrontAll (ms ++ messages.entry) before (buffered self.old) (F.files folder.new)) }
         ensures fault { IfErr result (λ e. (ms : List (List ℕ)) → AreRefused (ms ++ messages.entry) (buffered self.old) e) }
+        ensures count { CountsWrite result (F.failures folder.old) (F.failures folder.new) }
     {
         for message in messages {
             self.take_message(message, folder)?;
@@ -152,6 +157,7 @@ impl Buffers {
             → HoldAll ms before (buffered self.old) (F.files folder.old)
             → FrontAll (frames_of ((octets ++ piece.now) ++ behind)).0 before (buffered self.old) (F.files folder.new)) }
         ensures fault { IfErr result (λ e. (octets behind : List ℕ) (ms : List (List ℕ)) → IsFramed octets ms framer.old
+        ensures count { CountsWrite result (F.failures folder.old) (F.failures folder.new) }
             → IsSecondRefused ((octets ++ piece.now) ++ behind) (buffered self.old) e) }
     {
         let lent = match framer.lend(piece) {
@@ -180,6 +186,9 @@ impl Buffers {
             → HoldAll [] before (buffered self.old) (F.files folder.old)
             → FrontAll (frames_of octets).0 before (buffered self.old) (F.files folder.new)) }
         ensures fault { IfErr result (λ e. (octets : List ℕ) → R.left reader.old ≡ Some octets → IsSecondRefused octets (buffered self.old) e) }
+        ensures count { CountsWrite result (F.failures folder.old) (F.failures folder.new) }
+        ensures read { CountsRead result (R.failures reader.old) (R.failures reader.new) }
+        ensures turns { IsErrOf result (SplitFault.Read ReadFault.Turns) → R.reads reader.new ≡ R.reads reader.old + most_turns }
     {
         let mut piece = new_piece(alloc, PIECE)?;
         let mut framer = Framer::new(alloc);
@@ -208,6 +217,7 @@ impl Buffers {
         ensures err { IfErr result (λ e. (ms : List (List ℕ)) (before : Option Files) → HoldAll ms before (buffered self.old) (F.files folder.old)
             → FrontAll ms before (buffered self.old) (F.files folder.new)) }
         ensures fault { IfErr result (λ e. e ≡ SplitFault.Write) }
+        ensures count { CountsWrite result (F.failures folder.old) (F.failures folder.new) }
     {
         if let Some(buffer) = self.buffers.get_mut(&domain) {
             append_all(domain, buffer.as_slice(), folder)?;
@@ -229,6 +239,7 @@ impl Buffers {
         ensures err { IfErr result (λ e. (ms : List (List ℕ)) (before : Option Files) → HoldAll ms before (buffered self.old) (F.files folder.old)
             → FrontAll ms before (buffered self.old) (F.files folder.new)) }
         ensures fault { IfErr result (λ e. e ≡ SplitFault.Write) }
+        ensures count { CountsWrite result (F.failures folder.old) (F.failures folder.new) }
     {
         for domain in domains {
             self.empty_one(*domain, folder)?;

@@ -1,6 +1,7 @@
 //! A folder with a file for each observation domain, and a count of the calls that failed.
 ghost use Rattle.std.specs.Prelude.{◌≡◌, ◌≢◌, ◌⊎◌, ◌<◌, ◌≤◌, ◌++◌, ℕ, true, List, Option, Some, None, IfOk, IfErr, OnOk, OnErr, length, take, is_some};
 ghost use Rattle.tca_report.specs.device.Devices.{CountsFailure};
+ghost use Rattle.tca_split.specs.Failures.{CountsWrite};
 ghost use Rattle.tca_split.specs.Folders.{Files, Makes, Creates, Lengthens};
 ghost use Rattle.tca_split.specs.Surveys.{is_among};
 
@@ -47,7 +48,7 @@ pub(crate) fn append_all<F: Folder>(
     ensures part { IfErr result (λ e. (front : List ℕ) × (rest : List ℕ) × (octets.now ≡ front ++ rest)
         × Lengthens domain front (F.files folder.old) (F.files folder.new)) }
     ensures fault { IfErr result (λ e. e ≡ SplitFault.Write) }
-    ensures count { CountsFailure result (F.failures folder.old) (F.failures folder.new) }
+    ensures count { CountsWrite result (F.failures folder.old) (F.failures folder.new) }
 {
     let mut done = 0;
     while done < octets.len() {
@@ -66,6 +67,7 @@ pub(crate) fn check_free<F: Folder>(domains: &[u32], folder: &mut F) -> Result<(
     ensures exists { IfErr result (λ e. e ≡ SplitFault.Exists → (all : Files) → F.files folder.old ≡ Some all
         → (d : ℕ) × (is_among d domains.now ≡ true) × (all d ≢ None)) }
     ensures fault { IfErr result (λ e. (e ≡ SplitFault.Exists) ⊎ (e ≡ SplitFault.Write)) }
+    ensures count { CountsWrite result (F.failures folder.old) (F.failures folder.new) }
 {
     for domain in domains {
         match folder.has(*domain) {
@@ -83,6 +85,7 @@ pub(crate) fn create_all<F: Folder>(domains: &[u32], folder: &mut F) -> Result<(
     ensures part { IfErr result (λ e. (some : List ℕ) × (rest : List ℕ) × (domains.now ≡ some ++ rest)
         × Creates some (F.files folder.old) (F.files folder.new)) }
     ensures fault { IfErr result (λ e. e ≡ SplitFault.Write) }
+    ensures count { CountsWrite result (F.failures folder.old) (F.failures folder.new) }
 {
     for domain in domains {
         if folder.create(*domain).is_err() {

@@ -3,6 +3,7 @@
 use Rattle.std.specs.Prelude.{◌≡◌, ℕ, ⊤, false, true, List, [], ◌++◌, Option, Some, None, Err, option_map, nat_eq, is_some, if◌then◌else◌}
 use Rattle.std.specs.List.{concat}
 use Rattle.indexmap.specs.IndexMap.{get}
+use Rattle.tca_report.specs.declared.device.octets.ReadFault.TheVariants as read
 use Rattle.tca_wire.specs.Frames.{frames_of, ending}
 use Rattle.tca_split.specs.Parts.{domains_of, messages_of}
 use Rattle.tca_split.specs.Surveys.{is_among}
@@ -56,7 +57,9 @@ AreRefused messages kept Memory = ⊤
 
 -- why a second reading of these octets ends early
 abbrev pub IsSecondRefused : List ℕ → (ℕ → Option (List ℕ)) → SplitFault → Type 0
-IsSecondRefused octets kept (Read fault) = ⊤
+IsSecondRefused octets kept (Read read.Read) = ⊤
+IsSecondRefused octets kept (Read read.Turns) = ⊤
+IsSecondRefused octets kept (Read read.Memory) = ⊥
 IsSecondRefused octets kept (Wire fault) = ending (frames_of octets).1 ≡ Err fault
 IsSecondRefused octets kept Limits = ⊥
 IsSecondRefused octets kept Exists = ⊥

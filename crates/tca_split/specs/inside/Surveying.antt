@@ -1,6 +1,7 @@
 -- What has come of a first reading so far. Cited inside this crate alone.
 use Rattle.std.specs.Prelude.{◌≡◌, ◌≤◌, ◌<◌, ℕ, ⊤, List, length, Err}
 use Rattle.tca_wire.specs.Frames.{Framing, Holds, IsStream}
+use Rattle.tca_report.specs.declared.device.octets.ReadFault.TheVariants as read
 use Rattle.tca_split.specs.Parts.{domains_of}
 use Rattle.tca_split.specs.Surveys.{most_domains, surveyed, as_u64}
 use Rattle.tca_split.specs.declared.survey.Survey.{Survey}
@@ -31,7 +32,9 @@ AreTooMany messages Memory = ⊤
 
 -- why a first reading of these octets ends early
 abbrev pub IsFirstRefused : List ℕ → SplitFault → Type 0
-IsFirstRefused octets (Read fault) = ⊤
+IsFirstRefused octets (Read read.Read) = ⊤
+IsFirstRefused octets (Read read.Turns) = ⊤
+IsFirstRefused octets (Read read.Memory) = ⊥
 IsFirstRefused octets (Wire fault) = surveyed octets ≡ Err (Wire fault)
 IsFirstRefused octets Limits = surveyed octets ≡ Err Limits
 IsFirstRefused octets Exists = ⊥
