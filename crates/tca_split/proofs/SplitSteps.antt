@@ -7,7 +7,7 @@ use Rattle.tca_wire.specs.declared.fault.WireFault.{WireFault}
 use Rattle.tca_split.specs.Parts.{domains_of, messages_of, part_of}
 use Rattle.tca_split.specs.Surveys.{is_among, surveyed, as_u64}
 use Rattle.tca_split.specs.Folders.{Files, CreatesOne, Creates}
-use Rattle.tca_split.specs.Splits.{has_part, split_file, IsBegun, AreBegun}
+use Rattle.tca_split.specs.Splits.{has_part, split_file, IsFree, AreSplit, IsBegun, AreBegun}
 use Rattle.tca_split.specs.inside.Buffering.{empty_for, HoldsPart, HoldAll, HasFront, FrontAll, SameDomains}
 
 -- new files and empty buffers hold no message
@@ -30,35 +30,35 @@ some_empty : (b : Bool) → is_some (cond b (Some {T = List ℕ} []) None) ≡ b
 some_empty true = refl
 some_empty false = refl
 
--- at the end each file has its domain's messages
-pub ends : (octets : List ℕ) (k : ℕ → Option (List ℕ)) (fs gs : Files) → ((d : ℕ) → is_some (k d) ≡ has_part octets d) → ((d : ℕ) (l : List ℕ) → has_part octets d ≡ true → k d ≡ Some l → l ≡ [])
-    → HoldAll (frames_of octets).0 (Some fs) k (Some gs) → (d : ℕ) → gs d ≡ split_file octets fs d
-ends octets k fs gs some none h d = end_one (messages_of d (frames_of octets).0) (has_part octets d) (fs d) (gs d) (k d) (some d) (none d) (h d)
-
 pub some_of : (ds : List ℕ) (k l : ℕ → Option (List ℕ)) → ((d : ℕ) → k d ≡ empty_for ds d) → SameDomains k l → (d : ℕ) → is_some (l d) ≡ is_among d ds
 some_of ds k l e same d = same d ∙ ap is_some (e d) ∙ some_empty (is_among d ds)
 
-free_one : (b : Bool) (before made : Option (List ℕ)) → CreatesOne b before made → b ≡ true → before ≡ None
-free_one true before made c e = c.0
-free_one false before made c e = absurd cc
+-- at the end each file has its domain's messages
+pub all_split : (octets ds : List ℕ) (k : ℕ → Option (List ℕ)) (fs : Files) (y : Option Files) → ds ≡ domains_of (frames_of octets).0 → ((d : ℕ) → is_some (k d) ≡ is_among d ds)
+    → ((d : ℕ) (l : List ℕ) → is_among d ds ≡ true → k d ≡ Some l → l ≡ []) → HoldAll (frames_of octets).0 (Some fs) k y → AreSplit octets fs y
+all_split octets ds k fs None own some none h = absurd h
+all_split octets ds k fs (Some gs) own some none h = (
+  gs,
+  refl,
+  λ d. end_one (messages_of d (frames_of octets).0) (has_part octets d) (fs d) (gs d) (k d) (some d ∙ ap (is_among d) own) (λ l p. none d l (ap (is_among d) own ∙ p)) (h d),
+)
 
-pub was_free : (octets : List ℕ) (fs : Files) (x : Option Files) → Creates (domains_of (frames_of octets).0) (Some fs) x → (d : ℕ) → has_part octets d ≡ true → fs d ≡ None
-was_free octets fs None c = absurd c
-was_free octets fs (Some gs) c = λ d e. free_one (has_part octets d) (fs d) (gs d) (c d) e
-
-begun_one : (ms : List (List ℕ)) (b : Bool) (before made now kept : Option (List ℕ)) → is_some kept ≡ b → CreatesOne b before made → HasFront ms before kept now
+begun_one : (ms : List (List ℕ)) (b : Bool) (before now kept : Option (List ℕ)) → is_some kept ≡ b → (b ≡ true → before ≡ None) → HasFront ms before kept now
     → (now ≡ before) ⊎ ((b ≡ true) × (before ≡ None) × (front : List ℕ) × (rest : List ℕ) × (now ≡ Some front) × (concat ms ≡ front ++ rest))
-begun_one ms true before made now None e c h = absurd cc
-begun_one ms true before made now (Some l) e c h = inr (refl, c.0, h.0, h.1, h.2, h.3)
-begun_one ms false before made now None e c h = inl h
-begun_one ms false before made now (Some l) e c h = absurd cc
+begun_one ms true before now None e free h = absurd cc
+begun_one ms true before now (Some l) e free h = inr (refl, free refl, h.0, h.1, h.2, h.3)
+begun_one ms false before now None e free h = inl h
+begun_one ms false before now (Some l) e free h = absurd cc
 
 -- where the writing stopped
-pub stopped : (octets : List ℕ) (k : ℕ → Option (List ℕ)) (fs : Files) (x y : Option Files) → ((d : ℕ) → is_some (k d) ≡ has_part octets d) → Creates (domains_of (frames_of octets).0) (Some fs) x
+pub stopped : (octets ds : List ℕ) (k : ℕ → Option (List ℕ)) (fs : Files) (y : Option Files) → ds ≡ domains_of (frames_of octets).0 → ((d : ℕ) → is_some (k d) ≡ is_among d ds) → IsFree octets fs
     → FrontAll (frames_of octets).0 (Some fs) k y → AreBegun octets fs y
-stopped octets k fs None y some c h = absurd c
-stopped octets k fs (Some ms) None some c h = absurd h
-stopped octets k fs (Some ms) (Some gs) some c h = inr (gs, refl, was_free octets fs (Some ms) c, λ d. begun_one (messages_of d (frames_of octets).0) (has_part octets d) (fs d) (ms d) (gs d) (k d) (some d) (c d) (h d))
+stopped octets ds k fs None own some free h = absurd h
+stopped octets ds k fs (Some gs) own some free h = (
+  gs,
+  refl,
+  λ d. begun_one (messages_of d (frames_of octets).0) (has_part octets d) (fs d) (gs d) (k d) (some d ∙ ap (is_among d) own) (free d) (h d),
+)
 
 front_among : (ds es : List ℕ) (d : ℕ) → is_among d ds ≡ true → is_among d (ds ++ es) ≡ true
 front_among [] es d e = absurd cc
@@ -73,8 +73,11 @@ made_one octets d true before now has c = inr (has refl, c.0, [], part_of d octe
 made_one octets d false before now has c = inl c
 
 -- where the making of files stopped
-pub making_stopped : (octets : List ℕ) (fs : Files) (some rest : List ℕ) (y : Option Files) → ((d : ℕ) → has_part octets d ≡ true → fs d ≡ None) → domains_of (frames_of octets).0 ≡ some ++ rest → Creates some (Some fs) y
-    → AreBegun octets fs y
-making_stopped octets fs some rest None free e c = absurd c
-making_stopped octets fs some rest (Some gs) free e c =
-    inr (gs, refl, free, λ d. made_one octets d (is_among d some) (fs d) (gs d) (λ p. ap (is_among d) e ∙ front_among some rest d p) (c d))
+pub making_stopped : (octets ds : List ℕ) (fs : Files) (some rest : List ℕ) (y : Option Files) → ds ≡ domains_of (frames_of octets).0 → ds ≡ some ++ rest → Creates some (Some fs) y → AreBegun octets fs y
+making_stopped octets ds fs some rest None own e c = absurd c
+making_stopped octets ds fs some rest (Some gs) own e c =
+    (gs, refl, λ d. made_one octets d (is_among d some) (fs d) (gs d) (λ p. ap (is_among d) (sym own ∙ e) ∙ front_among some rest d p) (c d))
+
+-- where nothing was made
+pub untouched : (octets : List ℕ) (fs : Files) (y : Option Files) → y ≡ Some fs → AreBegun octets fs y
+untouched octets fs y e = (fs, e, λ d. inl refl)

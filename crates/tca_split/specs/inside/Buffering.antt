@@ -66,3 +66,15 @@ IsSecondRefused octets kept Exists = ⊥
 IsSecondRefused octets kept Changed = (d : ℕ) × (is_among d (domains_of (frames_of octets).0) ≡ true) × (is_some (kept d) ≡ false)
 IsSecondRefused octets kept Write = ⊤
 IsSecondRefused octets kept Memory = ⊤
+
+-- why the writing of a capture's parts ends early, where its domains are right
+abbrev pub IsWritingRefused : List ℕ → SplitFault → Type 0
+IsWritingRefused octets (Read read.Read) = ⊤
+IsWritingRefused octets (Read read.Turns) = ⊤
+IsWritingRefused octets (Read read.Memory) = ⊥
+IsWritingRefused octets (Wire fault) = ending (frames_of octets).1 ≡ Err fault
+IsWritingRefused octets Limits = ⊥
+IsWritingRefused octets Exists = ⊥
+IsWritingRefused octets Changed = ⊥
+IsWritingRefused octets Write = ⊤
+IsWritingRefused octets Memory = ⊤
