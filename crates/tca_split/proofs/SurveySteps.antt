@@ -67,7 +67,7 @@ surveyed_many octets ms after s many =
 
 -- messages of too many domains, whatever is behind them
 pub refused_within : (octets behind : List ℕ) (ms : List (List ℕ)) (after : Framing) (e : SplitFault) → IsStream octets ms after → AreTooMany ms e → IsFirstRefused (octets ++ behind) e
-refused_within octets behind ms after (Read fault) s h = tt
+refused_within octets behind ms after (Read fault) s h = absurd h
 refused_within octets behind ms after (Wire fault) s h = absurd h
 refused_within octets behind ms after Limits s h =
     let l = in_longer octets behind ms after s in
