@@ -7,7 +7,7 @@ use Rattle.tca_split.proofs.ReadSteps.{read_on, read_end}
 use Rattle.tca_split.proofs.survey.first_reading.Goals as goal
 
 pub loop-_turn-init : goal.loop-_turn-init
-loop-_turn-init g c = record {
-  room = c.in_ok-piece.ensures;
-  so_far = λ octets e. ([], octets, [], refl, e, subst (λ x. IsFramed [] [] x) (sym c.new.ensures) framed_none, c.new-2.ensures);
-}
+loop-_turn-init g c = ?
+
+pub loop-_turn-preserved : goal.loop-_turn-preserved
+loop-_turn-preserved g c = ?
