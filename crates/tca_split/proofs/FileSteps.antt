@@ -3,11 +3,11 @@ use Rattle.std.proofs.Common.{◌≡◌, ℕ, ◌+◌, false, List, [], ◌++◌
 use Rattle.std.specs.Prelude.{◌==◌, option_map}
 use Rattle.tca_split.specs.Folders.{Files, Lengthens}
 
-longer : (a b : List ℕ) (o : Option (List ℕ)) → option_map (λ xs. xs ++ b) (option_map (λ xs. xs ++ a) o) ≡ option_map (λ xs. xs ++ (a ++ b)) o
+pub longer : (a b : List ℕ) (o : Option (List ℕ)) → option_map (λ xs. xs ++ b) (option_map (λ xs. xs ++ a) o) ≡ option_map (λ xs. xs ++ (a ++ b)) o
 longer a b None = refl
 longer a b (Some xs) = ap (λ (l : List ℕ). Some l) (append_assoc xs a b)
 
-same_length : (o : Option (List ℕ)) → o ≡ option_map (λ xs. xs ++ []) o
+pub same_length : (o : Option (List ℕ)) → o ≡ option_map (λ xs. xs ++ []) o
 same_length None = refl
 same_length (Some xs) = ap (λ (l : List ℕ). Some l) (sym (append-nil xs))
 

@@ -10,4 +10,4 @@ pub mod BufferSteps
 pub mod SurveySteps
 pub mod ReadSteps
 pub mod CreateSteps
-pub mod SplitSteps
+pub mod Endings
