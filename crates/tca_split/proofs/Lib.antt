@@ -11,3 +11,4 @@ pub mod SurveySteps
 pub mod ReadSteps
 pub mod CreateSteps
 pub mod Endings
+pub mod Refusals

@@ -1,19 +1,22 @@
 -- A first reading, message by message and piece by piece.
-use Rattle.std.proofs.Common.{◌≡◌, ℕ, ◌+◌, ◌-◌, ◌^◌, ◌<◌, ◌≤◌, Bool, true, false, cond, List, [], ◌∷◌, ◌++◌, length, Some, None, Result, Ok, Err, refl, sym, ap, ap₂, subst, ◌∙◌, arith, append-nil, inl}
+use Rattle.std.proofs.Common.{◌≡◌, ℕ, ◌+◌, ◌-◌, ◌^◌, ◌<◌, ◌≤◌, Bool, true, false, cond, List, [], ◌∷◌, ◌++◌, length, Some, None, Result, Ok, Err, refl, sym, ap, ap₂, subst, ◌∙◌, arith, append-nil, ◌⊎◌, inl, inr}
 use Rattle.std.specs.Prelude.{nat_lt, nat_eq, min}
 use Rattle.std.proofs.lemmas.Bool.Decides.{nat_tests}
 use Rattle.std.proofs.lemmas.List.{length-append}
 use Rattle.indexmap.specs.IndexSet.{insert_key}
-use Rattle.tca_wire.specs.Frames.{Framing, Holds, Failed, IsStream, Feeds, fault_of, ending, frames_of}
+use Rattle.tca_wire.specs.Frames.{Framing, Holds, Failed, IsStream, Feeds, HoldsPart, fault_of, ending, frames_of}
 use Rattle.tca_wire.specs.declared.fault.WireFault.{WireFault}
 use Rattle.tca_wire.specs.declared.fault.WireFault.TheVariants as wire
 use Rattle.tca_wire.proofs.Framings.{joined}
-use Rattle.tca_wire.proofs.FramesOf.{frames_are}
+use Rattle.tca_wire.proofs.FramesOf.{frames_are, is_stream}
 use Rattle.tca_report.proofs.lemmas.input.CaptureParts.{fails_on, in_longer}
 use Rattle.tca_split.specs.Parts.{domain_of, domains_of}
 use Rattle.tca_split.specs.Surveys.{most_domains, surveyed, surveyed_as, unless_cut, as_u64}
 use Rattle.tca_split.specs.Faults.{framing_fault}
-use Rattle.tca_split.specs.inside.Surveying.{Surveys, IsFramed, AreTooMany, IsFirstRefused}
+use Rattle.tca_split.specs.inside.Surveying.{Surveys, IsFramed, AreTooMany, IsFirstRefused, IsOfFraming}
+use Rattle.tca_split.specs.Failures.{CountsReadFault}
+use Rattle.tca_split.specs.Wants.{BringMore}
+use Rattle.tca_report.specs.declared.device.octets.ReadFault.TheVariants as read
 use Rattle.tca_split.specs.declared.survey.Survey.{Survey}
 use Rattle.tca_split.specs.declared.fault.SplitFault.{SplitFault}
 use Rattle.tca_split.specs.declared.fault.SplitFault.TheVariants.{Read, Wire, Limits, Exists, Changed, Write, Memory}
@@ -119,3 +122,82 @@ ended_surveys octets ms framer s f h e =
 -- no octets
 pub framed_none : IsFramed [] [] (Holds [])
 framed_none = record { held = []; stream = record { rest = []; whole = refl; each = tt; ends = (refl, inl (omega arith)) }; holds = refl }
+
+pub framing_kind : (fault : WireFault) → IsOfFraming (framing_fault fault)
+framing_kind wire.Memory = tt
+framing_kind wire.Short = tt
+framing_kind (wire.BadVersion v) = tt
+framing_kind (wire.BadLength n) = tt
+framing_kind (wire.SetLength at) = tt
+framing_kind (wire.SetPastEnd at) = tt
+framing_kind (wire.Trailing at) = tt
+
+-- a fault of the octets is no failed read
+pub calm_kind : (e : SplitFault) (old new : ℕ) → IsOfFraming e → new ≡ old → CountsReadFault e old new
+calm_kind (Read read.Read) old new h e = absurd h
+calm_kind (Read read.Turns) old new h e = e
+calm_kind (Read read.Memory) old new h e = e
+calm_kind (Wire fault) old new h e = e
+calm_kind Limits old new h e = e
+calm_kind Exists old new h e = e
+calm_kind Changed old new h e = e
+calm_kind Write old new h e = e
+calm_kind Memory old new h e = e
+
+pub not_turns : (e : SplitFault) → IsOfFraming e → e ≡ Read read.Turns → ⊥
+not_turns e h is = subst (λ (f : SplitFault). IsOfFraming f) is h
+
+want_of_memory : (fault : WireFault) → framing_fault fault ≡ Memory → fault ≡ wire.Memory
+want_of_memory wire.Memory e = refl
+want_of_memory wire.Short e = absurd cc
+want_of_memory (wire.BadVersion v) e = absurd cc
+want_of_memory (wire.BadLength n) e = absurd cc
+want_of_memory (wire.SetLength at) e = absurd cc
+want_of_memory (wire.SetPastEnd at) e = absurd cc
+want_of_memory (wire.Trailing at) e = absurd cc
+
+-- the fault of a header is no want of memory
+pub header_fault : (octets : List ℕ) (ms : List (List ℕ)) (fault : WireFault) → IsStream octets ms (Failed fault) → framing_fault fault ≡ Memory → ⊥
+header_fault octets ms fault s e = (subst (λ (f : WireFault). IsStream octets ms (Failed f)) (want_of_memory fault e) s).ends
+
+end_fault : (held : List ℕ) → ending (Holds held) ≡ Err wire.Memory → ⊥
+end_fault [] e = absurd cc
+end_fault (b ∷ bs) e = absurd cc
+
+-- nor is that of an end within a message
+pub cut_fault : (octets : List ℕ) (ms : List (List ℕ)) (framer : Framing) (fault : WireFault) → IsFramed octets ms framer → ending framer ≡ Err fault → framing_fault fault ≡ Memory → ⊥
+cut_fault octets ms framer fault f e is =
+    end_fault f.held (ap ending (sym f.holds) ∙ e ∙ ap (λ (x : WireFault). Err x) (want_of_memory fault is))
+
+-- a piece gives some messages
+pub some_feed : (octets piece : List ℕ) (ms : List (List ℕ)) (framer : Framing) → IsFramed octets ms framer → (ns : List (List ℕ)) × (after : Framing) × Feeds framer piece ns after
+some_feed octets piece ms framer f = (
+  (frames_of (f.held ++ piece)).0,
+  (frames_of (f.held ++ piece)).1,
+  subst (λ x. Feeds x piece (frames_of (f.held ++ piece)).0 (frames_of (f.held ++ piece)).1) (sym f.holds) (is_stream (f.held ++ piece)),
+)
+
+-- a piece that brings memory to be wanted
+pub brought_by : (octets piece : List ℕ) (ms ns : List (List ℕ)) (framer after : Framing) → IsFramed octets ms framer → Feeds framer piece ns after → (0 < length ns) ⊎ HoldsPart after → BringMore octets piece
+brought_by octets piece ms ns framer after f feeds why = go why
+  where
+    front : (frames_of octets).0 ≡ ms × ((frames_of octets).1 ≡ framer)
+    front = framed_whole octets ms framer f
+
+    both : (frames_of (octets ++ piece)).0 ≡ (ms ++ ns) × ((frames_of (octets ++ piece)).1 ≡ after)
+    both = frames_are (octets ++ piece) (ms ++ ns) after (fed octets piece ms ns framer after f feeds)
+
+    go : (0 < length ns) ⊎ HoldsPart after → BringMore octets piece
+    go (inl some) = inl (omega (arith, some, ap (λ (l : List (List ℕ)). length l) front.0, ap (λ (l : List (List ℕ)). length l) both.0, length-append ms ns))
+    go (inr part) = inr (subst (λ x. HoldsPart x) (sym both.1) part)
+
+-- memory that a framer wants
+pub wanted_by : (octets piece : List ℕ) (ms : List (List ℕ)) (framer : Framing) → IsFramed octets ms framer
+    → ((frames : List (List ℕ)) (after : Framing) → Feeds framer piece frames after → (HoldsPart framer × (0 < length frames)) ⊎ HoldsPart after) → BringMore octets piece
+wanted_by octets piece ms framer f needed =
+    let feed = some_feed octets piece ms framer f in
+    go feed.0 feed.1 feed.2 (needed feed.0 feed.1 feed.2)
+  where
+    go : (ns : List (List ℕ)) (after : Framing) → Feeds framer piece ns after → (HoldsPart framer × (0 < length ns)) ⊎ HoldsPart after → BringMore octets piece
+    go ns after feeds (inl both) = brought_by octets piece ms ns framer after f feeds (inl both.1)
+    go ns after feeds (inr part) = brought_by octets piece ms ns framer after f feeds (inr part)

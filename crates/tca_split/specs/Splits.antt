@@ -22,6 +22,10 @@ IsFree octets files = (domain : ℕ) → has_part octets domain ≡ true → fil
 abbrev pub split_file : List ℕ → Files → ℕ → Option (List ℕ)
 split_file octets files domain = if has_part octets domain then Some (part_of domain octets) else files domain
 
+-- each file is as splitting leaves it
+abbrev pub AreSplit : List ℕ → Files → Option Files → Type 0
+AreSplit octets before after = (files : Files) × (after ≡ Some files) × ((domain : ℕ) → files domain ≡ split_file octets before domain)
+
 -- The capture is split: for each domain of a message there was no file, and now there is one with just the domain's messages, in their
 -- order. No other file has changed.
 pub record IsSplit (octets : List ℕ) (before : Files) (after : Option Files) (parts : Parts) : Type 0 where
@@ -29,9 +33,7 @@ pub record IsSplit (octets : List ℕ) (before : Files) (after : Option Files) (
   pub domains : parts.domains ≡ length (domains_of (frames_of octets).0)
   pub messages : parts.messages ≡ as_u64 (length (frames_of octets).0)
   pub free : IsFree octets before
-  pub files : Files
-  pub known : after ≡ Some files
-  pub written : (domain : ℕ) → files domain ≡ split_file octets before domain
+  pub written : AreSplit octets before after
 
 -- A file where the writing stopped: as it was, or made for a domain of the capture, with octets from the front of the domain's part.
 abbrev pub IsBegun : List ℕ → ℕ → Option (List ℕ) → Option (List ℕ) → Type 0

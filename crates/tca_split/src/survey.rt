@@ -1,9 +1,11 @@
 //! The first reading of a capture: which observation domains it has messages of, and whether its framing is right.
-ghost use Rattle.std.specs.Prelude.{◌≡◌, ◌≤◌, ◌++◌, ◌∷◌, [], ℕ, List, Some, Ok, length, IfOk, IfErr};
+ghost use Rattle.std.specs.Prelude.{◌≡◌, ◌⊎◌, ◌<◌, ◌≤◌, ◌+◌, ◌++◌, ◌∷◌, [], ℕ, List, Some, Ok, length, IfOk, IfErr, OnErr, IsErrOf};
 ghost use Rattle.std.specs.List.{AllByRecursion};
 ghost use Rattle.tca_wire.specs.Frames.{IsFrame, frames_of, ending};
 ghost use Rattle.tca_split.specs.Parts.{domain_of};
-ghost use Rattle.tca_split.specs.inside.Surveying.{Surveys, IsFramed, AreTooMany, IsFirstRefused};
+ghost use Rattle.tca_split.specs.Failures.{CountsRead, most_turns};
+ghost use Rattle.tca_split.specs.Wants.{BringMore, WantsMemory};
+ghost use Rattle.tca_split.specs.inside.Surveying.{Surveys, IsFramed, AreTooMany, IsFirstRefused, IsOfFraming, IsOfReading};
 
 use crate::fault::{SplitFault, framing_fault};
 use byteorder::{BigEndian, ByteOrder};
@@ -58,6 +60,7 @@ impl Survey {
         requires { 16 ≤ length message.now }
         ensures ok { (ms : List (List ℕ)) → Surveys ms self → IfOk result (Surveys (ms ++ message.now ∷ [])) }
         ensures err { (ms : List (List ℕ)) → Surveys ms self → IfErr result (AreTooMany (ms ++ message.now ∷ [])) }
+        ensures kind { IfErr result IsOfFraming }
     {
         let domain = domain_of(message);
         let mut domains = self.domains;
@@ -74,6 +77,8 @@ impl Survey {
         requires frames { AllByRecursion IsFrame messages }
         ensures ok { (ms : List (List ℕ)) → Surveys ms self → IfOk result (Surveys (ms ++ messages.entry)) }
         ensures err { (ms : List (List ℕ)) → Surveys ms self → IfErr result (AreTooMany (ms ++ messages.entry)) }
+        ensures kind { IfErr result IsOfFraming }
+        ensures some { OnErr result (0 < length messages.entry) }
     {
         let mut survey = self;
         for message in messages {
@@ -88,6 +93,9 @@ impl Survey {
             → IfOk result (λ s. (ns : List (List ℕ)) × IsFramed (octets ++ piece.now) ns framer.new × Surveys ns s) }
         ensures err { (octets behind : List ℕ) (ms : List (List ℕ)) → IsFramed octets ms framer.old → Surveys ms self
             → IfErr result (IsFirstRefused ((octets ++ piece.now) ++ behind)) }
+        ensures kind { IfErr result IsOfFraming }
+        ensures memory { IsErrOf result SplitFault.Memory → (octets : List ℕ) (ms : List (List ℕ)) → IsFramed octets ms framer.old
+            → BringMore octets piece.now }
     {
         let lent = match framer.lend(piece) {
             Ok(lent) => lent,
@@ -106,6 +114,11 @@ pub(crate) fn first_reading<R: Read>(alloc: Global, reader: &mut R) -> Result<Su
     ensures ok { (octets : List ℕ) → R.left reader.old ≡ Some octets
         → IfOk result (λ s. Surveys (frames_of octets).0 s × (ending (frames_of octets).1 ≡ Ok tt)) }
     ensures err { (octets : List ℕ) → R.left reader.old ≡ Some octets → IfErr result (IsFirstRefused octets) }
+    ensures kind { IfErr result IsOfReading }
+    ensures memory { IsErrOf result SplitFault.Memory → (octets : List ℕ) → R.left reader.old ≡ Some octets
+        → (R.reads reader.new ≡ R.reads reader.old) ⊎ WantsMemory octets (R.left reader.new) }
+    ensures read { CountsRead result (R.failures reader.old) (R.failures reader.new) }
+    ensures turns { IsErrOf result (SplitFault.Read ReadFault.Turns) → R.reads reader.new ≡ R.reads reader.old + most_turns }
 {
     let mut piece = new_piece(alloc, PIECE)?;
     let mut framer = Framer::new(alloc);

@@ -135,3 +135,15 @@ IsSecondRefused octets kept Exists = ⊥
 IsSecondRefused octets kept Changed = HasStranger (frames_of octets).0 kept
 IsSecondRefused octets kept Write = ⊤
 IsSecondRefused octets kept Memory = ⊤
+
+-- why the writing of a capture's parts ends early, where its domains are right
+abbrev pub IsWritingRefused : List ℕ → SplitFault → Type 0
+IsWritingRefused octets (Read read.Read) = ⊤
+IsWritingRefused octets (Read read.Turns) = ⊤
+IsWritingRefused octets (Read read.Memory) = ⊥
+IsWritingRefused octets (Wire fault) = ending (frames_of octets).1 ≡ Err fault
+IsWritingRefused octets Limits = ⊥
+IsWritingRefused octets Exists = ⊥
+IsWritingRefused octets Changed = ⊥
+IsWritingRefused octets Write = ⊤
+IsWritingRefused octets Memory = ⊤

@@ -41,3 +41,25 @@ IsFirstRefused octets Exists = ⊥
 IsFirstRefused octets Changed = ⊥
 IsFirstRefused octets Write = ⊥
 IsFirstRefused octets Memory = ⊤
+
+-- a fault of the octets, or want of memory
+abbrev pub IsOfFraming : SplitFault → Type 0
+IsOfFraming (Read fault) = ⊥
+IsOfFraming (Wire fault) = ⊤
+IsOfFraming Limits = ⊤
+IsOfFraming Exists = ⊥
+IsOfFraming Changed = ⊥
+IsOfFraming Write = ⊥
+IsOfFraming Memory = ⊤
+
+-- that, or a reading that failed or didn't end
+abbrev pub IsOfReading : SplitFault → Type 0
+IsOfReading (Read read.Read) = ⊤
+IsOfReading (Read read.Turns) = ⊤
+IsOfReading (Read read.Memory) = ⊥
+IsOfReading (Wire fault) = ⊤
+IsOfReading Limits = ⊤
+IsOfReading Exists = ⊥
+IsOfReading Changed = ⊥
+IsOfReading Write = ⊥
+IsOfReading Memory = ⊤

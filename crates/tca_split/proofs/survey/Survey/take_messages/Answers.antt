@@ -1,6 +1,7 @@
-use Rattle.std.proofs.Common.{◌≡◌, ◌∷◌, [], ◌++◌, ◌∙◌, sym, ap, subst, ℕ, List, append_assoc, append-nil, refl}
+use Rattle.std.proofs.Common.{◌≡◌, ◌∷◌, [], ◌++◌, ◌∙◌, sym, ap, subst, ℕ, List, append_assoc, append-nil, refl, arith, length}
 use Rattle.std.specs.List.{AllByRecursion}
 use Rattle.std.proofs.lemmas.Result.{err_from_is_err_and}
+use Rattle.std.proofs.lemmas.List.{length-append}
 use Rattle.tca_wire.specs.Frames.{IsFrame}
 use Rattle.tca_split.specs.inside.Surveying.{Surveys, AreTooMany}
 use Rattle.tca_split.proofs.SurveySteps.{still_many}
@@ -15,7 +16,7 @@ take_message-requires c =
 pub loop-message-init : goal.loop-message-init
 loop-message-init c = record {
   frames = c.requires.frames;
-  taken = λ ms h. ([], subst (λ (l : List (List ℕ)). Surveys l c.args.self) (sym (append-nil ms)) h, refl);
+  so_far = ([], refl, λ ms h. subst (λ (l : List (List ℕ)). Surveys l c.args.self) (sym (append-nil ms)) h);
 }
 
 pub loop-message-preserved : goal.loop-message-preserved
@@ -24,14 +25,14 @@ loop-message-preserved c =
     let rest = c.next.new.self in
     let parts : c.loop-message.message-iterator ≡ m ∷ rest = c.in-Some.ensures.steps in
     let frames = subst (λ (l : List (List ℕ)). AllByRecursion IsFrame l) parts c.loop-message.invariant.frames in
+    let t = c.loop-message.invariant.so_far in
     record {
       frames = frames.1;
-      taken = λ ms h.
-          let t = c.loop-message.invariant.taken ms h in (
-            t.0 ++ m ∷ [],
-            subst (λ (l : List (List ℕ)). Surveys l c.in_ok-survey.survey) (append_assoc ms t.0 (m ∷ [])) (c.in_ok-survey.ensures.ok (ms ++ t.0) t.1),
-            t.2 ∙ ap (λ (l : List (List ℕ)). t.0 ++ l) parts ∙ sym (append_assoc t.0 (m ∷ []) rest),
-          );
+      so_far = (
+        t.0 ++ m ∷ [],
+        t.1 ∙ ap (λ (l : List (List ℕ)). t.0 ++ l) parts ∙ sym (append_assoc t.0 (m ∷ []) rest),
+        λ ms h. subst (λ (l : List (List ℕ)). Surveys l c.in_ok-survey.survey) (append_assoc ms t.0 (m ∷ [])) (c.in_ok-survey.ensures.ok (ms ++ t.0) (t.2 ms h)),
+      );
     }
 
 pub returns-in_err-survey-clause-err : goal.returns-in_err-survey-clause-err
@@ -39,13 +40,24 @@ returns-in_err-survey-clause-err c = λ ms h.
     let m = c.in-Some.message.now in
     let rest = c.next.new.self in
     let parts : c.loop-message.message-iterator ≡ m ∷ rest = c.in-Some.ensures.steps in
-    let t = c.loop-message.invariant.taken ms h in
+    let t = c.loop-message.invariant.so_far in
     let p = err_from_is_err_and c.from_residual.result c.from_residual.ensures.1 in
     let whole : ((ms ++ t.0) ++ m ∷ []) ++ rest ≡ ms ++ c.args.messages =
-        append_assoc (ms ++ t.0) (m ∷ []) rest ∙ append_assoc ms t.0 (m ∷ rest) ∙ ap (λ (l : List (List ℕ)). ms ++ l) (ap (λ (l : List (List ℕ)). t.0 ++ l) (sym parts) ∙ sym t.2) in
-    rw (p.1, p.2) (subst (λ (l : List (List ℕ)). AreTooMany l _) whole (still_many ((ms ++ t.0) ++ m ∷ []) rest _ (c.in_err-survey.ensures.err (ms ++ t.0) t.1)))
+        append_assoc (ms ++ t.0) (m ∷ []) rest ∙ append_assoc ms t.0 (m ∷ rest) ∙ ap (λ (l : List (List ℕ)). ms ++ l) (ap (λ (l : List (List ℕ)). t.0 ++ l) (sym parts) ∙ sym t.1) in
+    rw (p.1, p.2) (subst (λ (l : List (List ℕ)). AreTooMany l _) whole (still_many ((ms ++ t.0) ++ m ∷ []) rest _ (c.in_err-survey.ensures.err (ms ++ t.0) (t.2 ms h))))
+
+pub returns-in_err-survey-clause-some : goal.returns-in_err-survey-clause-some
+returns-in_err-survey-clause-some c =
+    let m = c.in-Some.message.now in
+    let rest = c.next.new.self in
+    let parts : c.loop-message.message-iterator ≡ m ∷ rest = c.in-Some.ensures.steps in
+    let t = c.loop-message.invariant.so_far in
+    let p = err_from_is_err_and c.from_residual.result c.from_residual.ensures.1 in
+    let whole : c.args.messages ≡ t.0 ++ m ∷ rest = t.1 ∙ ap (λ (l : List (List ℕ)). t.0 ++ l) parts in
+    rw (p.1, p.2) (omega (arith, ap (λ (l : List (List ℕ)). length l) whole, length-append t.0 (m ∷ rest)))
 
 pub returns-clause-ok : goal.returns-clause-ok
 returns-clause-ok c = λ ms h.
-    let t = c.loop-message.invariant.taken ms h in
-    subst (λ (l : List (List ℕ)). Surveys l c.loop-message.survey) (ap (λ (l : List (List ℕ)). ms ++ l) (sym (t.2 ∙ ap (λ (l : List (List ℕ)). t.0 ++ l) c.in-None.ensures.steps.0 ∙ append-nil t.0))) t.1
+    let t = c.loop-message.invariant.so_far in
+    subst (λ (l : List (List ℕ)). Surveys l c.loop-message.survey)
+    (ap (λ (l : List (List ℕ)). ms ++ l) (sym (t.1 ∙ ap (λ (l : List (List ℕ)). t.0 ++ l) c.in-None.ensures.steps.0 ∙ append-nil t.0))) (t.2 ms h)

@@ -8,5 +8,6 @@ use Rattle.tca_split.proofs.survey.Survey.take_messages.Given as goal
 abbrev pub invariant-loop-message : goal.invariant-loop-message
 invariant-loop-message l = record {
   frames : AllByRecursion IsFrame l.message-iterator;
-  taken : (ms : List (List ℕ)) → Surveys ms l.fn.self → (done : List (List ℕ)) × Surveys (ms ++ done) l.survey × (l.fn.messages ≡ done ++ l.message-iterator);
+  so_far : (done : List (List ℕ)) × (l.fn.messages ≡ done ++ l.message-iterator)
+      × ((ms : List (List ℕ)) → Surveys ms l.fn.self → Surveys (ms ++ done) l.survey);
 }

@@ -1,12 +1,13 @@
-use Rattle.std.proofs.Common.{◌≡◌, ◌++◌, ◌∙◌, sym, ap, subst, ℕ, List}
+use Rattle.std.proofs.Common.{◌≡◌, ◌++◌, ◌∙◌, sym, ap, subst, ℕ, List, [], inl}
 use Rattle.std.proofs.lemmas.Result.{err_from_is_err_and}
 use Rattle.tca_wire.specs.Frames.{Framing, Failed, Feeds}
 use Rattle.tca_wire.specs.declared.fault.WireFault.TheVariants as wire
 use Rattle.tca_split.specs.Faults.{framing_fault}
-use Rattle.tca_split.specs.inside.Surveying.{IsFirstRefused}
+use Rattle.tca_split.specs.inside.Surveying.{IsFirstRefused, IsOfFraming}
 use Rattle.tca_split.specs.declared.fault.SplitFault.{SplitFault}
+use Rattle.tca_split.specs.declared.fault.SplitFault.TheVariants.{Memory}
 use Rattle.tca_split.proofs.LentFrames.{both_frames}
-use Rattle.tca_split.proofs.SurveySteps.{fed, framed_on, failed_stream, surveyed_is, refused_by_fault, refused_within}
+use Rattle.tca_split.proofs.SurveySteps.{fed, framed_on, failed_stream, surveyed_is, refused_by_fault, refused_within, wanted_by, brought_by, framing_kind, header_fault}
 use Rattle.tca_split.proofs.survey.Survey.take_piece.Goals as goal
 
 pub take_messages-requires : goal.take_messages-requires
@@ -41,3 +42,27 @@ returns-in-None-clause-ok c = λ octets ms f h.
     let feeds = subst (λ (l : List (List ℕ)). Feeds c.args.framer.now c.args.piece.now l c.lend.new.self) (sym c.messages.ensures) c.in-Ok.ensures.stream in
     let s = fed octets c.args.piece.now ms ns c.args.framer.now c.lend.new.self f feeds in
     (ms ++ ns, framed_on (octets ++ c.args.piece.now) (ms ++ ns) c.lend.new.self s (sym c.in-Ok.ensures.fault ∙ c.in-None.is), c.in_ok-survey.ensures.ok ms h)
+
+pub returns-in-Err-clause-memory : goal.returns-in-Err-clause-memory
+returns-in-Err-clause-memory c = λ is octets ms f. wanted_by octets c.args.piece.now ms c.args.framer.now f c.in-Err.ensures.needed
+
+pub returns-in-Err-clause-kind : goal.returns-in-Err-clause-kind
+returns-in-Err-clause-kind c = subst (λ (e : SplitFault). IsOfFraming e) (sym c.framing_fault.ensures) (framing_kind c.in-Err.fault)
+
+pub returns-in_err-survey-clause-memory : goal.returns-in_err-survey-clause-memory
+returns-in_err-survey-clause-memory c = λ is octets ms f.
+    let ns = c.messages.result in
+    let feeds = subst (λ (l : List (List ℕ)). Feeds c.args.framer.now c.args.piece.now l c.lend.new.self) (sym c.messages.ensures) c.in-Ok.ensures.stream in
+    brought_by octets c.args.piece.now ms ns c.args.framer.now c.lend.new.self f feeds (inl c.in_err-survey.ensures.some)
+
+pub returns-in-Some-clause-memory : goal.returns-in-Some-clause-memory
+returns-in-Some-clause-memory c = λ is octets ms f.
+    let ns = c.messages.result in
+    let feeds = subst (λ (l : List (List ℕ)). Feeds c.args.framer.now c.args.piece.now l c.lend.new.self) (sym c.messages.ensures) c.in-Ok.ensures.stream in
+    let s = fed octets c.args.piece.now ms ns c.args.framer.now c.lend.new.self f feeds in
+    let failed = failed_stream (octets ++ c.args.piece.now) [] (ms ++ ns) c.lend.new.self c.in-Some.fault s (sym c.in-Ok.ensures.fault ∙ c.in-Some.is) in
+    let told : c.framing_fault.result ≡ Memory = cc in
+    absurd (header_fault _ (ms ++ ns) c.in-Some.fault failed (sym c.framing_fault.ensures ∙ told))
+
+pub returns-in-Some-clause-kind : goal.returns-in-Some-clause-kind
+returns-in-Some-clause-kind c = subst (λ (e : SplitFault). IsOfFraming e) (sym c.framing_fault.ensures) (framing_kind c.in-Some.fault)
