@@ -1,13 +1,13 @@
 -- Messages that go to the buffers and the files of their domains.
 use Rattle.std.proofs.Common.{◌≡◌, ℕ, Bool, true, false, cond, List, [], ◌∷◌, ◌++◌, Option, Some, None, refl, sym, ap, ap₂, subst, ◌∙◌, arith, append_assoc, append-nil}
-use Rattle.std.specs.Prelude.{◌==◌, option_map, filter}
+use Rattle.std.specs.Prelude.{◌==◌, nat_eq, option_map, filter}
 use Rattle.std.specs.List.{concat}
 use Rattle.std.proofs.lemmas.Bool.Decides.{nat_tests}
 use Rattle.std.proofs.lemmas.List.Elements.{filter-append}
 use Rattle.std.proofs.lemmas.List.Folds.{concat-append}
 use Rattle.tca_split.specs.Parts.{domain_of, messages_of}
 use Rattle.tca_split.specs.Folders.{Files, Lengthens}
-use Rattle.tca_split.specs.inside.Buffering.{Kept, TakesPart, Takes, BeginsPart, Begins}
+use Rattle.tca_split.specs.inside.Buffering.{Kept, Leaves, Starts, TakesPart, Takes, BeginsPart, Begins}
 use Rattle.tca_split.proofs.DomainTemplates.{itself}
 use Rattle.tca_split.proofs.FileSteps.{longer, same_length}
 
@@ -152,3 +152,20 @@ begins_own d ms k kept front rest (Some fs) (Some gs) of there parts grown = λ 
         subst (λ (e : ℕ). BeginsPart (messages_of e ms) (k e) (fs e) (gs e)) is
         (subst (λ (n : List (List ℕ)). BeginsPart n (k d) (fs d) (gs d)) (sym of.own) (own_begun ms kept front rest (k d) (fs d) (gs d) there parts grown.0))
     one e false p = subst (λ (g : Option (List ℕ)). BeginsPart (messages_of e ms) (k e) (fs e) g) (sym (grown.1 e p)) (same_one (messages_of e ms) (k e) (fs e))
+
+-- a buffer that was looked up and written, as a map tells it
+pub looked_up : {V : Type 0} (items : V → List ℕ) (d : ℕ) (v : V) (k l : ℕ → Option V) → ((e : ℕ) → l e ≡ cond (nat_eq d e) (Some v) (k e)) → Writes d (items v) (λ e. option_map items (k e)) (λ e. option_map items (l e))
+looked_up {V} items d v k l all = record {
+  here = ap (option_map items) (all d ∙ ap (λ b. cond b (Some v) (k d)) (itself d));
+  others = λ e ne. let there : nat_eq d e ≡ false = grind (arith, nat_tests, ne) in ap (option_map items) (all e ∙ ap (λ b. cond b (Some v) (k e)) there);
+}
+
+-- a message that was kept
+pub takes_kept : (d : ℕ) (m kept now : List ℕ) (k l : Kept) (x y : Option Files) → d ≡ domain_of m → k d ≡ Some kept → Writes d now k l → Leaves d (kept ++ m) now x y → Takes (m ∷ []) k x l y
+takes_kept d m kept now k l x y own there w s =
+    takes_own d (m ∷ []) k l kept now s.written x y (one_of d m own) there w (ap (λ (t : List ℕ). kept ++ t) (append-nil m) ∙ s.parts) s.grown
+
+-- or was written in part
+pub begins_kept : (d : ℕ) (m kept : List ℕ) (k : Kept) (x y : Option Files) → d ≡ domain_of m → k d ≡ Some kept → Starts d (kept ++ m) x y → Begins (m ∷ []) k x y
+begins_kept d m kept k x y own there s =
+    begins_own d (m ∷ []) k kept s.front s.rest x y (one_of d m own) there (ap (λ (t : List ℕ). kept ++ t) (append-nil m) ∙ s.parts) s.grown

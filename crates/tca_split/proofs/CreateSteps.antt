@@ -1,6 +1,6 @@
 -- Files that are made one after the other.
 use Rattle.std.proofs.Common.{◌≡◌, ℕ, ◌+◌, ◌<◌, Bool, true, false, List, [], ◌∷◌, ◌++◌, length, take, get_or, Option, Some, None, refl, sym, ap, ap₂, subst, ◌∙◌, arith}
-use Rattle.std.specs.Prelude.{◌==◌, ◌||◌, ◌≢◌, is_some, is_err, OnErr, Result, Ok, Err}
+use Rattle.std.specs.Prelude.{◌==◌, ◌||◌, ◌≢◌, is_some}
 use Rattle.std.proofs.lemmas.List.Folds.{list_any_more}
 use Rattle.std.proofs.lemmas.Bool.Decides.{nat_tests}
 use Rattle.tca_split.specs.Surveys.{is_among}
@@ -60,8 +60,3 @@ free_more all ds i within free here d among = go (is_among d (take i ds)) refl (
         let is : d ≡ get_or ds i 0 = grind (arith, nat_tests, q) in
         ap all is ∙ none (all (get_or ds i 0)) here
     go false p false q h = let bad : false ≡ true = sym (ap₂ (λ s t. s || t) p q) ∙ h in absurd cc
-
--- what holds at an `Err`
-pub on_err : {T E : Type 0} (P : Type 0) (r : Result T E) → is_err r ≡ true → OnErr r P → P
-on_err P (Ok x) e h = absurd cc
-on_err P (Err x) e h = h

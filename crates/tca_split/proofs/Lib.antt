@@ -12,3 +12,5 @@ pub mod ReadSteps
 pub mod CreateSteps
 pub mod Endings
 pub mod Refusals
+pub mod OnResults
+pub mod Strangers

@@ -1,5 +1,5 @@
 //! The second reading of a capture: each message goes to the file of its domain, by a buffer of its own.
-ghost use Rattle.std.specs.Prelude.{◌≡◌, ◌⊎◌, ◌≤◌, ◌++◌, ◌∷◌, [], ℕ, List, Some, ◌==◌, false, true, length, IfOk, IfErr, OnOk, OnErr, IsErrOf, ◌+◌};
+ghost use Rattle.std.specs.Prelude.{◌≡◌, ◌⊎◌, ◌≤◌, ◌<◌, ◌++◌, ◌∷◌, [], ℕ, List, Some, ◌==◌, false, true, length, IfOk, IfErr, OnOk, OnErr, IsErrOf, ◌+◌};
 ghost use Rattle.std.specs.List.{AllByRecursion};
 ghost use Rattle.tca_wire.specs.Frames.{IsFrame, frames_of};
 ghost use Rattle.tca_split.specs.Surveys.{is_among};
@@ -45,6 +45,7 @@ fn make_room<F: Folder>(
     folder: &mut F,
 ) -> Result<(), SplitFault>
     ensures ok { OnOk result (Leaves domain buffer.old.items buffer.new.items (F.files folder.old) (F.files folder.new)) }
+    ensures empty { room < more → OnOk result (buffer.new.items ≡ []) }
     ensures err { OnErr result (Starts domain buffer.old.items (F.files folder.old) (F.files folder.new)) }
     ensures fault { IfErr result (λ e. e ≡ SplitFault.Write) }
     ensures count { CountsWrite result (F.failures folder.old) (F.failures folder.new) }

@@ -1,7 +1,7 @@
 use Rattle.std.proofs.Common.{◌∙◌, take, drop, sym, subst}
 use Rattle.std.proofs.lemmas.List.{take-append-drop}
 use Rattle.tca_split.specs.Folders.{Creates}
-use Rattle.tca_split.proofs.CreateSteps.{on_err}
+use Rattle.tca_split.proofs.OnResults.{on_err}
 use Rattle.tca_split.proofs.folder.create_all.Goals as goal
 
 pub returns-then-is_err-clause-part : goal.returns-then-is_err-clause-part
