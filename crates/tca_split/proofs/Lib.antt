@@ -14,3 +14,4 @@ pub mod Endings
 pub mod Refusals
 pub mod OnResults
 pub mod Strangers
+pub mod PieceSteps

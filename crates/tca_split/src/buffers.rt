@@ -1,8 +1,10 @@
 //! The second reading of a capture: each message goes to the file of its domain, by a buffer of its own.
-ghost use Rattle.std.specs.Prelude.{◌≡◌, ◌⊎◌, ◌≤◌, ◌<◌, ◌++◌, ◌∷◌, [], ℕ, List, Some, ◌==◌, false, true, length, IfOk, IfErr, OnOk, OnErr, IsErrOf, ◌+◌};
+ghost use Rattle.std.specs.Prelude.{◌≡◌, ◌⊎◌, ◌≤◌, ◌<◌, ◌++◌, ◌∷◌, [], ℕ, List, Some, Err, ◌==◌, false, true, length, IfOk, IfErr, OnOk, OnErr, IsErrOf, ◌+◌};
 ghost use Rattle.std.specs.List.{AllByRecursion};
-ghost use Rattle.tca_wire.specs.Frames.{IsFrame, frames_of};
+ghost use Rattle.tca_wire.specs.Frames.{IsFrame, frames_of, ending};
+ghost use Rattle.tca_wire.specs.declared.fault.WireFault.{WireFault};
 ghost use Rattle.tca_split.specs.Surveys.{is_among};
+ghost use Rattle.tca_split.specs.Faults.{framing_fault};
 ghost use Rattle.tca_split.specs.Failures.{CountsWrite, CountsRead, most_turns};
 ghost use Rattle.tca_split.specs.inside.Buffering.{buffered, empty_for, Leaves, Starts, Takes, Begins, SameDomains, AreRefused, TakesPiece, StopsInPiece, IsSecondRefused};
 
@@ -77,6 +79,16 @@ fn keep<F: Folder>(
     }
     buffer.extend_from_slice(message)?;
     Ok(())
+}
+
+// Whether the capture may end here.
+fn finish(framer: &Framer) -> Result<(), SplitFault>
+    ensures { IfErr result (λ e. (fault : WireFault) × (ending framer.now ≡ Err fault) × (e ≡ framing_fault fault)) }
+{
+    match framer.finish() {
+        Ok(()) => Ok(()),
+        Err(fault) => Err(framing_fault(fault)),
+    }
 }
 
 impl Buffers {
@@ -176,12 +188,7 @@ impl Buffers {
         let mut framer = Framer::new(alloc);
         for _turn in 0..u64::MAX {
             match reader.read(piece.as_mut_slice()) {
-                Ok(0) => {
-                    return match framer.finish() {
-                        Ok(()) => Ok(()),
-                        Err(fault) => Err(framing_fault(fault)),
-                    };
-                }
+                Ok(0) => return finish(&framer),
                 Ok(n) => self.take_piece(&mut framer, &piece[..n], folder)?,
                 Err(_) => return Err(SplitFault::Read(ReadFault::Read)),
             }
