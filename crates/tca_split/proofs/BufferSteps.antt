@@ -1,160 +1,171 @@
 -- Messages that go to the buffers and the files of their domains.
 use Rattle.std.proofs.Common.{◌≡◌, ℕ, Bool, true, false, cond, List, [], ◌∷◌, ◌++◌, Option, Some, None, refl, sym, ap, ap₂, subst, ◌∙◌, arith, append_assoc, append-nil}
-use Rattle.std.specs.Prelude.{◌==◌, option_map, filter}
+use Rattle.std.specs.Prelude.{◌==◌, nat_eq, option_map, filter}
 use Rattle.std.specs.List.{concat}
 use Rattle.std.proofs.lemmas.Bool.Decides.{nat_tests}
 use Rattle.std.proofs.lemmas.List.Elements.{filter-append}
 use Rattle.std.proofs.lemmas.List.Folds.{concat-append}
 use Rattle.tca_split.specs.Parts.{domain_of, messages_of}
 use Rattle.tca_split.specs.Folders.{Files, Lengthens}
-use Rattle.tca_split.specs.inside.Buffering.{HoldsPart, HoldAll, HasFront, FrontAll}
+use Rattle.tca_split.specs.inside.Buffering.{Kept, Leaves, Starts, TakesPart, Takes, BeginsPart, Begins}
+use Rattle.tca_split.proofs.DomainTemplates.{itself}
+use Rattle.tca_split.proofs.FileSteps.{longer, same_length}
 
-same_some : (a b : List ℕ) → Some a ≡ Some b → a ≡ b
-same_some a b e = cc
+-- no messages
+none_one : (o f : Option (List ℕ)) → TakesPart [] o f o f
+none_one None f = (refl, refl, refl)
+none_one (Some kept) f = ([], kept, append-nil kept, refl, same_length f)
 
--- a domain's messages with more octets behind
-holds_on : (ms ns : List (List ℕ)) (before : Option (List ℕ)) (kept now extra written : List ℕ) (f g : Option (List ℕ)) → concat ns ≡ concat ms ++ extra → HoldsPart ms before (Some kept) f
-    → g ≡ option_map (λ xs. xs ++ written) f → kept ++ extra ≡ written ++ now → HoldsPart ns before (Some now) g
-holds_on ms ns before kept now extra written f g more h lengthened parts = (
-  h.0 ++ written,
-  lengthened ∙ ap (option_map (λ xs. xs ++ written)) h.1,
-  append_assoc h.0 written now ∙ ap (λ (l : List ℕ). h.0 ++ l) (sym parts) ∙ sym (append_assoc h.0 kept extra) ∙ ap (λ (l : List ℕ). l ++ extra) h.2 ∙ sym more,
+pub takes_none : (k : Kept) (x : Option Files) → Takes [] k x k x
+takes_none k None = tt
+takes_none k (Some fs) = λ d. none_one (k d) (fs d)
+
+-- messages and others behind them
+more_one : (a b : List (List ℕ)) (k l m f g h : Option (List ℕ)) → TakesPart a k f l g → TakesPart b l g m h → TakesPart (a ++ b) k f m h
+more_one a b None l m f g h p q =
+    let r = subst (λ (o : Option (List ℕ)). TakesPart b o g m h) p.1 q in
+    (ap₂ (λ (s t : List (List ℕ)). s ++ t) p.0 r.0, r.1, r.2 ∙ p.2)
+more_one a b (Some kept) l m f g h p q =
+    let r = subst (λ (o : Option (List ℕ)). TakesPart b o g m h) p.3 q in
+    (
+      p.0 ++ r.0,
+      r.1,
+      ap (λ (s : List ℕ). kept ++ s) (concat-append a b) ∙ sym (append_assoc kept (concat a) (concat b)) ∙ ap (λ (s : List ℕ). s ++ concat b) p.2
+      ∙ append_assoc p.0 p.1 (concat b) ∙ ap (λ (s : List ℕ). p.0 ++ s) r.2 ∙ sym (append_assoc p.0 r.0 r.1),
+      r.3,
+      r.4 ∙ ap (option_map (λ xs. xs ++ r.0)) p.4 ∙ longer p.0 r.0 f,
+    )
+
+pub takes_more : (a b : List (List ℕ)) (k l m : Kept) (x y z : Option Files) → Takes a k x l y → Takes b l y m z → Takes (a ++ b) k x m z
+takes_more a b k l m None y z p q = tt
+takes_more a b k l m (Some fs) None z p q = absurd p
+takes_more a b k l m (Some fs) (Some gs) None p q = absurd q
+takes_more a b k l m (Some fs) (Some gs) (Some hs) p q = λ d.
+    subst (λ (ms : List (List ℕ)). TakesPart ms (k d) (fs d) (m d) (hs d)) (sym (filter-append (λ x. domain_of x == d) a b))
+    (more_one (messages_of d a) (messages_of d b) (k d) (l d) (m d) (fs d) (gs d) (hs d) (p d) (q d))
+
+-- nothing was written
+same_one : (ms : List (List ℕ)) (o f : Option (List ℕ)) → BeginsPart ms o f f
+same_one ms None f = refl
+same_one ms (Some kept) f = ([], kept ++ concat ms, refl, same_length f)
+
+pub begins_same : (ms : List (List ℕ)) (k : Kept) (x : Option Files) → Begins ms k x x
+begins_same ms k None = tt
+begins_same ms k (Some fs) = λ d. same_one (messages_of d ms) (k d) (fs d)
+
+-- messages, and others behind them that aren't all taken
+begun_one : (a b : List (List ℕ)) (k l f g h : Option (List ℕ)) → TakesPart a k f l g → BeginsPart b l g h → BeginsPart (a ++ b) k f h
+begun_one a b None l f g h p q = subst (λ (o : Option (List ℕ)). BeginsPart b o g h) p.1 q ∙ p.2
+begun_one a b (Some kept) l f g h p q =
+    let r = subst (λ (o : Option (List ℕ)). BeginsPart b o g h) p.3 q in
+    (
+      p.0 ++ r.0,
+      r.1,
+      ap (λ (s : List ℕ). kept ++ s) (concat-append a b) ∙ sym (append_assoc kept (concat a) (concat b)) ∙ ap (λ (s : List ℕ). s ++ concat b) p.2
+      ∙ append_assoc p.0 p.1 (concat b) ∙ ap (λ (s : List ℕ). p.0 ++ s) r.2 ∙ sym (append_assoc p.0 r.0 r.1),
+      r.3 ∙ ap (option_map (λ xs. xs ++ r.0)) p.4 ∙ longer p.0 r.0 f,
+    )
+
+pub begins_more : (a b : List (List ℕ)) (k l : Kept) (x y z : Option Files) → Takes a k x l y → Begins b l y z → Begins (a ++ b) k x z
+begins_more a b k l None y z p q = tt
+begins_more a b k l (Some fs) None z p q = absurd p
+begins_more a b k l (Some fs) (Some gs) None p q = absurd q
+begins_more a b k l (Some fs) (Some gs) (Some hs) p q = λ d.
+    subst (λ (ms : List (List ℕ)). BeginsPart ms (k d) (fs d) (hs d)) (sym (filter-append (λ x. domain_of x == d) a b))
+    (begun_one (messages_of d a) (messages_of d b) (k d) (l d) (fs d) (gs d) (hs d) (p d) (q d))
+
+-- whatever is behind them
+longer_one : (a b : List (List ℕ)) (k f g : Option (List ℕ)) → BeginsPart a k f g → BeginsPart (a ++ b) k f g
+longer_one a b None f g p = p
+longer_one a b (Some kept) f g p = (
+  p.0,
+  p.1 ++ concat b,
+  ap (λ (s : List ℕ). kept ++ s) (concat-append a b) ∙ sym (append_assoc kept (concat a) (concat b)) ∙ ap (λ (s : List ℕ). s ++ concat b) p.2
+  ∙ append_assoc p.0 p.1 (concat b),
+  p.3,
 )
 
-front_on : (ms ns : List (List ℕ)) (before : Option (List ℕ)) (kept front rest extra : List ℕ) (f g : Option (List ℕ)) → concat ns ≡ concat ms ++ extra → HoldsPart ms before (Some kept) f
-    → g ≡ option_map (λ xs. xs ++ front) f → kept ++ extra ≡ front ++ rest → HasFront ns before (Some kept) g
-front_on ms ns before kept front rest extra f g more h lengthened parts = (
-  h.0 ++ front,
-  rest,
-  lengthened ∙ ap (option_map (λ xs. xs ++ front)) h.1,
-  sym (append_assoc h.0 front rest ∙ ap (λ (l : List ℕ). h.0 ++ l) (sym parts) ∙ sym (append_assoc h.0 kept extra) ∙ ap (λ (l : List ℕ). l ++ extra) h.2 ∙ sym more),
-)
+pub begins_longer : (a b : List (List ℕ)) (k : Kept) (x y : Option Files) → Begins a k x y → Begins (a ++ b) k x y
+begins_longer a b k None y p = tt
+begins_longer a b k (Some fs) None p = absurd p
+begins_longer a b k (Some fs) (Some gs) p = λ d.
+    subst (λ (ms : List (List ℕ)). BeginsPart ms (k d) (fs d) (gs d)) (sym (filter-append (λ x. domain_of x == d) a b))
+    (longer_one (messages_of d a) (messages_of d b) (k d) (fs d) (gs d) (p d))
 
-holds_front : (ms : List (List ℕ)) (before b f : Option (List ℕ)) → HoldsPart ms before b f → HasFront ms before b f
-holds_front ms before None f h = h.1
-holds_front ms before (Some kept) f h = (h.0, kept, h.1, sym h.2)
+-- all were taken
+pub begins_taken : (a b : List (List ℕ)) (k l : Kept) (x y : Option Files) → Takes a k x l y → Begins (a ++ b) k x y
+begins_taken a b k l x y p = begins_more a b k l x y y p (begins_same b l y)
 
-front_longer : (ms ns more : List (List ℕ)) (before b f : Option (List ℕ)) → ns ≡ ms ++ more → HasFront ms before b f → HasFront ns before b f
-front_longer ms ns more before None f e h = h
-front_longer ms ns more before (Some kept) f e h = (
-  h.0,
-  h.1 ++ concat more,
-  h.2,
-  ap concat e ∙ concat-append ms more ∙ ap (λ (l : List ℕ). l ++ concat more) h.3 ∙ append_assoc h.0 h.1 (concat more),
-)
+-- messages of one domain alone
+pub record AreOf (d : ℕ) (ms : List (List ℕ)) : Type 0 where
+  pub own : messages_of d ms ≡ ms
+  pub others : (e : ℕ) → (e == d) ≡ false → messages_of e ms ≡ []
 
-own_more : (d : ℕ) (ms : List (List ℕ)) (m : List ℕ) → d ≡ domain_of m → concat (messages_of d (ms ++ m ∷ [])) ≡ concat (messages_of d ms) ++ m
-own_more d ms m e =
-    let here : (domain_of m == d) ≡ true = grind (arith, nat_tests, e) in
-    ap concat (filter-append (λ x. domain_of x == d) ms (m ∷ []) ∙ ap (λ b. messages_of d ms ++ cond b (m ∷ []) []) here) ∙ concat-append (messages_of d ms) (m ∷ [])
-    ∙ ap (λ (l : List ℕ). concat (messages_of d ms) ++ l) (append-nil m)
+pub none_of : (d : ℕ) → AreOf d []
+none_of d = record { own = refl; others = λ e ne. refl }
 
-other_more : (d : ℕ) (ms : List (List ℕ)) (m : List ℕ) → (d == domain_of m) ≡ false → messages_of d (ms ++ m ∷ []) ≡ messages_of d ms
-other_more d ms m ne =
-    let there : (domain_of m == d) ≡ false = grind (arith, nat_tests, ne) in
-    filter-append (λ x. domain_of x == d) ms (m ∷ []) ∙ ap (λ b. messages_of d ms ++ cond b (m ∷ []) []) there ∙ append-nil (messages_of d ms)
+pub one_of : (d : ℕ) (m : List ℕ) → d ≡ domain_of m → AreOf d (m ∷ [])
+one_of d m e = record {
+  own = let here : (domain_of m == d) ≡ true = subst (λ z. (domain_of m == z) ≡ true) (sym e) (itself (domain_of m)) in ap (λ b. cond b (m ∷ []) []) here;
+  others = λ f ne. let there : (domain_of m == f) ≡ false = grind (arith, nat_tests, ne, e) in ap (λ b. cond b (m ∷ []) []) there;
+}
 
--- a buffer at a key, and the others as they were
-abbrev pub Writes : ℕ → List ℕ → (ℕ → Option (List ℕ)) → (ℕ → Option (List ℕ)) → Type 0
-Writes d now k l = (l d ≡ Some now) × ((e : ℕ) → (e == d) ≡ false → l e ≡ k e)
+-- a buffer of this domain, and the others as they were
+pub record Writes (d : ℕ) (now : List ℕ) (k l : Kept) : Type 0 where
+  pub here : l d ≡ Some now
+  pub others : (e : ℕ) → (e == d) ≡ false → l e ≡ k e
 
-module _ (before : Option Files) (k l : ℕ → Option (List ℕ)) (ms : List (List ℕ)) (d : ℕ) (kept : List ℕ) (there : k d ≡ Some kept) where
-  -- one message more
-  pub hold_more : (m now written : List ℕ) (x y : Option Files) → d ≡ domain_of m → Writes d now k l → kept ++ m ≡ written ++ now → Lengthens d written x y → HoldAll ms before k x → HoldAll (ms ++ m ∷ []) before l y
-  hold_more m now written x y own w parts lengthened h = go before x y lengthened h
-    where
-      one : (fs gs hs : Files) → Lengthens d written (Some gs) (Some hs) → ((e : ℕ) → HoldsPart (messages_of e ms) (fs e) (k e) (gs e)) → (e : ℕ) → (b : Bool) → (e == d) ≡ b
-          → HoldsPart (messages_of e (ms ++ m ∷ [])) (fs e) (l e) (hs e)
-      one fs gs hs len all e true p =
-          let is : d ≡ e = grind (arith, nat_tests, p) in
-          subst (λ (e : ℕ). HoldsPart (messages_of e (ms ++ m ∷ [])) (fs e) (l e) (hs e)) is
-          (subst (λ (o : Option (List ℕ)). HoldsPart (messages_of d (ms ++ m ∷ [])) (fs d) o (hs d)) (sym w.0)
-          (holds_on (messages_of d ms) (messages_of d (ms ++ m ∷ [])) (fs d) kept now m written (gs d) (hs d) (own_more d ms m own)
-          (subst (λ (o : Option (List ℕ)). HoldsPart (messages_of d ms) (fs d) o (gs d)) there (all d)) len.0 parts))
-      one fs gs hs len all e false p =
-          let other : (e == domain_of m) ≡ false = subst (λ z. (e == z) ≡ false) own p in
-          subst (λ (n : List (List ℕ)). HoldsPart n (fs e) (l e) (hs e)) (sym (other_more e ms m other))
-          (subst (λ (o : Option (List ℕ)). HoldsPart (messages_of e ms) (fs e) o (hs e)) (sym (w.1 e p))
-          (subst (λ (o : Option (List ℕ)). HoldsPart (messages_of e ms) (fs e) (k e) o) (sym (len.1 e p)) (all e)))
+own_part : (ms : List (List ℕ)) (kept now written : List ℕ) (o p f g : Option (List ℕ)) → o ≡ Some kept → p ≡ Some now → kept ++ concat ms ≡ written ++ now → g ≡ option_map (λ xs. xs ++ written) f → TakesPart ms o f p g
+own_part ms kept now written o p f g eo ep parts grown = subst (λ (o : Option (List ℕ)). TakesPart ms o f p g) (sym eo) (written, now, parts, ep, grown)
 
-      go : (before x y : Option Files) → Lengthens d written x y → HoldAll ms before k x → HoldAll (ms ++ m ∷ []) before l y
-      go None x y len h = tt
-      go (Some fs) None y len h = absurd h
-      go (Some fs) (Some gs) None len h = absurd len
-      go (Some fs) (Some gs) (Some hs) len h = λ e. one fs gs hs len h e (e == d) refl
+other_part : (ms : List (List ℕ)) (o p f g : Option (List ℕ)) → ms ≡ [] → p ≡ o → g ≡ f → TakesPart ms o f p g
+other_part ms o p f g none ep eg =
+    subst (λ (ms : List (List ℕ)). TakesPart ms o f p g) (sym none)
+    (subst (λ (p : Option (List ℕ)). TakesPart [] o f p g) (sym ep) (subst (λ (g : Option (List ℕ)). TakesPart [] o f o g) (sym eg) (none_one o f)))
 
-  -- a message that was written in part
-  pub front_more : (m front rest : List ℕ) (x y : Option Files) → d ≡ domain_of m → kept ++ m ≡ front ++ rest → Lengthens d front x y → HoldAll ms before k x → FrontAll (ms ++ m ∷ []) before k y
-  front_more m front rest x y own parts lengthened h = go before x y lengthened h
-    where
-      one : (fs gs hs : Files) → Lengthens d front (Some gs) (Some hs) → ((e : ℕ) → HoldsPart (messages_of e ms) (fs e) (k e) (gs e)) → (e : ℕ) → (b : Bool) → (e == d) ≡ b
-          → HasFront (messages_of e (ms ++ m ∷ [])) (fs e) (k e) (hs e)
-      one fs gs hs len all e true p =
-          let is : d ≡ e = grind (arith, nat_tests, p) in
-          subst (λ (e : ℕ). HasFront (messages_of e (ms ++ m ∷ [])) (fs e) (k e) (hs e)) is
-          (subst (λ (o : Option (List ℕ)). HasFront (messages_of d (ms ++ m ∷ [])) (fs d) o (hs d)) (sym there)
-          (front_on (messages_of d ms) (messages_of d (ms ++ m ∷ [])) (fs d) kept front rest m (gs d) (hs d) (own_more d ms m own)
-          (subst (λ (o : Option (List ℕ)). HoldsPart (messages_of d ms) (fs d) o (gs d)) there (all d)) len.0 parts))
-      one fs gs hs len all e false p =
-          let other : (e == domain_of m) ≡ false = subst (λ z. (e == z) ≡ false) own p in
-          subst (λ (n : List (List ℕ)). HasFront n (fs e) (k e) (hs e)) (sym (other_more e ms m other))
-          (subst (λ (o : Option (List ℕ)). HasFront (messages_of e ms) (fs e) (k e) o) (sym (len.1 e p)) (holds_front (messages_of e ms) (fs e) (k e) (gs e) (all e)))
+-- messages of one domain go to its buffer and its file
+pub takes_own : (d : ℕ) (ms : List (List ℕ)) (k l : Kept) (kept now written : List ℕ) (x y : Option Files) → AreOf d ms → k d ≡ Some kept → Writes d now k l → kept ++ concat ms ≡ written ++ now
+    → Lengthens d written x y → Takes ms k x l y
+takes_own d ms k l kept now written None y of there w parts grown = tt
+takes_own d ms k l kept now written (Some fs) None of there w parts grown = absurd grown
+takes_own d ms k l kept now written (Some fs) (Some gs) of there w parts grown = λ e. one e (e == d) refl
+  where
+    one : (e : ℕ) (b : Bool) → (e == d) ≡ b → TakesPart (messages_of e ms) (k e) (fs e) (l e) (gs e)
+    one e true p =
+        let is : d ≡ e = grind (arith, nat_tests, p) in
+        subst (λ (e : ℕ). TakesPart (messages_of e ms) (k e) (fs e) (l e) (gs e)) is
+        (subst (λ (n : List (List ℕ)). TakesPart n (k d) (fs d) (l d) (gs d)) (sym of.own) (own_part ms kept now written (k d) (l d) (fs d) (gs d) there w.here parts grown.0))
+    one e false p = other_part (messages_of e ms) (k e) (l e) (fs e) (gs e) (of.others e p) (w.others e p) (grown.1 e p)
 
-      go : (before x y : Option Files) → Lengthens d front x y → HoldAll ms before k x → FrontAll (ms ++ m ∷ []) before k y
-      go None x y len h = tt
-      go (Some fs) None y len h = absurd h
-      go (Some fs) (Some gs) None len h = absurd len
-      go (Some fs) (Some gs) (Some hs) len h = λ e. one fs gs hs len h e (e == d) refl
+own_begun : (ms : List (List ℕ)) (kept front rest : List ℕ) (o f g : Option (List ℕ)) → o ≡ Some kept → kept ++ concat ms ≡ front ++ rest → g ≡ option_map (λ xs. xs ++ front) f → BeginsPart ms o f g
+own_begun ms kept front rest o f g eo parts grown = subst (λ (o : Option (List ℕ)). BeginsPart ms o f g) (sym eo) (front, rest, parts, grown)
 
-  -- a buffer that goes out
-  pub hold_out : (x y : Option Files) → Writes d [] k l → Lengthens d kept x y → HoldAll ms before k x → HoldAll ms before l y
-  hold_out x y w lengthened h = go before x y lengthened h
-    where
-      one : (fs gs hs : Files) → Lengthens d kept (Some gs) (Some hs) → ((e : ℕ) → HoldsPart (messages_of e ms) (fs e) (k e) (gs e)) → (e : ℕ) → (b : Bool) → (e == d) ≡ b
-          → HoldsPart (messages_of e ms) (fs e) (l e) (hs e)
-      one fs gs hs len all e true p =
-          let is : d ≡ e = grind (arith, nat_tests, p) in
-          subst (λ (e : ℕ). HoldsPart (messages_of e ms) (fs e) (l e) (hs e)) is
-          (subst (λ (o : Option (List ℕ)). HoldsPart (messages_of d ms) (fs d) o (hs d)) (sym w.0)
-          (holds_on (messages_of d ms) (messages_of d ms) (fs d) kept [] [] kept (gs d) (hs d) (sym (append-nil (concat (messages_of d ms))))
-          (subst (λ (o : Option (List ℕ)). HoldsPart (messages_of d ms) (fs d) o (gs d)) there (all d)) len.0 refl))
-      one fs gs hs len all e false p =
-          subst (λ (o : Option (List ℕ)). HoldsPart (messages_of e ms) (fs e) o (hs e)) (sym (w.1 e p))
-          (subst (λ (o : Option (List ℕ)). HoldsPart (messages_of e ms) (fs e) (k e) o) (sym (len.1 e p)) (all e))
+-- and may go there in part
+pub begins_own : (d : ℕ) (ms : List (List ℕ)) (k : Kept) (kept front rest : List ℕ) (x y : Option Files) → AreOf d ms → k d ≡ Some kept → kept ++ concat ms ≡ front ++ rest → Lengthens d front x y → Begins ms k x y
+begins_own d ms k kept front rest None y of there parts grown = tt
+begins_own d ms k kept front rest (Some fs) None of there parts grown = absurd grown
+begins_own d ms k kept front rest (Some fs) (Some gs) of there parts grown = λ e. one e (e == d) refl
+  where
+    one : (e : ℕ) (b : Bool) → (e == d) ≡ b → BeginsPart (messages_of e ms) (k e) (fs e) (gs e)
+    one e true p =
+        let is : d ≡ e = grind (arith, nat_tests, p) in
+        subst (λ (e : ℕ). BeginsPart (messages_of e ms) (k e) (fs e) (gs e)) is
+        (subst (λ (n : List (List ℕ)). BeginsPart n (k d) (fs d) (gs d)) (sym of.own) (own_begun ms kept front rest (k d) (fs d) (gs d) there parts grown.0))
+    one e false p = subst (λ (g : Option (List ℕ)). BeginsPart (messages_of e ms) (k e) (fs e) g) (sym (grown.1 e p)) (same_one (messages_of e ms) (k e) (fs e))
 
-      go : (before x y : Option Files) → Lengthens d kept x y → HoldAll ms before k x → HoldAll ms before l y
-      go None x y len h = tt
-      go (Some fs) None y len h = absurd h
-      go (Some fs) (Some gs) None len h = absurd len
-      go (Some fs) (Some gs) (Some hs) len h = λ e. one fs gs hs len h e (e == d) refl
+-- a buffer that was looked up and written, as a map tells it
+pub looked_up : {V : Type 0} (items : V → List ℕ) (d : ℕ) (v : V) (k l : ℕ → Option V) → ((e : ℕ) → l e ≡ cond (nat_eq d e) (Some v) (k e)) → Writes d (items v) (λ e. option_map items (k e)) (λ e. option_map items (l e))
+looked_up {V} items d v k l all = record {
+  here = ap (option_map items) (all d ∙ ap (λ b. cond b (Some v) (k d)) (itself d));
+  others = λ e ne. let there : nat_eq d e ≡ false = grind (arith, nat_tests, ne) in ap (option_map items) (all e ∙ ap (λ b. cond b (Some v) (k e)) there);
+}
 
-  -- and one that goes out in part
-  pub front_out : (front rest : List ℕ) (x y : Option Files) → kept ≡ front ++ rest → Lengthens d front x y → HoldAll ms before k x → FrontAll ms before k y
-  front_out front rest x y parts lengthened h = go before x y lengthened h
-    where
-      one : (fs gs hs : Files) → Lengthens d front (Some gs) (Some hs) → ((e : ℕ) → HoldsPart (messages_of e ms) (fs e) (k e) (gs e)) → (e : ℕ) → (b : Bool) → (e == d) ≡ b
-          → HasFront (messages_of e ms) (fs e) (k e) (hs e)
-      one fs gs hs len all e true p =
-          let is : d ≡ e = grind (arith, nat_tests, p) in
-          subst (λ (e : ℕ). HasFront (messages_of e ms) (fs e) (k e) (hs e)) is
-          (subst (λ (o : Option (List ℕ)). HasFront (messages_of d ms) (fs d) o (hs d)) (sym there)
-          (front_on (messages_of d ms) (messages_of d ms) (fs d) kept front rest [] (gs d) (hs d) (sym (append-nil (concat (messages_of d ms))))
-          (subst (λ (o : Option (List ℕ)). HoldsPart (messages_of d ms) (fs d) o (gs d)) there (all d)) len.0 (append-nil kept ∙ parts)))
-      one fs gs hs len all e false p =
-          subst (λ (o : Option (List ℕ)). HasFront (messages_of e ms) (fs e) (k e) o) (sym (len.1 e p)) (holds_front (messages_of e ms) (fs e) (k e) (gs e) (all e))
+-- a message that was kept
+pub takes_kept : (d : ℕ) (m kept now : List ℕ) (k l : Kept) (x y : Option Files) → d ≡ domain_of m → k d ≡ Some kept → Writes d now k l → Leaves d (kept ++ m) now x y → Takes (m ∷ []) k x l y
+takes_kept d m kept now k l x y own there w s =
+    takes_own d (m ∷ []) k l kept now s.written x y (one_of d m own) there w (ap (λ (t : List ℕ). kept ++ t) (append-nil m) ∙ s.parts) s.grown
 
-      go : (before x y : Option Files) → Lengthens d front x y → HoldAll ms before k x → FrontAll ms before k y
-      go None x y len h = tt
-      go (Some fs) None y len h = absurd h
-      go (Some fs) (Some gs) None len h = absurd len
-      go (Some fs) (Some gs) (Some hs) len h = λ e. one fs gs hs len h e (e == d) refl
-
-pub hold_front : (before : Option Files) (k : ℕ → Option (List ℕ)) (ms : List (List ℕ)) (x : Option Files) → HoldAll ms before k x → FrontAll ms before k x
-hold_front None k ms x h = tt
-hold_front (Some fs) k ms None h = absurd h
-hold_front (Some fs) k ms (Some gs) h = λ e. holds_front (messages_of e ms) (fs e) (k e) (gs e) (h e)
-
-pub fronts_longer : (before : Option Files) (k : ℕ → Option (List ℕ)) (ms more : List (List ℕ)) (x : Option Files) → FrontAll ms before k x → FrontAll (ms ++ more) before k x
-fronts_longer None k ms more x h = tt
-fronts_longer (Some fs) k ms more None h = absurd h
-fronts_longer (Some fs) k ms more (Some gs) h = λ e. front_longer (messages_of e ms) (messages_of e (ms ++ more)) (messages_of e more) (fs e) (k e) (gs e) (filter-append (λ x. domain_of x == e) ms more) (h e)
+-- or was written in part
+pub begins_kept : (d : ℕ) (m kept : List ℕ) (k : Kept) (x y : Option Files) → d ≡ domain_of m → k d ≡ Some kept → Starts d (kept ++ m) x y → Begins (m ∷ []) k x y
+begins_kept d m kept k x y own there s =
+    begins_own d (m ∷ []) k kept s.front s.rest x y (one_of d m own) there (ap (λ (t : List ℕ). kept ++ t) (append-nil m) ∙ s.parts) s.grown

@@ -66,7 +66,7 @@ among_last (x ∷ ds) d = go (d == x) (among_last ds d)
     go true more = refl
     go false more = more
 
-among_front : (ds es : List ℕ) (d : ℕ) → is_among d ds ≡ true → is_among d (ds ++ es) ≡ true
+pub among_front : (ds es : List ℕ) (d : ℕ) → is_among d ds ≡ true → is_among d (ds ++ es) ≡ true
 among_front [] es d e = absurd cc
 among_front (x ∷ ds) es d e = go (d == x) (among_front ds es d) e
   where

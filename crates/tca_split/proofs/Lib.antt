@@ -10,5 +10,8 @@ pub mod BufferSteps
 pub mod SurveySteps
 pub mod ReadSteps
 pub mod CreateSteps
-pub mod SplitSteps
+pub mod Endings
 pub mod Refusals
+pub mod OnResults
+pub mod Strangers
+pub mod PieceSteps

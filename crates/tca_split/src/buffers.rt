@@ -1,13 +1,12 @@
 //! The second reading of a capture: each message goes to the file of its domain, by a buffer of its own.
-ghost use Rattle.std.specs.Prelude.{◌≡◌, ◌⊎◌, ◌≤◌, ◌++◌, ◌∷◌, [], ℕ, List, Option, Some, None, Ok, ◌==◌, false, true, length, IfOk, IfErr, OnOk, IsErrOf, ◌+◌};
+ghost use Rattle.std.specs.Prelude.{◌≡◌, ◌⊎◌, ◌≤◌, ◌<◌, ◌++◌, ◌∷◌, [], ℕ, List, Some, Err, ◌==◌, false, true, length, IfOk, IfErr, OnOk, OnErr, IsErrOf, ◌+◌};
 ghost use Rattle.std.specs.List.{AllByRecursion};
 ghost use Rattle.tca_wire.specs.Frames.{IsFrame, frames_of, ending};
-ghost use Rattle.tca_split.specs.Parts.{domain_of};
+ghost use Rattle.tca_wire.specs.declared.fault.WireFault.{WireFault};
 ghost use Rattle.tca_split.specs.Surveys.{is_among};
+ghost use Rattle.tca_split.specs.Faults.{framing_fault};
 ghost use Rattle.tca_split.specs.Failures.{CountsWrite, CountsRead, most_turns};
-ghost use Rattle.tca_split.specs.Folders.{Files, Lengthens};
-ghost use Rattle.tca_split.specs.inside.Surveying.{IsFramed};
-ghost use Rattle.tca_split.specs.inside.Buffering.{buffered, empty_for, HoldAll, FrontAll, SameDomains, AreRefused, IsSecondRefused};
+ghost use Rattle.tca_split.specs.inside.Buffering.{buffered, empty_for, Leaves, Starts, Takes, Begins, SameDomains, AreRefused, TakesPiece, StopsInPiece, IsSecondRefused};
 
 use crate::fault::{SplitFault, framing_fault};
 use crate::folder::{Folder, append_all};
@@ -47,10 +46,9 @@ fn make_room<F: Folder>(
     room: usize,
     folder: &mut F,
 ) -> Result<(), SplitFault>
-    ensures ok { OnOk result ((written : List ℕ) × (buffer.old.items ≡ written ++ buffer.new.items)
-        × Lengthens domain written (F.files folder.old) (F.files folder.new)) }
-    ensures err { IfErr result (λ e. (front : List ℕ) × (rest : List ℕ) × (buffer.old.items ≡ front ++ rest)
-        × Lengthens domain front (F.files folder.old) (F.files folder.new)) }
+    ensures ok { OnOk result (Leaves domain buffer.old.items buffer.new.items (F.files folder.old) (F.files folder.new)) }
+    ensures empty { room < more → OnOk result (buffer.new.items ≡ []) }
+    ensures err { OnErr result (Starts domain buffer.old.items (F.files folder.old) (F.files folder.new)) }
     ensures fault { IfErr result (λ e. e ≡ SplitFault.Write) }
     ensures count { CountsWrite result (F.failures folder.old) (F.failures folder.new) }
 {
@@ -70,10 +68,8 @@ fn keep<F: Folder>(
     room: usize,
     folder: &mut F,
 ) -> Result<(), SplitFault>
-    ensures ok { OnOk result ((written : List ℕ) × (buffer.old.items ++ message.now ≡ written ++ buffer.new.items)
-        × Lengthens domain written (F.files folder.old) (F.files folder.new)) }
-    ensures err { IfErr result (λ e. (front : List ℕ) × (rest : List ℕ) × (buffer.old.items ++ message.now ≡ front ++ rest)
-        × Lengthens domain front (F.files folder.old) (F.files folder.new)) }
+    ensures ok { OnOk result (Leaves domain (buffer.old.items ++ message.now) buffer.new.items (F.files folder.old) (F.files folder.new)) }
+    ensures err { OnErr result (Starts domain (buffer.old.items ++ message.now) (F.files folder.old) (F.files folder.new)) }
     ensures fault { IfErr result (λ e. (e ≡ SplitFault.Write) ⊎ (e ≡ SplitFault.Memory)) }
     ensures count { CountsWrite result (F.failures folder.old) (F.failures folder.new) }
 {
@@ -83,6 +79,16 @@ fn keep<F: Folder>(
     }
     buffer.extend_from_slice(message)?;
     Ok(())
+}
+
+// Whether the capture may end here.
+fn finish(framer: &Framer) -> Result<(), SplitFault>
+    ensures { IfErr result (λ e. (fault : WireFault) × (ending framer.now ≡ Err fault) × (e ≡ framing_fault fault)) }
+{
+    match framer.finish() {
+        Ok(()) => Ok(()),
+        Err(fault) => Err(framing_fault(fault)),
+    }
 }
 
 impl Buffers {
@@ -106,11 +112,9 @@ impl Buffers {
     ) -> Result<(), SplitFault>
         requires { 16 ≤ length message.now }
         ensures same { SameDomains (buffered self.old) (buffered self.new) }
-        ensures ok { OnOk result ((ms : List (List ℕ)) (before : Option Files) → HoldAll ms before (buffered self.old) (F.files folder.old)
-            → HoldAll (ms ++ message.now ∷ []) before (buffered self.new) (F.files folder.new)) }
-        ensures err { IfErr result (λ e. (ms : List (List ℕ)) (before : Option Files) → HoldAll ms before (buffered self.old) (F.files folder.old)
-            → FrontAll (ms ++ message.now ∷ []) before (buffered self.old) (F.files folder.new)) }
-        ensures fault { IfErr result (λ e. (ms : List (List ℕ)) → AreRefused (ms ++ message.now ∷ []) (buffered self.old) e) }
+        ensures ok { OnOk result (Takes (message.now ∷ []) (buffered self.old) (F.files folder.old) (buffered self.new) (F.files folder.new)) }
+        ensures err { OnErr result (Begins (message.now ∷ []) (buffered self.old) (F.files folder.old) (F.files folder.new)) }
+        ensures fault { IfErr result (AreRefused (message.now ∷ []) (buffered self.old)) }
         ensures count { CountsWrite result (F.failures folder.old) (F.failures folder.new) }
     {
         let domain = domain_of(message);
@@ -129,11 +133,9 @@ impl Buffers {
     ) -> Result<(), SplitFault>
         requires frames { AllByRecursion IsFrame messages }
         ensures same { SameDomains (buffered self.old) (buffered self.new) }
-        ensures ok { OnOk result ((ms : List (List ℕ)) (before : Option Files) → HoldAll ms before (buffered self.old) (F.files folder.old)
-            → HoldAll (ms ++ messages.entry) before (buffered self.new) (F.files folder.new)) }
-        ensures err { IfErr result (λ e. (ms : List (List ℕ)) (before : Option Files) → HoldAll ms before (buffered self.old) (F.files folder.old)
-            → FrontAll (ms ++ messages.entry) before (buffered self.old) (F.files folder.new)) }
-        ensures fault { IfErr result (λ e. (ms : List (List ℕ)) → AreRefused (ms ++ messages.entry) (buffered self.old) e) }
+        ensures ok { OnOk result (Takes messages.entry (buffered self.old) (F.files folder.old) (buffered self.new) (F.files folder.new)) }
+        ensures err { OnErr result (Begins messages.entry (buffered self.old) (F.files folder.old) (F.files folder.new)) }
+        ensures fault { IfErr result (AreRefused messages.entry (buffered self.old)) }
         ensures count { CountsWrite result (F.failures folder.old) (F.failures folder.new) }
     {
         for message in messages {
@@ -150,15 +152,9 @@ impl Buffers {
         folder: &mut F,
     ) -> Result<(), SplitFault>
         ensures same { SameDomains (buffered self.old) (buffered self.new) }
-        ensures ok { OnOk result ((octets : List ℕ) (ms : List (List ℕ)) (before : Option Files) → IsFramed octets ms framer.old
-            → HoldAll ms before (buffered self.old) (F.files folder.old)
-            → (ns : List (List ℕ)) × IsFramed (octets ++ piece.now) ns framer.new × HoldAll ns before (buffered self.new) (F.files folder.new)) }
-        ensures err { IfErr result (λ e. (octets behind : List ℕ) (ms : List (List ℕ)) (before : Option Files) → IsFramed octets ms framer.old
-            → HoldAll ms before (buffered self.old) (F.files folder.old)
-            → FrontAll (frames_of ((octets ++ piece.now) ++ behind)).0 before (buffered self.old) (F.files folder.new)) }
-        ensures fault { IfErr result (λ e. (octets behind : List ℕ) (ms : List (List ℕ)) → IsFramed octets ms framer.old
+        ensures ok { OnOk result (TakesPiece framer.old piece.now framer.new (buffered self.old) (F.files folder.old) (buffered self.new) (F.files folder.new)) }
+        ensures err { IfErr result (StopsInPiece framer.old piece.now (buffered self.old) (F.files folder.old) (F.files folder.new)) }
         ensures count { CountsWrite result (F.failures folder.old) (F.failures folder.new) }
-            → IsSecondRefused ((octets ++ piece.now) ++ behind) (buffered self.old) e) }
     {
         let lent = match framer.lend(piece) {
             Ok(lent) => lent,
@@ -179,12 +175,10 @@ impl Buffers {
         folder: &mut F,
     ) -> Result<(), SplitFault>
         ensures same { SameDomains (buffered self.old) (buffered self.new) }
-        ensures ok { OnOk result ((octets : List ℕ) (before : Option Files) → R.left reader.old ≡ Some octets
-            → HoldAll [] before (buffered self.old) (F.files folder.old)
-            → HoldAll (frames_of octets).0 before (buffered self.new) (F.files folder.new)) }
-        ensures err { IfErr result (λ e. (octets : List ℕ) (before : Option Files) → R.left reader.old ≡ Some octets
-            → HoldAll [] before (buffered self.old) (F.files folder.old)
-            → FrontAll (frames_of octets).0 before (buffered self.old) (F.files folder.new)) }
+        ensures ok { OnOk result ((octets : List ℕ) → R.left reader.old ≡ Some octets
+            → Takes (frames_of octets).0 (buffered self.old) (F.files folder.old) (buffered self.new) (F.files folder.new)) }
+        ensures err { OnErr result ((octets : List ℕ) → R.left reader.old ≡ Some octets
+            → Begins (frames_of octets).0 (buffered self.old) (F.files folder.old) (F.files folder.new)) }
         ensures fault { IfErr result (λ e. (octets : List ℕ) → R.left reader.old ≡ Some octets → IsSecondRefused octets (buffered self.old) e) }
         ensures count { CountsWrite result (F.failures folder.old) (F.failures folder.new) }
         ensures read { CountsRead result (R.failures reader.old) (R.failures reader.new) }
@@ -194,12 +188,7 @@ impl Buffers {
         let mut framer = Framer::new(alloc);
         for _turn in 0..u64::MAX {
             match reader.read(piece.as_mut_slice()) {
-                Ok(0) => {
-                    return match framer.finish() {
-                        Ok(()) => Ok(()),
-                        Err(fault) => Err(framing_fault(fault)),
-                    };
-                }
+                Ok(0) => return finish(&framer),
                 Ok(n) => self.take_piece(&mut framer, &piece[..n], folder)?,
                 Err(_) => return Err(SplitFault::Read(ReadFault::Read)),
             }
@@ -210,12 +199,10 @@ impl Buffers {
     // Writes what the buffer of a domain holds, where it has one.
     fn empty_one<F: Folder>(&mut self, domain: u32, folder: &mut F) -> Result<(), SplitFault>
         ensures same { SameDomains (buffered self.old) (buffered self.new) }
-        ensures ok { OnOk result ((ms : List (List ℕ)) (before : Option Files) → HoldAll ms before (buffered self.old) (F.files folder.old)
-            → HoldAll ms before (buffered self.new) (F.files folder.new)) }
+        ensures ok { OnOk result (Takes [] (buffered self.old) (F.files folder.old) (buffered self.new) (F.files folder.new)) }
         ensures empty { OnOk result ((kept : List ℕ) → buffered self.new domain ≡ Some kept → kept ≡ []) }
         ensures others { (d : ℕ) → (d == domain) ≡ false → buffered self.new d ≡ buffered self.old d }
-        ensures err { IfErr result (λ e. (ms : List (List ℕ)) (before : Option Files) → HoldAll ms before (buffered self.old) (F.files folder.old)
-            → FrontAll ms before (buffered self.old) (F.files folder.new)) }
+        ensures err { OnErr result (Begins [] (buffered self.old) (F.files folder.old) (F.files folder.new)) }
         ensures fault { IfErr result (λ e. e ≡ SplitFault.Write) }
         ensures count { CountsWrite result (F.failures folder.old) (F.failures folder.new) }
     {
@@ -233,11 +220,9 @@ impl Buffers {
         folder: &mut F,
     ) -> Result<(), SplitFault>
         ensures same { SameDomains (buffered self.old) (buffered self.new) }
-        ensures ok { OnOk result ((ms : List (List ℕ)) (before : Option Files) → HoldAll ms before (buffered self.old) (F.files folder.old)
-            → HoldAll ms before (buffered self.new) (F.files folder.new)) }
+        ensures ok { OnOk result (Takes [] (buffered self.old) (F.files folder.old) (buffered self.new) (F.files folder.new)) }
         ensures empty { OnOk result ((d : ℕ) (kept : List ℕ) → is_among d domains.now ≡ true → buffered self.new d ≡ Some kept → kept ≡ []) }
-        ensures err { IfErr result (λ e. (ms : List (List ℕ)) (before : Option Files) → HoldAll ms before (buffered self.old) (F.files folder.old)
-            → FrontAll ms before (buffered self.old) (F.files folder.new)) }
+        ensures err { OnErr result (Begins [] (buffered self.old) (F.files folder.old) (F.files folder.new)) }
         ensures fault { IfErr result (λ e. e ≡ SplitFault.Write) }
         ensures count { CountsWrite result (F.failures folder.old) (F.failures folder.new) }
     {

@@ -8,4 +8,5 @@ abbrev pub invariant-loop-domain : goal.invariant-loop-domain
 invariant-loop-domain g l = record {
   same : g.F.Folder.files l.folder ≡ g.F.Folder.files l.initial.folder;
   free : (all : Files) → g.F.Folder.files l.initial.folder ≡ Some all → (d : ℕ) → is_among d (take l.domain-index l.domains) ≡ true → all d ≡ None;
+  calm : g.F.Folder.failures l.folder ≡ g.F.Folder.failures l.initial.folder;
 }
