@@ -15,3 +15,4 @@ pub mod Refusals
 pub mod OnResults
 pub mod Strangers
 pub mod PieceSteps
+pub mod PartSteps

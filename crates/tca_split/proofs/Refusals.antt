@@ -1,22 +1,23 @@
 -- Why a capture isn't split, by what its steps are refused for.
-use Rattle.std.proofs.Common.{◌≡◌, ◌≢◌, ◌⊎◌, ℕ, true, false, inl, inr, List, Option, Some, None, Result, Ok, Err, refl, sym, ap, subst, ◌∙◌}
+use Rattle.std.proofs.Common.{◌≡◌, ◌≢◌, ◌⊎◌, ℕ, Bool, true, false, cond, inl, inr, List, [], ◌∷◌, ◌++◌, append_assoc, Option, Some, None, Result, Ok, Err, refl, sym, ap, subst, ◌∙◌}
 use Rattle.std.specs.Prelude.{is_some}
 use Rattle.tca_wire.specs.Frames.{frames_of, ending}
 use Rattle.tca_wire.specs.declared.fault.WireFault.{WireFault}
 use Rattle.tca_wire.proofs.FramesOf.{is_stream}
 use Rattle.tca_report.specs.device.Devices.{Rises}
 use Rattle.tca_report.specs.declared.device.octets.ReadFault.TheVariants as read
-use Rattle.tca_split.specs.Parts.{domains_of}
+use Rattle.tca_split.specs.Parts.{domain_of, domains_of}
 use Rattle.tca_split.specs.Surveys.{is_among, unless_cut, IsRight}
 use Rattle.tca_split.specs.Failures.{CountsReadFault, CountsWriteFault}
 use Rattle.tca_split.specs.Folders.{Files}
 use Rattle.tca_split.specs.Splits.{has_part, IsFree, AreBegun, IsStopped, IsTaken, IsRefused}
 use Rattle.tca_split.specs.inside.Surveying.{Surveys, IsFirstRefused, IsOfReading}
-use Rattle.tca_split.specs.inside.Buffering.{IsSecondRefused, IsWritingRefused}
+use Rattle.tca_split.specs.inside.Buffering.{Kept, empty_for, HasStranger, IsSecondRefused, IsWritingRefused}
 use Rattle.tca_split.specs.declared.survey.Survey.{Survey}
 use Rattle.tca_split.specs.declared.fault.SplitFault.{SplitFault}
 use Rattle.tca_split.specs.declared.fault.SplitFault.TheVariants.{Read, Wire, Limits, Exists, Changed, Write, Memory}
 use Rattle.tca_split.proofs.SurveySteps.{surveyed_is}
+use Rattle.tca_split.proofs.DomainLists.{among_own, among_more}
 
 pub right_of : (octets : List ℕ) (s : Survey) → Surveys (frames_of octets).0 s → ending (frames_of octets).1 ≡ Ok tt → IsRight octets
 right_of octets s h e =
@@ -55,24 +56,33 @@ writing_refused octets fs y Changed right end free begun h = h
 writing_refused octets fs y Write right end free begun h = (right, inr (record { right = right; free = free; begun = begun }))
 writing_refused octets fs y Memory right end free begun h = inr (record { right = right; free = free; begun = begun })
 
-unknown : (octets ds : List ℕ) (k : ℕ → Option (List ℕ)) → ds ≡ domains_of (frames_of octets).0 → ((d : ℕ) → is_some (k d) ≡ is_among d ds)
-    → (d : ℕ) → is_among d (domains_of (frames_of octets).0) ≡ true → is_some (k d) ≡ false → ⊥
-unknown octets ds k own some d there none =
-    let bad : true ≡ false = sym there ∙ ap (is_among d) (sym own) ∙ sym (some d) ∙ none in
-    absurd cc
+-- each domain of a message has a buffer
+no_stranger : (octets ds : List ℕ) (k : Kept) → ds ≡ domains_of (frames_of octets).0 → ((d : ℕ) → k d ≡ empty_for ds d) → HasStranger (frames_of octets).0 k → ⊥
+no_stranger octets ds k own empty h =
+    let there : is_among (domain_of h.message) (domains_of (frames_of octets).0) ≡ true =
+        ap (λ (ms : List (List ℕ)). is_among (domain_of h.message) (domains_of ms)) (h.parts ∙ sym (append_assoc h.front (h.message ∷ []) h.behind))
+        ∙ among_more (h.front ++ h.message ∷ []) h.behind (domain_of h.message) (among_own h.front h.message) in
+    has_one (is_among (domain_of h.message) ds) (k (domain_of h.message)) (ap (is_among (domain_of h.message)) own ∙ there) (empty (domain_of h.message)) h.stranger
+  where
+    has_one : (b : Bool) (kept : Option (List ℕ)) → b ≡ true → kept ≡ cond b (Some []) None → is_some kept ≡ false → ⊥
+    has_one true None e is none = absurd cc
+    has_one true (Some l) e is none = absurd cc
+    has_one false kept e is none = absurd cc
 
 -- the second reading ended early, where it has the domains of the first
-pub second_refused : (octets ds : List ℕ) (k : ℕ → Option (List ℕ)) (e : SplitFault) → ds ≡ domains_of (frames_of octets).0 → ((d : ℕ) → is_some (k d) ≡ is_among d ds)
-    → IsSecondRefused octets k e → IsWritingRefused octets e
-second_refused octets ds k (Read read.Read) own some h = tt
-second_refused octets ds k (Read read.Turns) own some h = tt
-second_refused octets ds k (Read read.Memory) own some h = h
-second_refused octets ds k (Wire fault) own some h = h
-second_refused octets ds k Limits own some h = h
-second_refused octets ds k Exists own some h = h
-second_refused octets ds k Changed own some h = unknown octets ds k own some h.0 h.1 h.2
-second_refused octets ds k Write own some h = tt
-second_refused octets ds k Memory own some h = tt
+pub second_refused : (octets ds : List ℕ) (k : Kept) (e : SplitFault) → ds ≡ domains_of (frames_of octets).0 → ((d : ℕ) → k d ≡ empty_for ds d) → IsSecondRefused octets k e → IsWritingRefused octets e
+second_refused octets ds k (Read read.Read) own empty h = tt
+second_refused octets ds k (Read read.Turns) own empty h = tt
+second_refused octets ds k (Read read.Memory) own empty h = h
+second_refused octets ds k (Wire fault) own empty h = h
+second_refused octets ds k Limits own empty h = h
+second_refused octets ds k Exists own empty h = h
+second_refused octets ds k Changed own empty h = no_stranger octets ds k own empty h
+second_refused octets ds k Write own empty h = tt
+second_refused octets ds k Memory own empty h = tt
+
+pub write_refused : (octets : List ℕ) (e : SplitFault) → e ≡ Write → IsWritingRefused octets e
+write_refused octets e is = subst (λ (x : SplitFault). IsWritingRefused octets x) (sym is) tt
 
 -- a count that didn't rise, since no failed read was told
 pub calm_read : (e : SplitFault) (old new : ℕ) → CountsReadFault e old new → (e ≡ Read read.Read → ⊥) → new ≡ old
