@@ -1,5 +1,6 @@
 -- What a reader has left, where it is known.
-use Rattle.std.proofs.Common.{◌≡◌, List, [], ◌++◌, Option, Some, None, ℕ, refl, sym, ap, subst, ◌∙◌}
+use Rattle.std.proofs.Common.{◌≡◌, List, [], ◌++◌, Option, Some, None, ℕ, refl, sym, ap, subst, ◌∙◌, append-nil, ◌≤◌, length, take, drop, take_all, arith}
+use Rattle.std.proofs.lemmas.List.{take-append-le}
 use Rattle.std.specs.Io.KnownBytes.{Consumes, IsAtEnd}
 
 same_list : (a b : List ℕ) → Some a ≡ Some b → a ≡ b
@@ -16,3 +17,13 @@ pub read_end : (x y : Option (List ℕ)) (rest octets : List ℕ) → x ≡ Some
 read_end None y rest octets e none h at = absurd cc
 read_end (Some xs) None rest octets e none h at = absurd h
 read_end (Some xs) (Some ys) rest octets e none h at = sym (same_list xs rest e) ∙ h ∙ ap (λ (l : List ℕ). l ++ ys) none ∙ at
+
+-- nothing is left behind what was read
+pub whole : (octets done rest : List ℕ) → octets ≡ done ++ rest → rest ≡ [] → done ≡ octets
+whole octets done rest e none = sym (e ∙ ap (λ (l : List ℕ). done ++ l) none ∙ append-nil done)
+
+-- the front of what a read has filled
+pub same_front : (n size : ℕ) (into old : List ℕ) → n ≤ length into → size ≡ length into → take n (take size (into ++ drop (length into) old)) ≡ take n into
+same_front n size into old within e =
+    let fits : size ≤ length into = omega (arith, e) in
+    ap (take n) (take-append-le size into (drop (length into) old) fits ∙ take_all size into (omega (arith, e)))

@@ -1,5 +1,5 @@
 -- A first reading, message by message and piece by piece.
-use Rattle.std.proofs.Common.{◌≡◌, ℕ, ◌+◌, ◌-◌, ◌^◌, ◌<◌, ◌≤◌, Bool, true, false, cond, List, [], ◌∷◌, ◌++◌, length, Some, None, Result, Ok, Err, refl, sym, ap, ap₂, subst, ◌∙◌, arith, append-nil, ◌⊎◌, inl, inr}
+use Rattle.std.proofs.Common.{◌≡◌, ℕ, ◌+◌, ◌-◌, ◌^◌, ◌<◌, ◌≤◌, Bool, true, false, cond, List, [], ◌∷◌, ◌++◌, length, Option, Some, None, Result, Ok, Err, refl, sym, ap, ap₂, subst, ◌∙◌, arith, append-nil, ◌⊎◌, inl, inr}
 use Rattle.std.specs.Prelude.{nat_lt, nat_eq, min}
 use Rattle.std.proofs.lemmas.Bool.Decides.{nat_tests}
 use Rattle.std.proofs.lemmas.List.{length-append}
@@ -9,13 +9,14 @@ use Rattle.tca_wire.specs.declared.fault.WireFault.{WireFault}
 use Rattle.tca_wire.specs.declared.fault.WireFault.TheVariants as wire
 use Rattle.tca_wire.proofs.Framings.{joined}
 use Rattle.tca_wire.proofs.FramesOf.{frames_are, is_stream}
+use Rattle.tca_report.specs.device.Devices.{read_size}
 use Rattle.tca_report.proofs.lemmas.input.CaptureParts.{fails_on, in_longer}
 use Rattle.tca_split.specs.Parts.{domain_of, domains_of}
 use Rattle.tca_split.specs.Surveys.{most_domains, surveyed, surveyed_as, unless_cut, as_u64}
 use Rattle.tca_split.specs.Faults.{framing_fault}
 use Rattle.tca_split.specs.inside.Surveying.{Surveys, IsFramed, AreTooMany, IsFirstRefused, IsOfFraming}
 use Rattle.tca_split.specs.Failures.{CountsReadFault}
-use Rattle.tca_split.specs.Wants.{BringMore}
+use Rattle.tca_split.specs.Wants.{BringMore, WantsMemory}
 use Rattle.tca_report.specs.declared.device.octets.ReadFault.TheVariants as read
 use Rattle.tca_split.specs.declared.survey.Survey.{Survey}
 use Rattle.tca_split.specs.declared.fault.SplitFault.{SplitFault}
@@ -67,7 +68,7 @@ surveyed_many octets ms after s many =
 
 -- messages of too many domains, whatever is behind them
 pub refused_within : (octets behind : List ℕ) (ms : List (List ℕ)) (after : Framing) (e : SplitFault) → IsStream octets ms after → AreTooMany ms e → IsFirstRefused (octets ++ behind) e
-refused_within octets behind ms after (Read fault) s h = tt
+refused_within octets behind ms after (Read fault) s h = absurd h
 refused_within octets behind ms after (Wire fault) s h = absurd h
 refused_within octets behind ms after Limits s h =
     let l = in_longer octets behind ms after s in
@@ -201,3 +202,20 @@ wanted_by octets piece ms framer f needed =
     go : (ns : List (List ℕ)) (after : Framing) → Feeds framer piece ns after → (HoldsPart framer × (0 < length ns)) ⊎ HoldsPart after → BringMore octets piece
     go ns after feeds (inl both) = brought_by octets piece ms ns framer after f feeds (inl both.1)
     go ns after feeds (inr part) = brought_by octets piece ms ns framer after f feeds (inr part)
+
+-- memory that the first reading wants for a piece
+pub wants_memory : (octets front piece rest : List ℕ) (ms : List (List ℕ)) (framer : Framing) (s : Survey) (left : Option (List ℕ)) → IsFramed front ms framer → Surveys ms s
+    → octets ≡ (front ++ piece) ++ rest → left ≡ Some rest → length piece ≤ read_size → BringMore front piece → WantsMemory octets left
+wants_memory octets front piece rest ms framer s left f h all behind short more =
+    let same = framed_whole front ms framer f in
+    record {
+      front = front;
+      piece = piece;
+      rest = rest;
+      read = all;
+      behind = behind;
+      short = short;
+      right = ap fault_of (same.1 ∙ f.holds);
+      few = subst (λ (l : List (List ℕ)). length (domains_of l) ≤ most_domains) (sym same.0) h.few;
+      brought = more;
+    }

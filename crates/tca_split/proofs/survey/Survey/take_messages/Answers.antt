@@ -14,10 +14,12 @@ take_message-requires c =
     frames.0.room
 
 pub loop-message-init : goal.loop-message-init
-loop-message-init c = record {
-  frames = c.requires.frames;
-  so_far = ([], refl, λ ms h. subst (λ (l : List (List ℕ)). Surveys l c.args.self) (sym (append-nil ms)) h);
-}
+loop-message-init c =
+    let is : c.into_iter-message-iterator.result ≡ c.args.messages = c.into_iter-message-iterator.ensures.into_iter_gives in
+    record {
+      frames = subst (λ (l : List (List ℕ)). AllByRecursion IsFrame l) (sym is) c.requires.frames;
+      so_far = ([], sym is, λ ms h. subst (λ (l : List (List ℕ)). Surveys l c.args.self) (sym (append-nil ms)) h);
+    }
 
 pub loop-message-preserved : goal.loop-message-preserved
 loop-message-preserved c =
@@ -44,7 +46,7 @@ returns-in_err-survey-clause-err c = λ ms h.
     let p = err_from_is_err_and c.from_residual.result c.from_residual.ensures.1 in
     let whole : ((ms ++ t.0) ++ m ∷ []) ++ rest ≡ ms ++ c.args.messages =
         append_assoc (ms ++ t.0) (m ∷ []) rest ∙ append_assoc ms t.0 (m ∷ rest) ∙ ap (λ (l : List (List ℕ)). ms ++ l) (ap (λ (l : List (List ℕ)). t.0 ++ l) (sym parts) ∙ sym t.1) in
-    rw (p.1, p.2) (subst (λ (l : List (List ℕ)). AreTooMany l _) whole (still_many ((ms ++ t.0) ++ m ∷ []) rest _ (c.in_err-survey.ensures.err (ms ++ t.0) (t.2 ms h))))
+    rw (p.1, p.2) (subst (λ (l : List (List ℕ)). AreTooMany l c.in_err-survey.field-0.0) whole (still_many ((ms ++ t.0) ++ m ∷ []) rest c.in_err-survey.field-0.0 (c.in_err-survey.ensures.err (ms ++ t.0) (t.2 ms h))))
 
 pub returns-in_err-survey-clause-some : goal.returns-in_err-survey-clause-some
 returns-in_err-survey-clause-some c =
@@ -54,7 +56,7 @@ returns-in_err-survey-clause-some c =
     let t = c.loop-message.invariant.so_far in
     let p = err_from_is_err_and c.from_residual.result c.from_residual.ensures.1 in
     let whole : c.args.messages ≡ t.0 ++ m ∷ rest = t.1 ∙ ap (λ (l : List (List ℕ)). t.0 ++ l) parts in
-    rw (p.1, p.2) (omega (arith, ap (λ (l : List (List ℕ)). length l) whole, length-append t.0 (m ∷ rest)))
+    rw (p.1) (omega (arith, ap (λ (l : List (List ℕ)). length l) whole, length-append t.0 (m ∷ rest)))
 
 pub returns-clause-ok : goal.returns-clause-ok
 returns-clause-ok c = λ ms h.

@@ -34,10 +34,10 @@ returns-in-Some-clause-err c = λ octets behind ms f h.
     let now = c.in_ok-survey.ensures.ok ms h in
     let failed = failed_stream (octets ++ c.args.piece.now) behind (ms ++ ns) c.lend.new.self c.in-Some.fault s (sym c.in-Ok.ensures.fault ∙ c.in-Some.is) in
     let told = surveyed_is ((octets ++ c.args.piece.now) ++ behind) (ms ++ ns) (Failed c.in-Some.fault) failed now.few in
-    subst (λ (e : SplitFault). IsFirstRefused ((octets ++ c.args.piece.now) ++ behind) e) (sym c.framing_fault.ensures) (refused_by_fault ((octets ++ c.args.piece.now) ++ behind) c.in-Some.fault told)
+    subst (λ (e : SplitFault). IsFirstRefused ((octets ++ c.args.piece.now) ++ behind) e) (sym c.framing_fault-in-Some.ensures) (refused_by_fault ((octets ++ c.args.piece.now) ++ behind) c.in-Some.fault told)
 
-pub returns-in-None-clause-ok : goal.returns-in-None-clause-ok
-returns-in-None-clause-ok c = λ octets ms f h.
+pub returns-clause-ok : goal.returns-clause-ok
+returns-clause-ok c = λ octets ms f h.
     let ns = c.messages.result in
     let feeds = subst (λ (l : List (List ℕ)). Feeds c.args.framer.now c.args.piece.now l c.lend.new.self) (sym c.messages.ensures) c.in-Ok.ensures.stream in
     let s = fed octets c.args.piece.now ms ns c.args.framer.now c.lend.new.self f feeds in
@@ -61,8 +61,8 @@ returns-in-Some-clause-memory c = λ is octets ms f.
     let feeds = subst (λ (l : List (List ℕ)). Feeds c.args.framer.now c.args.piece.now l c.lend.new.self) (sym c.messages.ensures) c.in-Ok.ensures.stream in
     let s = fed octets c.args.piece.now ms ns c.args.framer.now c.lend.new.self f feeds in
     let failed = failed_stream (octets ++ c.args.piece.now) [] (ms ++ ns) c.lend.new.self c.in-Some.fault s (sym c.in-Ok.ensures.fault ∙ c.in-Some.is) in
-    let told : c.framing_fault.result ≡ Memory = cc in
-    absurd (header_fault _ (ms ++ ns) c.in-Some.fault failed (sym c.framing_fault.ensures ∙ told))
+    let told : c.framing_fault-in-Some.result ≡ Memory = cc in
+    absurd (header_fault _ (ms ++ ns) c.in-Some.fault failed (sym c.framing_fault-in-Some.ensures ∙ told))
 
 pub returns-in-Some-clause-kind : goal.returns-in-Some-clause-kind
-returns-in-Some-clause-kind c = subst (λ (e : SplitFault). IsOfFraming e) (sym c.framing_fault.ensures) (framing_kind c.in-Some.fault)
+returns-in-Some-clause-kind c = subst (λ (e : SplitFault). IsOfFraming e) (sym c.framing_fault-in-Some.ensures) (framing_kind c.in-Some.fault)
