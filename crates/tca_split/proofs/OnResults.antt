@@ -17,3 +17,7 @@ err_map P Q (Err x) f h = f h
 pub ok_map : {T E : Type 0} (P Q : Type 0) (r : Result T E) → (P → Q) → OnOk r P → OnOk r Q
 ok_map P Q (Ok x) f h = f h
 ok_map P Q (Err x) f h = tt
+
+pub ok_of : {T E : Type 0} (P : Type 0) (r : Result T E) → P → OnOk r P
+ok_of P (Ok x) h = h
+ok_of P (Err x) h = tt

@@ -1,5 +1,7 @@
 -- A second reading, piece by piece.
-use Rattle.std.proofs.Common.{◌≡◌, ℕ, List, [], ◌++◌, Option, Some, None, Err, refl, sym, ap, subst, ◌∙◌, append_assoc, append-nil}
+use Rattle.std.proofs.Common.{◌≡◌, ℕ, List, [], ◌++◌, Option, Some, None, Err, refl, sym, ap, subst, ◌∙◌, append_assoc, append-nil, arith, length, take, drop, take_all}
+use Rattle.std.proofs.lemmas.List.{drop_all}
+use Rattle.std.specs.Prelude.{Result, Ok, IfErr}
 use Rattle.std.specs.Io.KnownBytes.{Consumes, IsAtEnd}
 use Rattle.tca_wire.specs.Frames.{Framing, Holds, Failed, IsStream, Feeds, fault_of, frames_of, ending}
 use Rattle.tca_wire.specs.declared.fault.WireFault.{WireFault}
@@ -7,6 +9,7 @@ use Rattle.tca_wire.specs.declared.fault.WireFault.TheVariants as wire
 use Rattle.tca_wire.proofs.FramesOf.{is_stream, frames_are}
 use Rattle.tca_report.proofs.lemmas.input.CaptureParts.{in_longer}
 use Rattle.tca_split.specs.Faults.{framing_fault}
+use Rattle.tca_split.specs.Failures.{CountsWriteFault, CountsWrite, CountsReadFault, CountsRead}
 use Rattle.tca_split.specs.Folders.{Files}
 use Rattle.tca_split.specs.inside.Surveying.{IsFramed}
 use Rattle.tca_split.specs.inside.Buffering.{Kept, Takes, Begins, SameDomains, IsPieceRefused, TakesPiece, StopsInPiece, HasRead, IsSecondRefused}
@@ -124,3 +127,57 @@ module _ (octets : List ℕ) (left : Option (List ℕ)) (framer : Framing) (k l 
       go (wire.SetLength at) p = p
       go (wire.SetPastEnd at) p = p
       go (wire.Trailing at) p = p
+
+-- the same of a result
+pub ended_if_refused : (start left now : Option (List ℕ)) (framer : Framing) (k l : Kept) (x y : Option Files) (piece : List ℕ) (r : Result (Unit {0}) SplitFault)
+    → ((octets : List ℕ) → start ≡ Some octets → HasRead octets left framer k x l y) → piece ≡ [] → Consumes left now piece → IsAtEnd now
+    → IfErr r (λ e. (fault : WireFault) × (ending framer ≡ Err fault) × (e ≡ framing_fault fault)) → IfErr r (λ e. (octets : List ℕ) → start ≡ Some octets → IsSecondRefused octets k e)
+ended_if_refused start left now framer k l x y piece (Ok u) so_far none consumes end h = tt
+ended_if_refused start left now framer k l x y piece (Err e) so_far none consumes end h = λ octets known.
+    subst (IsSecondRefused octets k) (sym h.2) (ended_refused octets left framer k l x y (so_far octets known) now piece h.0 none consumes end h.1)
+
+-- a fault of the framing counts nothing
+no_write : (fault : WireFault) (m n : ℕ) → n ≡ m → CountsWriteFault (framing_fault fault) m n
+no_write wire.Memory m n h = h
+no_write wire.Short m n h = h
+no_write (wire.BadVersion v) m n h = h
+no_write (wire.BadLength v) m n h = h
+no_write (wire.SetLength at) m n h = h
+no_write (wire.SetPastEnd at) m n h = h
+no_write (wire.Trailing at) m n h = h
+
+no_read : (fault : WireFault) (m n : ℕ) → n ≡ m → CountsReadFault (framing_fault fault) m n
+no_read wire.Memory m n h = h
+no_read wire.Short m n h = h
+no_read (wire.BadVersion v) m n h = h
+no_read (wire.BadLength v) m n h = h
+no_read (wire.SetLength at) m n h = h
+no_read (wire.SetPastEnd at) m n h = h
+no_read (wire.Trailing at) m n h = h
+
+pub counts_no_write : (r : Result (Unit {0}) SplitFault) (framer : Framing) (m n : ℕ) → IfErr r (λ e. (fault : WireFault) × (ending framer ≡ Err fault) × (e ≡ framing_fault fault)) → n ≡ m → CountsWrite r m n
+counts_no_write (Ok u) framer m n h e = e
+counts_no_write (Err f) framer m n h e = subst (λ f. CountsWriteFault f m n) (sym h.2) (no_write h.0 m n e)
+
+pub counts_no_read : (r : Result (Unit {0}) SplitFault) (framer : Framing) (m n : ℕ) → IfErr r (λ e. (fault : WireFault) × (ending framer ≡ Err fault) × (e ≡ framing_fault fault)) → n ≡ m → CountsRead r m n
+counts_no_read (Ok u) framer m n h e = e
+counts_no_read (Err f) framer m n h e = subst (λ f. CountsReadFault f m n) (sym h.2) (no_read h.0 m n e)
+
+-- a piece counts no read
+pub stopped_reads : (framer : Framing) (piece : List ℕ) (k : Kept) (x y : Option Files) (e : SplitFault) (m n : ℕ) → StopsInPiece framer piece k x y e → n ≡ m → CountsReadFault e m n
+stopped_reads framer piece k x y e m n s h = go e s.refused
+  where
+    go : (e : SplitFault) → IsPieceRefused s.messages s.after k e → CountsReadFault e m n
+    go (Read fault) p = absurd p
+    go (Wire fault) p = h
+    go Limits p = absurd p
+    go Exists p = absurd p
+    go Changed p = h
+    go Write p = h
+    go Memory p = h
+
+-- all of a piece's octets, as a read left them
+pub whole_piece : (len : ℕ) (into items : List ℕ) → length into ≡ length items → length items ≡ len → take len (into ++ drop (length into) items) ≡ into
+whole_piece len into items same all =
+    let none : drop (length into) items ≡ [] = drop_all (length into) items (omega (arith, same)) in
+    ap (λ (l : List ℕ). take len (into ++ l)) none ∙ ap (take len) (append-nil into) ∙ take_all len into (omega (arith, same, all))

@@ -11,5 +11,5 @@ invariant-loop-turn g l = record {
       → HasRead octets (g.R.Read.left l.reader) l.framer (buffered l.initial.self) (g.F.Folder.files l.initial.folder) (buffered l.self) (g.F.Folder.files l.folder);
   calm : g.F.Folder.failures l.folder ≡ g.F.Folder.failures l.initial.folder;
   quiet : g.R.Read.failures l.reader ≡ g.R.Read.failures l.initial.reader;
-  turns : g.R.Read.reads l.reader ≡ g.R.Read.reads l.initial.reader + l.turn;
+  turns : g.R.Read.reads l.reader ≡ g.R.Read.reads l.initial.reader + l._turn;
 }
