@@ -1,6 +1,6 @@
 -- Messages that go to the buffers and the files of their domains.
 use Rattle.std.proofs.Common.{◌≡◌, ℕ, Bool, true, false, cond, List, [], ◌∷◌, ◌++◌, Option, Some, None, refl, sym, ap, ap₂, subst, ◌∙◌, arith, append_assoc, append-nil}
-use Rattle.std.specs.Prelude.{◌==◌, nat_eq, option_map, filter}
+use Rattle.std.specs.Prelude.{◌==◌, nat_eq, option_map}
 use Rattle.std.specs.List.{concat}
 use Rattle.std.proofs.lemmas.Bool.Decides.{nat_tests}
 use Rattle.std.proofs.lemmas.List.Elements.{filter-append}
@@ -26,12 +26,11 @@ more_one a b None l m f g h p q =
     let r = subst (λ (o : Option (List ℕ)). TakesPart b o g m h) p.1 q in
     (ap₂ (λ (s t : List (List ℕ)). s ++ t) p.0 r.0, r.1, r.2 ∙ p.2)
 more_one a b (Some kept) l m f g h p q =
-    let r = subst (λ (o : Option (List ℕ)). TakesPart b o g m h) p.3 q in
-    (
+    let r = subst (λ (o : Option (List ℕ)). TakesPart b o g m h) p.3 q in (
       p.0 ++ r.0,
       r.1,
       ap (λ (s : List ℕ). kept ++ s) (concat-append a b) ∙ sym (append_assoc kept (concat a) (concat b)) ∙ ap (λ (s : List ℕ). s ++ concat b) p.2
-      ∙ append_assoc p.0 p.1 (concat b) ∙ ap (λ (s : List ℕ). p.0 ++ s) r.2 ∙ sym (append_assoc p.0 r.0 r.1),
+          ∙ append_assoc p.0 p.1 (concat b) ∙ ap (λ (s : List ℕ). p.0 ++ s) r.2 ∙ sym (append_assoc p.0 r.0 r.1),
       r.3,
       r.4 ∙ ap (option_map (λ xs. xs ++ r.0)) p.4 ∙ longer p.0 r.0 f,
     )
@@ -57,12 +56,11 @@ begins_same ms k (Some fs) = λ d. same_one (messages_of d ms) (k d) (fs d)
 begun_one : (a b : List (List ℕ)) (k l f g h : Option (List ℕ)) → TakesPart a k f l g → BeginsPart b l g h → BeginsPart (a ++ b) k f h
 begun_one a b None l f g h p q = subst (λ (o : Option (List ℕ)). BeginsPart b o g h) p.1 q ∙ p.2
 begun_one a b (Some kept) l f g h p q =
-    let r = subst (λ (o : Option (List ℕ)). BeginsPart b o g h) p.3 q in
-    (
+    let r = subst (λ (o : Option (List ℕ)). BeginsPart b o g h) p.3 q in (
       p.0 ++ r.0,
       r.1,
       ap (λ (s : List ℕ). kept ++ s) (concat-append a b) ∙ sym (append_assoc kept (concat a) (concat b)) ∙ ap (λ (s : List ℕ). s ++ concat b) p.2
-      ∙ append_assoc p.0 p.1 (concat b) ∙ ap (λ (s : List ℕ). p.0 ++ s) r.2 ∙ sym (append_assoc p.0 r.0 r.1),
+          ∙ append_assoc p.0 p.1 (concat b) ∙ ap (λ (s : List ℕ). p.0 ++ s) r.2 ∙ sym (append_assoc p.0 r.0 r.1),
       r.3 ∙ ap (option_map (λ xs. xs ++ r.0)) p.4 ∙ longer p.0 r.0 f,
     )
 
@@ -81,7 +79,7 @@ longer_one a b (Some kept) f g p = (
   p.0,
   p.1 ++ concat b,
   ap (λ (s : List ℕ). kept ++ s) (concat-append a b) ∙ sym (append_assoc kept (concat a) (concat b)) ∙ ap (λ (s : List ℕ). s ++ concat b) p.2
-  ∙ append_assoc p.0 p.1 (concat b),
+      ∙ append_assoc p.0 p.1 (concat b),
   p.3,
 )
 

@@ -1,6 +1,6 @@
 -- What becomes of a domain's file in several steps.
-use Rattle.std.proofs.Common.{◌≡◌, ℕ, ◌+◌, false, List, [], ◌++◌, Option, Some, None, take, drop, take-add, refl, sym, ap, ◌∙◌, append_assoc, append-nil}
-use Rattle.std.specs.Prelude.{◌==◌, option_map}
+use Rattle.std.proofs.Common.{◌≡◌, ℕ, ◌+◌, List, [], ◌++◌, Option, Some, None, take, drop, take-add, refl, sym, ap, ◌∙◌, append_assoc, append-nil}
+use Rattle.std.specs.Prelude.{option_map}
 use Rattle.tca_split.specs.Folders.{Files, Lengthens}
 use Rattle.tca_split.specs.inside.Buffering.{Leaves, Starts}
 

@@ -1,9 +1,9 @@
 -- A second reading, piece by piece.
-use Rattle.std.proofs.Common.{◌≡◌, ℕ, List, [], ◌++◌, Option, Some, None, Err, refl, sym, ap, subst, ◌∙◌, append_assoc, append-nil, arith, length, take, drop, take_all}
+use Rattle.std.proofs.Common.{◌≡◌, ℕ, List, [], ◌++◌, Option, Some, Err, refl, sym, ap, subst, ◌∙◌, append_assoc, append-nil, arith, length, take, drop, take_all}
 use Rattle.std.proofs.lemmas.List.{drop_all}
 use Rattle.std.specs.Prelude.{Result, Ok, IfErr}
 use Rattle.std.specs.Io.KnownBytes.{Consumes, IsAtEnd}
-use Rattle.tca_wire.specs.Frames.{Framing, Holds, Failed, IsStream, Feeds, fault_of, frames_of, ending}
+use Rattle.tca_wire.specs.Frames.{Framing, Holds, Failed, IsStream, Feeds, frames_of, ending}
 use Rattle.tca_wire.specs.declared.fault.WireFault.{WireFault}
 use Rattle.tca_wire.specs.declared.fault.WireFault.TheVariants as wire
 use Rattle.tca_wire.proofs.FramesOf.{is_stream, frames_are}

@@ -1,5 +1,5 @@
 -- What a reader has left, where it is known.
-use Rattle.std.proofs.Common.{◌≡◌, List, [], ◌++◌, Option, Some, None, ℕ, refl, sym, ap, subst, ◌∙◌, append-nil, ◌≤◌, length, take, drop, take_all, arith}
+use Rattle.std.proofs.Common.{◌≡◌, List, [], ◌++◌, Option, Some, None, ℕ, refl, sym, ap, ◌∙◌, append-nil, ◌≤◌, length, take, drop, take_all, arith}
 use Rattle.std.proofs.lemmas.List.{take-append-le}
 use Rattle.std.specs.Io.KnownBytes.{Consumes, IsAtEnd}
 

@@ -1,8 +1,7 @@
 -- Why a capture isn't split, by what its steps are refused for.
-use Rattle.std.proofs.Common.{◌≡◌, ◌≢◌, ◌⊎◌, ℕ, Bool, true, false, cond, inl, inr, List, [], ◌∷◌, ◌++◌, append_assoc, Option, Some, None, Result, Ok, Err, refl, sym, ap, subst, ◌∙◌}
+use Rattle.std.proofs.Common.{◌≡◌, ◌≢◌, ◌⊎◌, ℕ, Bool, true, false, cond, inl, inr, List, [], ◌∷◌, ◌++◌, append_assoc, Option, Some, None, Ok, Err, refl, sym, ap, subst, ◌∙◌}
 use Rattle.std.specs.Prelude.{is_some}
 use Rattle.tca_wire.specs.Frames.{frames_of, ending}
-use Rattle.tca_wire.specs.declared.fault.WireFault.{WireFault}
 use Rattle.tca_wire.proofs.FramesOf.{is_stream}
 use Rattle.tca_report.specs.device.Devices.{Rises}
 use Rattle.tca_report.specs.declared.device.octets.ReadFault.TheVariants as read
@@ -10,7 +9,7 @@ use Rattle.tca_split.specs.Parts.{domain_of, domains_of}
 use Rattle.tca_split.specs.Surveys.{is_among, unless_cut, IsRight}
 use Rattle.tca_split.specs.Failures.{CountsReadFault, CountsWriteFault}
 use Rattle.tca_split.specs.Folders.{Files}
-use Rattle.tca_split.specs.Splits.{has_part, IsFree, AreBegun, IsStopped, IsTaken, IsRefused}
+use Rattle.tca_split.specs.Splits.{has_part, IsFree, AreBegun, IsRefused}
 use Rattle.tca_split.specs.inside.Surveying.{Surveys, IsFirstRefused, IsOfReading}
 use Rattle.tca_split.specs.inside.Buffering.{Kept, empty_for, HasStranger, IsSecondRefused, IsWritingRefused}
 use Rattle.tca_split.specs.declared.survey.Survey.{Survey}
@@ -60,8 +59,8 @@ writing_refused octets fs y Memory right end free begun h = inr (record { right 
 no_stranger : (octets ds : List ℕ) (k : Kept) → ds ≡ domains_of (frames_of octets).0 → ((d : ℕ) → k d ≡ empty_for ds d) → HasStranger (frames_of octets).0 k → ⊥
 no_stranger octets ds k own empty h =
     let there : is_among (domain_of h.message) (domains_of (frames_of octets).0) ≡ true =
-        ap (λ (ms : List (List ℕ)). is_among (domain_of h.message) (domains_of ms)) (h.parts ∙ sym (append_assoc h.front (h.message ∷ []) h.behind))
-        ∙ among_more (h.front ++ h.message ∷ []) h.behind (domain_of h.message) (among_own h.front h.message) in
+    ap (λ (ms : List (List ℕ)). is_among (domain_of h.message) (domains_of ms)) (h.parts ∙ sym (append_assoc h.front (h.message ∷ []) h.behind))
+    ∙ among_more (h.front ++ h.message ∷ []) h.behind (domain_of h.message) (among_own h.front h.message) in
     has_one (is_among (domain_of h.message) ds) (k (domain_of h.message)) (ap (is_among (domain_of h.message)) own ∙ there) (empty (domain_of h.message)) h.stranger
   where
     has_one : (b : Bool) (kept : Option (List ℕ)) → b ≡ true → kept ≡ cond b (Some []) None → is_some kept ≡ false → ⊥

@@ -1,5 +1,5 @@
 -- A first reading, message by message and piece by piece.
-use Rattle.std.proofs.Common.{◌≡◌, ℕ, ◌+◌, ◌-◌, ◌^◌, ◌<◌, ◌≤◌, Bool, true, false, cond, List, [], ◌∷◌, ◌++◌, length, Option, Some, None, Result, Ok, Err, refl, sym, ap, ap₂, subst, ◌∙◌, arith, append-nil, ◌⊎◌, inl, inr}
+use Rattle.std.proofs.Common.{◌≡◌, ℕ, ◌+◌, ◌-◌, ◌^◌, ◌<◌, ◌≤◌, true, false, cond, List, [], ◌∷◌, ◌++◌, length, Option, Some, None, Ok, Err, refl, sym, ap, ap₂, subst, ◌∙◌, arith, ◌⊎◌, inl, inr}
 use Rattle.std.specs.Prelude.{nat_lt, nat_eq, min}
 use Rattle.std.proofs.lemmas.Bool.Decides.{nat_tests}
 use Rattle.std.proofs.lemmas.List.{length-append}
@@ -12,7 +12,7 @@ use Rattle.tca_wire.proofs.FramesOf.{frames_are, is_stream}
 use Rattle.tca_report.specs.device.Devices.{read_size}
 use Rattle.tca_report.proofs.lemmas.input.CaptureParts.{fails_on, in_longer}
 use Rattle.tca_split.specs.Parts.{domain_of, domains_of}
-use Rattle.tca_split.specs.Surveys.{most_domains, surveyed, surveyed_as, unless_cut, as_u64}
+use Rattle.tca_split.specs.Surveys.{most_domains, surveyed, surveyed_as, unless_cut}
 use Rattle.tca_split.specs.Faults.{framing_fault}
 use Rattle.tca_split.specs.inside.Surveying.{Surveys, IsFramed, AreTooMany, IsFirstRefused, IsOfFraming}
 use Rattle.tca_split.specs.Failures.{CountsReadFault}

@@ -1,7 +1,6 @@
 -- What splitting a capture writes, and what it is refused for.
-use Rattle.std.specs.Prelude.{◌≡◌, ◌≢◌, ◌⊎◌, ℕ, Bool, true, if◌then◌else◌, List, ◌++◌, length, Option, Some, None, Ok, Err}
+use Rattle.std.specs.Prelude.{◌≡◌, ◌≢◌, ◌⊎◌, ℕ, Bool, true, if◌then◌else◌, List, ◌++◌, length, Option, Some, None, Err}
 use Rattle.tca_wire.specs.Frames.{frames_of}
-use Rattle.tca_wire.specs.declared.fault.WireFault.{WireFault}
 use Rattle.tca_report.specs.declared.device.octets.ReadFault.TheVariants as read
 use Rattle.tca_split.specs.Parts.{domains_of, part_of}
 use Rattle.tca_split.specs.Surveys.{is_among, surveyed, IsRight, as_u64}

@@ -105,11 +105,7 @@ impl Buffers {
     }
 
     // Takes a message.
-    fn take_message<F: Folder>(
-        &mut self,
-        message: &[u8],
-        folder: &mut F,
-    ) -> Result<(), SplitFault>
+    fn take_message<F: Folder>(&mut self, message: &[u8], folder: &mut F) -> Result<(), SplitFault>
         requires { 16 ≤ length message.now }
         ensures same { SameDomains (buffered self.old) (buffered self.new) }
         ensures ok { OnOk result (Takes (message.now ∷ []) (buffered self.old) (F.files folder.old) (buffered self.new) (F.files folder.new)) }

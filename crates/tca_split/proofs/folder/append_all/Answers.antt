@@ -1,5 +1,4 @@
-use Rattle.std.proofs.Common.{◌≡◌, ◌∙◌, ◌++◌, rules, arith, take, drop, sym, ap, subst, length, List, ℕ, take_all}
-use Rattle.std.proofs.lemmas.Grind.{common_steps}
+use Rattle.std.proofs.Common.{◌≡◌, ◌∙◌, rules, arith, take, drop, sym, subst, length, List, ℕ, take_all}
 use Rattle.std.proofs.lemmas.List.{take_rest, take-append-drop}
 use Rattle.tca_split.specs.Folders.{Lengthens}
 use Rattle.tca_split.proofs.FileSteps.{lengthens_none, lengthens_next}

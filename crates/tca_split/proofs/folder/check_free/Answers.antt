@@ -1,7 +1,6 @@
-use Rattle.std.proofs.Common.{◌≡◌, ◌∙◌, ℕ, true, get_or, sym, subst, take_all, arith}
+use Rattle.std.proofs.Common.{◌∙◌, ℕ, get_or, sym, take_all}
 use Rattle.std.specs.Prelude.{◌==◌}
 use Rattle.std.proofs.lemmas.List.Folds.{list_any_at}
-use Rattle.tca_split.specs.Surveys.{is_among}
 use Rattle.tca_split.proofs.DomainTemplates.{itself}
 use Rattle.tca_split.proofs.CreateSteps.{is_there, free_more}
 use Rattle.tca_split.proofs.folder.check_free.Goals as goal

@@ -1,4 +1,4 @@
-use Rattle.std.proofs.Common.{◌≡◌, ◌∙◌, ap, sym, length, Some}
+use Rattle.std.proofs.Common.{◌≡◌, ◌∙◌, ap, length, Some}
 use Rattle.std.proofs.lemmas.Result.{err_from_is_err_and}
 use Rattle.tca_wire.specs.Frames.{frames_of}
 use Rattle.tca_split.specs.Parts.{domains_of}

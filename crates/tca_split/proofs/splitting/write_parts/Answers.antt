@@ -1,4 +1,3 @@
-use Rattle.std.proofs.Common.{◌≡◌}
 use Rattle.std.proofs.lemmas.Result.{err_from_is_err_and}
 use Rattle.tca_split.specs.inside.Buffering.{buffered}
 use Rattle.tca_split.proofs.PartSteps.{nothing_begun, making_begun, reading_begun, emptying_begun, all_split}

@@ -1,4 +1,4 @@
-use Rattle.std.proofs.Common.{◌≡◌, ◌<◌, ◌++◌, ◌∙◌, [], Some, None, Err, sym, ap, subst, refl, ℕ, List, length, arith, take, drop, append_assoc, append-nil, inl, inr, rules}
+use Rattle.std.proofs.Common.{◌≡◌, ◌<◌, ◌++◌, ◌∙◌, [], Err, sym, ap, subst, refl, ℕ, List, length, arith, take, append_assoc, inr, rules}
 use Rattle.std.proofs.lemmas.Result.{err_from_is_err_and}
 use Rattle.std.proofs.lemmas.Bool.Decides.{nat_tests}
 use Rattle.tca_split.specs.inside.Surveying.{IsFirstRefused, IsFramed}

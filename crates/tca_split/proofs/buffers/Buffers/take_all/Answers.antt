@@ -1,14 +1,8 @@
-use Rattle.std.proofs.Common.{◌≡◌, ◌∙◌, ◌+◌, ◌<◌, ℕ, List, [], Some, Option, Err, refl, sym, ap, subst, rules, arith, take, length}
-use Rattle.std.specs.Prelude.{Result, Ok, IfErr}
-use Rattle.std.specs.Io.KnownBytes.{Consumes, IsAtEnd}
-use Rattle.tca_wire.specs.Frames.{Framing, frames_of, ending}
-use Rattle.tca_wire.specs.declared.fault.WireFault.{WireFault}
+use Rattle.std.proofs.Common.{◌≡◌, ◌∙◌, ℕ, List, Some, refl, sym, ap, subst, rules, arith, take, length}
+use Rattle.std.specs.Io.KnownBytes.{Consumes}
 use Rattle.tca_report.specs.device.Devices.{Rises}
-use Rattle.tca_split.specs.Faults.{framing_fault}
-use Rattle.tca_split.specs.Failures.{CountsWrite, CountsWriteFault, CountsRead, CountsReadFault}
-use Rattle.tca_split.specs.Folders.{Files}
-use Rattle.tca_split.specs.inside.Buffering.{Kept, buffered, HasRead, Takes, Begins, IsSecondRefused}
-use Rattle.tca_split.specs.declared.fault.SplitFault.{SplitFault}
+use Rattle.tca_split.specs.Failures.{CountsWriteFault, CountsReadFault}
+use Rattle.tca_split.specs.inside.Buffering.{buffered, IsSecondRefused}
 use Rattle.tca_split.proofs.OnResults.{ok_of, err_of}
 use Rattle.tca_split.proofs.BufferSteps.{begins_same}
 use Rattle.tca_split.proofs.PieceSteps.{read_none, read_more, stopped_begins, stopped_refused, so_far_begins, ended_takes, ended_if_refused, counts_no_write, counts_no_read, stopped_reads, whole_piece}
@@ -50,7 +44,7 @@ pub returns-in-Ok-eq0-clause-ok : goal.returns-in-Ok-eq0-clause-ok
 returns-in-Ok-eq0-clause-ok g c =
     let kept : length c.read.new.into ≡ 65536 = c.read.auto.into ∙ ap (λ (l : List ℕ). length l) c.as_mut_slice.ensures.value ∙ c.loop-turn.invariant.room in
     ok_of _ c.finish.result (λ octets known. ended_takes octets _ _ _ _ _ _ (c.loop-turn.invariant.so_far octets known) _ _ (ap (λ n. take n c.read.new.into) c.in-Ok-eq0.field-0-test) c.in-Ok-eq0.ensures.octets.0
-        (c.in-Ok-eq0.ensures.octets.1 c.in-Ok-eq0.field-0-test (omega (arith, kept))))
+    (c.in-Ok-eq0.ensures.octets.1 c.in-Ok-eq0.field-0-test (omega (arith, kept))))
 
 pub returns-in-Ok-eq0-clause-err : goal.returns-in-Ok-eq0-clause-err
 returns-in-Ok-eq0-clause-err g c = err_of _ c.finish.result (λ octets known. so_far_begins octets _ _ _ _ _ _ (c.loop-turn.invariant.so_far octets known))
@@ -86,19 +80,19 @@ returns-in_err-take_piece-in-Ok-clause-fault g c =
     let all = whole_piece c.loop-turn.piece.len c.read.new.into c.loop-turn.piece.items kept (sym (ap (λ (l : List ℕ). length l) slice.value) ∙ slice.len) in
     let consumes = subst (λ (l : List ℕ). Consumes (g.R.Read.left c.loop-turn.reader) (g.R.Read.left c.read.new.self) (take c.in-Ok.n l)) (sym (c.deref.ensures.value ∙ all)) c.in-Ok.ensures.octets.0 in
     let refused : (octets : List ℕ) → g.R.Read.left c.args.reader.now ≡ Some octets → IsSecondRefused octets (buffered c.args.self.now) c.in_err-take_piece-in-Ok.field-0.0
-        = λ octets known. stopped_refused octets _ _ _ _ _ _ (c.loop-turn.invariant.so_far octets known) _ _ _ _ c.loop-turn.invariant.same consumes c.in_err-take_piece-in-Ok.ensures.err in
+    = λ octets known. stopped_refused octets _ _ _ _ _ _ (c.loop-turn.invariant.so_far octets known) _ _ _ _ c.loop-turn.invariant.same consumes c.in_err-take_piece-in-Ok.ensures.err in
     search rules
 
 pub returns-in_err-take_piece-in-Ok-clause-count : goal.returns-in_err-take_piece-in-Ok-clause-count
 returns-in_err-take_piece-in-Ok-clause-count g c =
     let count : CountsWriteFault c.in_err-take_piece-in-Ok.field-0.0 (g.F.Folder.failures c.args.folder.now) (g.F.Folder.failures c.take_piece.new.folder)
-        = subst (λ n. CountsWriteFault c.in_err-take_piece-in-Ok.field-0.0 n (g.F.Folder.failures c.take_piece.new.folder)) c.loop-turn.invariant.calm c.in_err-take_piece-in-Ok.ensures.count in
+    = subst (λ n. CountsWriteFault c.in_err-take_piece-in-Ok.field-0.0 n (g.F.Folder.failures c.take_piece.new.folder)) c.loop-turn.invariant.calm c.in_err-take_piece-in-Ok.ensures.count in
     search rules
 
 pub returns-in_err-take_piece-in-Ok-clause-read : goal.returns-in_err-take_piece-in-Ok-clause-read
 returns-in_err-take_piece-in-Ok-clause-read g c =
     let count : CountsReadFault c.in_err-take_piece-in-Ok.field-0.0 (g.R.Read.failures c.args.reader.now) (g.R.Read.failures c.read.new.self)
-        = stopped_reads _ _ _ _ _ _ _ _ c.in_err-take_piece-in-Ok.ensures.err (c.in-Ok.ensures.count ∙ c.loop-turn.invariant.quiet) in
+    = stopped_reads _ _ _ _ _ _ _ _ c.in_err-take_piece-in-Ok.ensures.err (c.in-Ok.ensures.count ∙ c.loop-turn.invariant.quiet) in
     search rules
 
 pub returns-in-Err-clause-same : goal.returns-in-Err-clause-same

@@ -35,8 +35,11 @@ loop-message-preserved g c =
     record {
       frames = frames.1;
       same = λ d. c.in_ok-take_message.ensures.same d ∙ c.loop-message.invariant.same d;
-      taken = (t.0 ++ c.in-Some.message.now ∷ [], in_order c.args.messages t.0 c.loop-message.message-iterator c.next.new.self c.in-Some.message.now t.1 parts,
-          takes_more t.0 (c.in-Some.message.now ∷ []) _ _ _ _ _ _ t.2 c.in_ok-take_message.ensures.ok);
+      taken = (
+        t.0 ++ c.in-Some.message.now ∷ [],
+        in_order c.args.messages t.0 c.loop-message.message-iterator c.next.new.self c.in-Some.message.now t.1 parts,
+        takes_more t.0 (c.in-Some.message.now ∷ []) _ _ _ _ _ _ t.2 c.in_ok-take_message.ensures.ok,
+      );
       calm = c.in_ok-take_message.ensures.count ∙ c.loop-message.invariant.calm;
     }
 
@@ -55,5 +58,5 @@ returns-in_err-take_message-clause-fault g c =
     let t = c.loop-message.invariant.taken in
     let eq = in_order c.args.messages t.0 c.loop-message.message-iterator c.next.new.self c.in-Some.message.now t.1 parts in
     let refused : AreRefused c.args.messages (buffered c.args.self.now) c.in_err-take_message.field-0.0
-        = refused_among t.0 (c.in-Some.message.now ∷ []) c.next.new.self c.args.messages _ _ _ eq c.loop-message.invariant.same c.in_err-take_message.ensures.fault in
+    = refused_among t.0 (c.in-Some.message.now ∷ []) c.next.new.self c.args.messages _ _ _ eq c.loop-message.invariant.same c.in_err-take_message.ensures.fault in
     search rules

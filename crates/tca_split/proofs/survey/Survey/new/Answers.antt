@@ -1,4 +1,4 @@
-use Rattle.std.proofs.Common.{◌≡◌, [], refl, arith}
+use Rattle.std.proofs.Common.{arith}
 use Rattle.tca_split.specs.Parts.{domains_of}
 use Rattle.tca_split.proofs.survey.Survey.new.Goals as goal
 

@@ -1,4 +1,4 @@
-use Rattle.std.proofs.Common.{◌≡◌, ◌∷◌, [], ◌++◌, ◌∙◌, sym, ap, subst, ℕ, List, append_assoc, append-nil, refl, arith, length}
+use Rattle.std.proofs.Common.{◌≡◌, ◌∷◌, [], ◌++◌, ◌∙◌, sym, ap, subst, ℕ, List, append_assoc, append-nil, arith, length}
 use Rattle.std.specs.List.{AllByRecursion}
 use Rattle.std.proofs.lemmas.Result.{err_from_is_err_and}
 use Rattle.std.proofs.lemmas.List.{length-append}
@@ -45,7 +45,7 @@ returns-in_err-survey-clause-err c = λ ms h.
     let t = c.loop-message.invariant.so_far in
     let p = err_from_is_err_and c.from_residual.result c.from_residual.ensures.1 in
     let whole : ((ms ++ t.0) ++ m ∷ []) ++ rest ≡ ms ++ c.args.messages =
-        append_assoc (ms ++ t.0) (m ∷ []) rest ∙ append_assoc ms t.0 (m ∷ rest) ∙ ap (λ (l : List (List ℕ)). ms ++ l) (ap (λ (l : List (List ℕ)). t.0 ++ l) (sym parts) ∙ sym t.1) in
+    append_assoc (ms ++ t.0) (m ∷ []) rest ∙ append_assoc ms t.0 (m ∷ rest) ∙ ap (λ (l : List (List ℕ)). ms ++ l) (ap (λ (l : List (List ℕ)). t.0 ++ l) (sym parts) ∙ sym t.1) in
     rw (p.1, p.2) (subst (λ (l : List (List ℕ)). AreTooMany l c.in_err-survey.field-0.0) whole (still_many ((ms ++ t.0) ++ m ∷ []) rest c.in_err-survey.field-0.0 (c.in_err-survey.ensures.err (ms ++ t.0) (t.2 ms h))))
 
 pub returns-in_err-survey-clause-some : goal.returns-in_err-survey-clause-some

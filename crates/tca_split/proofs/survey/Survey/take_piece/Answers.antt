@@ -1,6 +1,6 @@
 use Rattle.std.proofs.Common.{◌≡◌, ◌++◌, ◌∙◌, sym, ap, subst, ℕ, List, [], inl}
 use Rattle.std.proofs.lemmas.Result.{err_from_is_err_and}
-use Rattle.tca_wire.specs.Frames.{Framing, Failed, Feeds}
+use Rattle.tca_wire.specs.Frames.{Failed, Feeds}
 use Rattle.tca_wire.specs.declared.fault.WireFault.TheVariants as wire
 use Rattle.tca_split.specs.Faults.{framing_fault}
 use Rattle.tca_split.specs.inside.Surveying.{IsFirstRefused, IsOfFraming}
