@@ -116,6 +116,9 @@ module _ (octets : List ℕ) (left : Option (List ℕ)) (framer : Framing) (k l 
   pub ended_takes : (now : Option (List ℕ)) (piece : List ℕ) → piece ≡ [] → Consumes left now piece → IsAtEnd now → Takes (frames_of octets).0 k x l y
   ended_takes now piece none consumes end = subst (λ (ms : List (List ℕ)). Takes ms k x l y) (sym (at_end now piece none consumes end).0) h.taken
 
+  pub ended_right : (now : Option (List ℕ)) (piece : List ℕ) → piece ≡ [] → Consumes left now piece → IsAtEnd now → ending framer ≡ Ok tt → ending (frames_of octets).1 ≡ Ok tt
+  ended_right now piece none consumes end e = ap ending (at_end now piece none consumes end).1 ∙ e
+
   pub ended_refused : (now : Option (List ℕ)) (piece : List ℕ) (fault : WireFault) → piece ≡ [] → Consumes left now piece → IsAtEnd now → ending framer ≡ Err fault → IsSecondRefused octets k (framing_fault fault)
   ended_refused now piece fault none consumes end e = go fault (ap ending (at_end now piece none consumes end).1 ∙ e)
     where

@@ -1,5 +1,5 @@
 //! The second reading of a capture: each message goes to the file of its domain, by a buffer of its own.
-ghost use Rattle.std.specs.Prelude.{◌≡◌, ◌⊎◌, ◌≤◌, ◌<◌, ◌++◌, ◌∷◌, [], ℕ, List, Some, Err, ◌==◌, false, true, length, IfOk, IfErr, OnOk, OnErr, IsErrOf, ◌+◌};
+ghost use Rattle.std.specs.Prelude.{◌≡◌, ◌⊎◌, ◌≤◌, ◌<◌, ◌++◌, ◌∷◌, [], ℕ, List, Some, Ok, Err, ◌==◌, false, true, length, IfOk, IfErr, OnOk, OnErr, IsErrOf, ◌+◌};
 ghost use Rattle.std.specs.List.{AllByRecursion};
 ghost use Rattle.tca_wire.specs.Frames.{IsFrame, frames_of, ending};
 ghost use Rattle.tca_wire.specs.declared.fault.WireFault.{WireFault};
@@ -83,7 +83,8 @@ fn keep<F: Folder>(
 
 // Whether the capture may end here.
 fn finish(framer: &Framer) -> Result<(), SplitFault>
-    ensures { IfErr result (λ e. (fault : WireFault) × (ending framer.now ≡ Err fault) × (e ≡ framing_fault fault)) }
+    ensures right { OnOk result (ending framer.now ≡ Ok tt) }
+    ensures fault { IfErr result (λ e. (fault : WireFault) × (ending framer.now ≡ Err fault) × (e ≡ framing_fault fault)) }
 {
     match framer.finish() {
         Ok(()) => Ok(()),
@@ -173,6 +174,7 @@ impl Buffers {
         ensures same { SameDomains (buffered self.old) (buffered self.new) }
         ensures ok { OnOk result ((octets : List ℕ) → R.left reader.old ≡ Some octets
             → Takes (frames_of octets).0 (buffered self.old) (F.files folder.old) (buffered self.new) (F.files folder.new)) }
+        ensures right { OnOk result ((octets : List ℕ) → R.left reader.old ≡ Some octets → ending (frames_of octets).1 ≡ Ok tt) }
         ensures err { OnErr result ((octets : List ℕ) → R.left reader.old ≡ Some octets
             → Begins (frames_of octets).0 (buffered self.old) (F.files folder.old) (F.files folder.new)) }
         ensures fault { IfErr result (λ e. (octets : List ℕ) → R.left reader.old ≡ Some octets → IsSecondRefused octets (buffered self.old) e) }

@@ -3,9 +3,9 @@ use Rattle.std.specs.Io.KnownBytes.{Consumes}
 use Rattle.tca_report.specs.device.Devices.{Rises}
 use Rattle.tca_split.specs.Failures.{CountsWriteFault, CountsReadFault}
 use Rattle.tca_split.specs.inside.Buffering.{buffered, IsSecondRefused}
-use Rattle.tca_split.proofs.OnResults.{ok_of, err_of}
+use Rattle.tca_split.proofs.OnResults.{ok_map, ok_of, err_of}
 use Rattle.tca_split.proofs.BufferSteps.{begins_same}
-use Rattle.tca_split.proofs.PieceSteps.{read_none, read_more, stopped_begins, stopped_refused, so_far_begins, ended_takes, ended_if_refused, counts_no_write, counts_no_read, stopped_reads, whole_piece}
+use Rattle.tca_split.proofs.PieceSteps.{read_none, read_more, stopped_begins, stopped_refused, so_far_begins, ended_takes, ended_right, ended_if_refused, counts_no_write, counts_no_read, stopped_reads, whole_piece}
 use Rattle.tca_split.proofs.buffers.Buffers.take_all.Goals as goal
 
 pub returns-in_err-piece-clause-err : goal.returns-in_err-piece-clause-err
@@ -46,6 +46,12 @@ returns-in-Ok-eq0-clause-ok g c =
     ok_of _ c.finish.result (λ octets known. ended_takes octets _ _ _ _ _ _ (c.loop-turn.invariant.so_far octets known) _ _ (ap (λ n. take n c.read.new.into) c.in-Ok-eq0.field-0-test) c.in-Ok-eq0.ensures.octets.0
     (c.in-Ok-eq0.ensures.octets.1 c.in-Ok-eq0.field-0-test (omega (arith, kept))))
 
+pub returns-in-Ok-eq0-clause-right : goal.returns-in-Ok-eq0-clause-right
+returns-in-Ok-eq0-clause-right g c =
+    let kept : length c.read.new.into ≡ 65536 = c.read.auto.into ∙ ap (λ (l : List ℕ). length l) c.as_mut_slice.ensures.value ∙ c.loop-turn.invariant.room in
+    ok_map _ _ c.finish.result (λ e octets known. ended_right octets _ _ _ _ _ _ (c.loop-turn.invariant.so_far octets known) _ _ (ap (λ n. take n c.read.new.into) c.in-Ok-eq0.field-0-test)
+    c.in-Ok-eq0.ensures.octets.0 (c.in-Ok-eq0.ensures.octets.1 c.in-Ok-eq0.field-0-test (omega (arith, kept))) e) c.finish.ensures.right
+
 pub returns-in-Ok-eq0-clause-err : goal.returns-in-Ok-eq0-clause-err
 returns-in-Ok-eq0-clause-err g c = err_of _ c.finish.result (λ octets known. so_far_begins octets _ _ _ _ _ _ (c.loop-turn.invariant.so_far octets known))
 
@@ -53,13 +59,13 @@ pub returns-in-Ok-eq0-clause-fault : goal.returns-in-Ok-eq0-clause-fault
 returns-in-Ok-eq0-clause-fault g c =
     let kept : length c.read.new.into ≡ 65536 = c.read.auto.into ∙ ap (λ (l : List ℕ). length l) c.as_mut_slice.ensures.value ∙ c.loop-turn.invariant.room in
     ended_if_refused _ _ _ _ _ _ _ _ _ (c.finish.result) c.loop-turn.invariant.so_far (ap (λ n. take n c.read.new.into) c.in-Ok-eq0.field-0-test) c.in-Ok-eq0.ensures.octets.0
-    (c.in-Ok-eq0.ensures.octets.1 c.in-Ok-eq0.field-0-test (omega (arith, kept))) c.finish.ensures
+    (c.in-Ok-eq0.ensures.octets.1 c.in-Ok-eq0.field-0-test (omega (arith, kept))) c.finish.ensures.fault
 
 pub returns-in-Ok-eq0-clause-count : goal.returns-in-Ok-eq0-clause-count
-returns-in-Ok-eq0-clause-count g c = counts_no_write c.finish.result _ _ _ c.finish.ensures c.loop-turn.invariant.calm
+returns-in-Ok-eq0-clause-count g c = counts_no_write c.finish.result _ _ _ c.finish.ensures.fault c.loop-turn.invariant.calm
 
 pub returns-in-Ok-eq0-clause-read : goal.returns-in-Ok-eq0-clause-read
-returns-in-Ok-eq0-clause-read g c = counts_no_read c.finish.result _ _ _ c.finish.ensures (c.in-Ok-eq0.ensures.count ∙ c.loop-turn.invariant.quiet)
+returns-in-Ok-eq0-clause-read g c = counts_no_read c.finish.result _ _ _ c.finish.ensures.fault (c.in-Ok-eq0.ensures.count ∙ c.loop-turn.invariant.quiet)
 
 pub returns-in_err-take_piece-in-Ok-clause-same : goal.returns-in_err-take_piece-in-Ok-clause-same
 returns-in_err-take_piece-in-Ok-clause-same g c = λ d. c.in_err-take_piece-in-Ok.ensures.same d ∙ c.loop-turn.invariant.same d
