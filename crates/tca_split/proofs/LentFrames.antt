@@ -1,5 +1,5 @@
 -- The messages that a framer lends.
-use Rattle.std.proofs.Common.{◌≡◌, ℕ, List, ◌++◌, subst, sym}
+use Rattle.std.proofs.Common.{◌≡◌, ℕ, List, subst, sym}
 use Rattle.std.specs.List.{AllByRecursion}
 use Rattle.tca_wire.specs.Frames.{IsFrame, frames_of, frames_of_both}
 use Rattle.tca_wire.proofs.Framings.{each_both}

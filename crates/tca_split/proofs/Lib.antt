@@ -5,3 +5,14 @@ pub mod Added
 pub mod PartsRead
 pub mod FileSteps
 pub mod LentFrames
+pub mod DomainLists
+pub mod BufferSteps
+pub mod SurveySteps
+pub mod ReadSteps
+pub mod CreateSteps
+pub mod Endings
+pub mod Refusals
+pub mod OnResults
+pub mod Strangers
+pub mod PieceSteps
+pub mod PartSteps

@@ -1,5 +1,6 @@
 -- What a call does to the files of a folder, one for each observation domain, where they are known.
-use Rattle.std.specs.Prelude.{◌≡◌, ℕ, ◌==◌, false, ⊤, List, [], ◌++◌, Option, Some, None, option_map}
+use Rattle.std.specs.Prelude.{◌≡◌, ℕ, ◌==◌, Bool, true, false, ⊤, List, [], ◌++◌, Option, Some, None, option_map}
+use Rattle.tca_split.specs.Surveys.{is_among}
 
 -- the octets of each domain's file, where there is one
 abbrev pub Files : Type 0
@@ -20,3 +21,14 @@ abbrev pub Lengthens : ℕ → List ℕ → Option Files → Option Files → Ty
 Lengthens domain octets None new = ⊤
 Lengthens domain octets (Some old) None = ⊥
 Lengthens domain octets (Some old) (Some new) = (new domain ≡ option_map (λ xs. xs ++ octets) (old domain)) × OthersStay domain old new
+
+-- a domain's file, where an empty one was made for it and there was none, or as it was
+abbrev pub CreatesOne : Bool → Option (List ℕ) → Option (List ℕ) → Type 0
+CreatesOne true before now = (before ≡ None) × (now ≡ Some [])
+CreatesOne false before now = now ≡ before
+
+-- there was no file of these domains, and there is an empty one of each now
+abbrev pub Creates : List ℕ → Option Files → Option Files → Type 0
+Creates domains None new = ⊤
+Creates domains (Some old) None = ⊥
+Creates domains (Some old) (Some new) = (d : ℕ) → CreatesOne (is_among d domains) (old d) (new d)

@@ -1,7 +1,9 @@
 pub mod Parts
 pub mod Losses
 pub mod Faults
+pub mod Failures
 pub mod Surveys
 pub mod Folders
 pub mod Splits
+pub mod Wants
 pub mod inside

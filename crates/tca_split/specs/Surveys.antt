@@ -33,3 +33,7 @@ surveyed octets = surveyed_as (frames_of octets).0 (frames_of octets).1
 -- a number as a u64 can tell it
 abbrev pub as_u64 : ℕ → ℕ
 as_u64 n = min n (2 ^ 64 - 1)
+
+-- the framing of a capture has no fault, and its messages are of few enough domains
+abbrev pub IsRight : List ℕ → Type 0
+IsRight octets = surveyed octets ≡ Ok (domains_of (frames_of octets).0, length (frames_of octets).0)

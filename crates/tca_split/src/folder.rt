@@ -1,7 +1,10 @@
 //! A folder with a file for each observation domain, and a count of the calls that failed.
-ghost use Rattle.std.specs.Prelude.{◌≡◌, ◌<◌, ◌≤◌, ◌++◌, ℕ, List, Option, Some, None, IfOk, IfErr, OnOk, OnErr, length, take, is_some};
+ghost use Rattle.std.specs.Prelude.{◌≡◌, ◌≢◌, ◌⊎◌, ◌<◌, ◌≤◌, ℕ, true, Option, Some, None, IfOk, IfErr, OnOk, OnErr, length, take, is_some};
 ghost use Rattle.tca_report.specs.device.Devices.{CountsFailure};
-ghost use Rattle.tca_split.specs.Folders.{Files, Makes, Lengthens};
+ghost use Rattle.tca_split.specs.Failures.{CountsWrite};
+ghost use Rattle.tca_split.specs.Folders.{Files, Makes, Creates, Lengthens};
+ghost use Rattle.tca_split.specs.Surveys.{is_among};
+ghost use Rattle.tca_split.specs.inside.Buffering.{Starts, StartsMaking};
 
 use crate::fault::SplitFault;
 use std::io;
@@ -43,10 +46,9 @@ pub(crate) fn append_all<F: Folder>(
     folder: &mut F,
 ) -> Result<(), SplitFault>
     ensures all { OnOk result (Lengthens domain octets.now (F.files folder.old) (F.files folder.new)) }
-    ensures part { IfErr result (λ e. (front : List ℕ) × (rest : List ℕ) × (octets.now ≡ front ++ rest)
-        × Lengthens domain front (F.files folder.old) (F.files folder.new)) }
+    ensures part { OnErr result (Starts domain octets.now (F.files folder.old) (F.files folder.new)) }
     ensures fault { IfErr result (λ e. e ≡ SplitFault.Write) }
-    ensures count { CountsFailure result (F.failures folder.old) (F.failures folder.new) }
+    ensures count { CountsWrite result (F.failures folder.old) (F.failures folder.new) }
 {
     let mut done = 0;
     while done < octets.len() {
@@ -59,7 +61,14 @@ pub(crate) fn append_all<F: Folder>(
 }
 
 // Looks whether no domain has a file yet.
-pub(crate) fn check_free<F: Folder>(domains: &[u32], folder: &mut F) -> Result<(), SplitFault> {
+pub(crate) fn check_free<F: Folder>(domains: &[u32], folder: &mut F) -> Result<(), SplitFault>
+    ensures files { F.files folder.new ≡ F.files folder.old }
+    ensures free { OnOk result ((all : Files) → F.files folder.old ≡ Some all → (d : ℕ) → is_among d domains.now ≡ true → all d ≡ None) }
+    ensures exists { IfErr result (λ e. e ≡ SplitFault.Exists → (all : Files) → F.files folder.old ≡ Some all
+        → (d : ℕ) × (is_among d domains.now ≡ true) × (all d ≢ None)) }
+    ensures fault { IfErr result (λ e. (e ≡ SplitFault.Exists) ⊎ (e ≡ SplitFault.Write)) }
+    ensures count { CountsWrite result (F.failures folder.old) (F.failures folder.new) }
+{
     for domain in domains {
         match folder.has(*domain) {
             Ok(false) => {}
@@ -71,7 +80,12 @@ pub(crate) fn check_free<F: Folder>(domains: &[u32], folder: &mut F) -> Result<(
 }
 
 // Makes an empty file of each domain.
-pub(crate) fn create_all<F: Folder>(domains: &[u32], folder: &mut F) -> Result<(), SplitFault> {
+pub(crate) fn create_all<F: Folder>(domains: &[u32], folder: &mut F) -> Result<(), SplitFault>
+    ensures all { OnOk result (Creates domains.now (F.files folder.old) (F.files folder.new)) }
+    ensures part { OnErr result (StartsMaking domains.now (F.files folder.old) (F.files folder.new)) }
+    ensures fault { IfErr result (λ e. e ≡ SplitFault.Write) }
+    ensures count { CountsWrite result (F.failures folder.old) (F.failures folder.new) }
+{
     for domain in domains {
         if folder.create(*domain).is_err() {
             return Err(SplitFault::Write);

@@ -1,14 +1,21 @@
 //! Splitting a capture by its two readings.
-ghost use Rattle.std.specs.Prelude.{◌≡◌, ℕ, List, Some, IfOk, IfErr};
+ghost use Rattle.std.specs.Prelude.{◌≡◌, ◌≢◌, ◌⊎◌, ◌+◌, ℕ, List, Some, Err, IfOk, IfErr, OnOk, IsErrOf};
+ghost use Rattle.tca_wire.specs.Frames.{frames_of};
+ghost use Rattle.tca_report.specs.device.Devices.{Rises};
+ghost use Rattle.tca_split.specs.Parts.{domains_of};
+ghost use Rattle.tca_split.specs.Surveys.{IsRight};
+ghost use Rattle.tca_split.specs.Failures.{CountsRead, CountsWrite, most_turns};
 ghost use Rattle.tca_split.specs.Folders.{Files};
-ghost use Rattle.tca_split.specs.Splits.{IsSplit, IsRefused};
+ghost use Rattle.tca_split.specs.Splits.{IsFree, AreSplit, AreBegun, IsSplit, IsRefused};
+ghost use Rattle.tca_split.specs.Wants.{WantsMemory};
+ghost use Rattle.tca_split.specs.inside.Buffering.{IsWritingRefused};
 
 use crate::buffers::Buffers;
 use crate::fault::SplitFault;
 use crate::folder::{Folder, check_free, create_all};
 use crate::survey::first_reading;
 use std::alloc::Global;
-use tca_report::Read;
+use tca_report::{Read, ReadFault};
 
 /// How many observation domains and messages a capture has.
 #[derive(Clone, Copy, Debug, PartialEq, Eq)]
@@ -19,21 +26,75 @@ pub struct Parts {
     pub messages: u64,
 }
 
+// Makes a file of each of these domains, and reads a capture into them.
+fn write_parts<S: Read, F: Folder>(
+    alloc: Global,
+    domains: &[u32],
+    reader: &mut S,
+    folder: &mut F,
+) -> Result<(), SplitFault>
+    ensures ok { OnOk result ((octets : List ℕ) (files : Files) → S.left reader.old ≡ Some octets → F.files folder.old ≡ Some files
+        → domains.now ≡ domains_of (frames_of octets).0 → AreSplit octets files (F.files folder.new)) }
+    ensures err { IfErr result (λ e. (octets : List ℕ) (files : Files) → S.left reader.old ≡ Some octets → F.files folder.old ≡ Some files
+        → domains.now ≡ domains_of (frames_of octets).0 → IsFree octets files → AreBegun octets files (F.files folder.new)) }
+    ensures fault { IfErr result (λ e. (octets : List ℕ) → S.left reader.old ≡ Some octets → domains.now ≡ domains_of (frames_of octets).0
+        → IsWritingRefused octets e) }
+    ensures read { CountsRead result (S.failures reader.old) (S.failures reader.new) }
+    ensures turns { IsErrOf result (SplitFault.Read ReadFault.Turns) → S.reads reader.new ≡ S.reads reader.old + most_turns }
+    ensures write { CountsWrite result (F.failures folder.old) (F.failures folder.new) }
+{
+    let mut buffers = Buffers::new(alloc, domains)?;
+    create_all(domains, folder)?;
+    buffers.take_all(alloc, reader, folder)?;
+    buffers.empty(domains, folder)?;
+    Ok(())
+}
+
 /// Writes the messages of each observation domain of a capture, octet by octet and in their order, to a file of the
 /// domain, and answers how many domains and messages there are. Of a message its framing alone is judged.
+///
+/// The capture is read twice, in pieces. The first reading tells its domains, or the first thing from the left for which
+/// it isn't split: a message of one domain more than 4,096 is `Limits`; a header with a version other than 10 or a
+/// length below 16, or an end within a message, is `Wire`. Then each domain's file is looked for: `Exists` where one is
+/// there. So far nothing was made. Then the files are made, in the order in which the domains first come, and the second
+/// reading fills them. Where it isn't as the first was, a domain that the first had none of is `Changed`.
+///
+/// `Read` and `Write` come where a call of the reader or the folder failed, `Memory` where there was none. A file that
+/// was begun by then is left with octets from the front of its domain's.
 pub fn split<R: Read, S: Read, F: Folder>(
     alloc: Global,
     first: &mut R,
     second: &mut S,
     folder: &mut F,
-) -> Result<Parts, SplitFault> {
+) -> Result<Parts, SplitFault>
+    ensures done { IfOk result (λ parts. (octets : List ℕ) (files : Files) → R.left first.old ≡ Some octets
+        → S.left second.old ≡ Some octets → F.files folder.old ≡ Some files
+        → IsSplit octets files (F.files folder.new) parts) }
+    ensures refused { IfErr result (λ e. (octets : List ℕ) (files : Files) → R.left first.old ≡ Some octets
+        → S.left second.old ≡ Some octets → F.files folder.old ≡ Some files
+        → IsRefused octets files (F.files folder.new) e) }
+
+    // Where memory is told, nothing in front was to be refused.
+    ensures memory { IsErrOf result SplitFault.Memory → (octets : List ℕ) → R.left first.old ≡ Some octets
+        → (R.reads first.new ≡ R.reads first.old) ⊎ WantsMemory octets (R.left first.new) ⊎ IsRight octets }
+
+    // A read failed: of the first reading, before a file was touched, or of the second.
+    ensures read { IsErrOf result (SplitFault.Read ReadFault.Read)
+        → (Rises (R.failures first.old) (R.failures first.new) × (F.files folder.new ≡ F.files folder.old))
+        ⊎ Rises (S.failures second.old) (S.failures second.new) }
+    ensures turns { IsErrOf result (SplitFault.Read ReadFault.Turns)
+        → ((R.reads first.new ≡ R.reads first.old + most_turns) × (F.files folder.new ≡ F.files folder.old))
+        ⊎ (S.reads second.new ≡ S.reads second.old + most_turns) }
+
+    // No failure is told as something else.
+    ensures quiet { result ≢ Err (SplitFault.Read ReadFault.Read)
+        → (R.failures first.new ≡ R.failures first.old) × (S.failures second.new ≡ S.failures second.old) }
+    ensures write { CountsWrite result (F.failures folder.old) (F.failures folder.new) }
+{
     let survey = first_reading(alloc, first)?;
     let domains = survey.domains.as_slice();
-    let mut buffers = Buffers::new(alloc, domains)?;
     check_free(domains, folder)?;
-    create_all(domains, folder)?;
-    buffers.take_all(alloc, second, folder)?;
-    buffers.empty(domains, folder)?;
+    write_parts(alloc, domains, second, folder)?;
     Ok(Parts {
         domains: domains.len() as u64,
         messages: survey.messages,

@@ -1,8 +1,11 @@
 //! The first reading of a capture: which observation domains it has messages of, and whether its framing is right.
-ghost use Rattle.std.specs.Prelude.{◌≡◌, ◌≤◌, length, IfOk};
+ghost use Rattle.std.specs.Prelude.{◌≡◌, ◌⊎◌, ◌<◌, ◌≤◌, ◌+◌, ◌++◌, ◌∷◌, [], ℕ, List, Some, Ok, length, IfOk, IfErr, OnErr, IsErrOf};
 ghost use Rattle.std.specs.List.{AllByRecursion};
-ghost use Rattle.tca_wire.specs.Frames.{IsFrame};
+ghost use Rattle.tca_wire.specs.Frames.{IsFrame, frames_of, ending};
 ghost use Rattle.tca_split.specs.Parts.{domain_of};
+ghost use Rattle.tca_split.specs.Failures.{CountsRead, most_turns};
+ghost use Rattle.tca_split.specs.Wants.{BringMore, WantsMemory};
+ghost use Rattle.tca_split.specs.inside.Surveying.{Surveys, IsFramed, AreTooMany, IsFirstRefused, IsOfFraming, IsOfReading};
 
 use crate::fault::{SplitFault, framing_fault};
 use byteorder::{BigEndian, ByteOrder};
@@ -42,7 +45,10 @@ pub(crate) fn new_piece(alloc: Global, size: usize) -> Result<Vec<u8>, AllocErro
 }
 
 impl Survey {
-    fn new(alloc: Global) -> Survey {
+    // Nothing yet.
+    fn new(alloc: Global) -> Survey
+        ensures { Surveys [] result }
+    {
         Survey {
             domains: IndexSet::new(alloc),
             messages: 0,
@@ -52,6 +58,9 @@ impl Survey {
     // Counts a message, and notes its domain.
     fn take_message(self, message: &[u8]) -> Result<Survey, SplitFault>
         requires { 16 ≤ length message.now }
+        ensures ok { (ms : List (List ℕ)) → Surveys ms self → IfOk result (Surveys (ms ++ message.now ∷ [])) }
+        ensures err { (ms : List (List ℕ)) → Surveys ms self → IfErr result (AreTooMany (ms ++ message.now ∷ [])) }
+        ensures kind { IfErr result IsOfFraming }
     {
         let domain = domain_of(message);
         let mut domains = self.domains;
@@ -66,6 +75,10 @@ impl Survey {
     // Takes messages in their order.
     fn take_messages(self, messages: Messages<'_>) -> Result<Survey, SplitFault>
         requires frames { AllByRecursion IsFrame messages }
+        ensures ok { (ms : List (List ℕ)) → Surveys ms self → IfOk result (Surveys (ms ++ messages.entry)) }
+        ensures err { (ms : List (List ℕ)) → Surveys ms self → IfErr result (AreTooMany (ms ++ messages.entry)) }
+        ensures kind { IfErr result IsOfFraming }
+        ensures some { OnErr result (0 < length messages.entry) }
     {
         let mut survey = self;
         for message in messages {
@@ -75,7 +88,15 @@ impl Survey {
     }
 
     // Takes the next piece of the capture.
-    fn take_piece(self, framer: &mut Framer, piece: &[u8]) -> Result<Survey, SplitFault> {
+    fn take_piece(self, framer: &mut Framer, piece: &[u8]) -> Result<Survey, SplitFault>
+        ensures ok { (octets : List ℕ) (ms : List (List ℕ)) → IsFramed octets ms framer.old → Surveys ms self
+            → IfOk result (λ s. (ns : List (List ℕ)) × IsFramed (octets ++ piece.now) ns framer.new × Surveys ns s) }
+        ensures err { (octets behind : List ℕ) (ms : List (List ℕ)) → IsFramed octets ms framer.old → Surveys ms self
+            → IfErr result (IsFirstRefused ((octets ++ piece.now) ++ behind)) }
+        ensures kind { IfErr result IsOfFraming }
+        ensures memory { IsErrOf result SplitFault.Memory → (octets : List ℕ) (ms : List (List ℕ)) → IsFramed octets ms framer.old
+            → BringMore octets piece.now }
+    {
         let lent = match framer.lend(piece) {
             Ok(lent) => lent,
             Err(fault) => return Err(framing_fault(fault)),
@@ -89,11 +110,20 @@ impl Survey {
 }
 
 // Reads a capture to its end.
-pub(crate) fn first_reading<R: Read>(alloc: Global, reader: &mut R) -> Result<Survey, SplitFault> {
+pub(crate) fn first_reading<R: Read>(alloc: Global, reader: &mut R) -> Result<Survey, SplitFault>
+    ensures ok { (octets : List ℕ) → R.left reader.old ≡ Some octets
+        → IfOk result (λ s. Surveys (frames_of octets).0 s × (ending (frames_of octets).1 ≡ Ok tt)) }
+    ensures err { (octets : List ℕ) → R.left reader.old ≡ Some octets → IfErr result (IsFirstRefused octets) }
+    ensures kind { IfErr result IsOfReading }
+    ensures memory { IsErrOf result SplitFault.Memory → (octets : List ℕ) → R.left reader.old ≡ Some octets
+        → (R.reads reader.new ≡ R.reads reader.old) ⊎ WantsMemory octets (R.left reader.new) }
+    ensures read { CountsRead result (R.failures reader.old) (R.failures reader.new) }
+    ensures turns { IsErrOf result (SplitFault.Read ReadFault.Turns) → R.reads reader.new ≡ R.reads reader.old + most_turns }
+{
     let mut piece = new_piece(alloc, PIECE)?;
     let mut framer = Framer::new(alloc);
     let mut survey = Survey::new(alloc);
-    for _ in 0..u64::MAX {
+    for _turn in 0..u64::MAX {
         match reader.read(piece.as_mut_slice()) {
             Ok(0) => {
                 return match framer.finish() {

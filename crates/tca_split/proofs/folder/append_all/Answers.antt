@@ -1,5 +1,4 @@
-use Rattle.std.proofs.Common.{◌≡◌, ◌∙◌, ◌++◌, rules, arith, take, drop, sym, ap, subst, length, List, ℕ, take_all}
-use Rattle.std.proofs.lemmas.Grind.{common_steps}
+use Rattle.std.proofs.Common.{◌≡◌, ◌∙◌, rules, arith, take, drop, sym, subst, length, List, ℕ, take_all}
 use Rattle.std.proofs.lemmas.List.{take_rest, take-append-drop}
 use Rattle.tca_split.specs.Folders.{Lengthens}
 use Rattle.tca_split.proofs.FileSteps.{lengthens_none, lengthens_next}
@@ -16,12 +15,12 @@ loop-done-preserved g c = record {
 }
 
 pub returns-in-Err-clause-part : goal.returns-in-Err-clause-part
-returns-in-Err-clause-part g c = (
-  take c.loop-done.done c.args.octets.now,
-  drop c.loop-done.done c.args.octets.now,
-  sym (take-append-drop c.loop-done.done c.args.octets.now),
-  subst (λ x. Lengthens c.args.domain (take c.loop-done.done c.args.octets.now) (g.F.Folder.files c.args.folder.now) x) (sym c.in-Err.ensures.kept) c.loop-done.invariant.written,
-)
+returns-in-Err-clause-part g c = record {
+  front = take c.loop-done.done c.args.octets.now;
+  rest = drop c.loop-done.done c.args.octets.now;
+  parts = sym (take-append-drop c.loop-done.done c.args.octets.now);
+  grown = subst (λ x. Lengthens c.args.domain (take c.loop-done.done c.args.octets.now) (g.F.Folder.files c.args.folder.now) x) (sym c.in-Err.ensures.kept) c.loop-done.invariant.written;
+}
 
 pub returns-clause-all : goal.returns-clause-all
 returns-clause-all g c =

@@ -1,0 +1,32 @@
+use Rattle.std.proofs.Common.{◌≡◌, ◌∙◌, ap, length, Some}
+use Rattle.std.proofs.lemmas.Result.{err_from_is_err_and}
+use Rattle.tca_wire.specs.Frames.{frames_of}
+use Rattle.tca_split.specs.Parts.{domains_of}
+use Rattle.tca_split.specs.Surveys.{is_among}
+use Rattle.tca_split.specs.Splits.{IsFree}
+use Rattle.tca_split.proofs.Refusals.{right_of, writing_refused}
+use Rattle.tca_split.proofs.splitting.split.Goals as goal
+
+pub returns-in_err-write_parts-clause-refused : goal.returns-in_err-write_parts-clause-refused
+returns-in_err-write_parts-clause-refused g c =
+    let p = err_from_is_err_and c.from_residual-in_err-write_parts.result c.from_residual-in_err-write_parts.ensures.1 in
+    rw (p.1, p.2) (λ octets files left again known.
+    let s = c.in_ok-survey.ensures.ok octets left in
+    let own : c.as_slice-domains.result.now ≡ domains_of (frames_of octets).0 = c.as_slice-domains.ensures.keys ∙ s.0.domains in
+    let free : IsFree octets files = λ d has. c.in_ok-check_free.ensures.free files known d (ap (is_among d) own ∙ has) in
+    let same : g.F.Folder.files c.check_free.new.folder ≡ Some files = c.in_ok-check_free.ensures.files ∙ known in
+    writing_refused octets files (g.F.Folder.files c.write_parts.new.folder) c.in_err-write_parts.field-0.0 (right_of octets c.in_ok-survey.survey s.0 s.1) s.1 free
+    (c.in_err-write_parts.ensures.err octets files again same own free) (c.in_err-write_parts.ensures.fault octets again own))
+
+pub returns-clause-done : goal.returns-clause-done
+returns-clause-done g c = λ octets files left again known.
+    let s = c.in_ok-survey.ensures.ok octets left in
+    let own : c.as_slice-domains.result.now ≡ domains_of (frames_of octets).0 = c.as_slice-domains.ensures.keys ∙ s.0.domains in
+    let same : g.F.Folder.files c.check_free.new.folder ≡ Some files = c.in_ok-check_free.ensures.files ∙ known in
+    record {
+      right = right_of octets c.in_ok-survey.survey s.0 s.1;
+      domains = ap length own;
+      messages = s.0.count;
+      free = λ d has. c.in_ok-check_free.ensures.free files known d (ap (is_among d) own ∙ has);
+      written = c.in_ok-write_parts.ensures.ok octets files again same own;
+    }
