@@ -25,7 +25,6 @@ use Rattle.tca_accounts.proofs.Bills.{coloured_length, filter_few}
 use Rattle.tca_statements.specs.Statements as text
 use Rattle.tca_figures.specs.Figures.{AreApart, IsAccount, IsStatement, StatedAccount}
 use Rattle.tca_figures.specs.Lines.{account_lines, colour_fields, end_line, octets_of, opening_lines, span_line, statement_octets}
-use Rattle.tca_figures.specs.Totals.{IsTextOf}
 use Rattle.tca_figures.proofs.Shown.{account_octets, all_octets}
 use Rattle.tca_shards.specs.Statements.{BillsAreRead, IsLogged, account_figures, figures_of, span_figures, stated}
 use Rattle.tca_shards.proofs.Accounted.{AreRanged, accounted}
@@ -161,4 +160,4 @@ says plan bill =
     ∙ all_octets (stated plan bill)
 
 pub bills_are_read : BillsAreRead
-bills_are_read plan rs is h = record { octets = says plan (bill_of plan rs); statement = in_form plan rs is h }
+bills_are_read plan rs is h = record { octets_are = says plan (bill_of plan rs); in_form = in_form plan rs is h }

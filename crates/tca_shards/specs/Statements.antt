@@ -13,8 +13,9 @@ use Rattle.tca_accounts.specs.declared.tally.Tally.{Tally}
 use Rattle.tca_accounts.specs.declared.bill.Bill.{Bill}
 use Rattle.tca_statements.specs.Statements.{statement_text}
 use Rattle.tca_figures.specs.Figures.{Stated, StatedAccount}
+use Rattle.tca_figures.specs.Lines.{IsTextOf}
 use Rattle.tca_figures.specs.Sums.{Fits}
-use Rattle.tca_figures.specs.Totals.{IsSumOf, IsTextOf}
+use Rattle.tca_figures.specs.Totals.{IsSumOf}
 use Rattle.tca_figures.specs.declared.figures.ColourFigures.{ColourFigures}
 use Rattle.tca_figures.specs.declared.figures.Figure.{Figure}
 use Rattle.tca_figures.specs.declared.figures.SpanFigures.{SpanFigures}
