@@ -1,5 +1,5 @@
 -- The figures of the statement of a bill, and the statements of sets that are billed apart.
-use Rattle.std.specs.Prelude.{◌≡◌, ◌≤◌, ℕ, List, [], ◌∷◌, length, map, slice_index}
+use Rattle.std.specs.Prelude.{◌≤◌, ℕ, List, [], ◌∷◌, length, map, slice_index}
 use Rattle.std.specs.List.{AllByRecursion, zip}
 use Rattle.std.specs.List.Sorted.{IsStrictlySortedBy}
 use Rattle.tca_join.specs.SetLaws.{union}
