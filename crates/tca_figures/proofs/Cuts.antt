@@ -56,7 +56,8 @@ nonempty (x ∷ others) h = (x, others, refl)
 pub some_part : (octets : List ℕ) → (part : List ℕ) × (more : List (List ℕ)) × (parts octets ≡ part ∷ more)
 some_part octets = nonempty (parts octets) (omega (arith, length-slice_split (λ octet. octet == 10) octets))
 
-at_seam : {X : Type 0} (xs : List X) (y : X) (ys : List X) → slice_get (xs ++ y ∷ ys) (length xs) ≡ Some y
+-- the first member behind those in front
+pub at_seam : {X : Type 0} (xs : List X) (y : X) (ys : List X) → slice_get (xs ++ y ∷ ys) (length xs) ≡ Some y
 at_seam [] y ys = refl
 at_seam (x ∷ xs) y ys = at_seam xs y ys
 

@@ -9,6 +9,7 @@ pub mod Says
 pub mod Written
 pub mod Merged
 pub mod Firsts
+pub mod Wanting
 pub mod Others
 pub mod InForm
 pub mod Shown

@@ -7,7 +7,7 @@ use Rattle.std.proofs.lemmas.Grind.{flat_map-append}
 use Rattle.std.proofs.lemmas.List.{append-nil, append_assoc, length-append, map-append}
 use Rattle.std.proofs.lemmas.List.Splits.{join_with_byte-slice_split}
 use Rattle.tca_figures.specs.Figures.{AreApart, AreFigures, Ascend, IsAccount, IsSpan, IsStatement, IsSummed, Stated, StatedAccount}
-use Rattle.tca_figures.specs.Lines.{account_lines, name_line, number_line, octets_of, span_line, statement_lines, statement_octets, title_line, total_line}
+use Rattle.tca_figures.specs.Lines.{IsTextOf, account_lines, name_line, number_line, octets_of, span_line, statement_lines, title_line, total_line}
 use Rattle.tca_figures.specs.Progress.{Follow, FollowsAt, IsOpened, IsSound, Progress, closed, has_name, opened, unread}
 use Rattle.tca_figures.specs.Reading.{IsWhole, whole_lines}
 use Rattle.tca_accounts.specs.Plans.{is_name}
@@ -215,7 +215,10 @@ joined (line ∷ []) = sym (append-nil (line ++ 10 ∷ []))
 joined (line ∷ next ∷ lines) = ap (λ z. line ++ 10 ∷ z) (joined (next ∷ lines)) ∙ sym (append_assoc line (10 ∷ []) (octets_of (next ∷ lines)))
 
 -- octets whose lines were all read are those of a statement
-pub said : (octets : List ℕ) (p : Progress) → Follow unread (whole_lines octets) p → IsWhole octets p → IsSound p → (octets ≡ statement_octets p.stated) × IsStatement p.stated
+pub said : (octets : List ℕ) (p : Progress) → Follow unread (whole_lines octets) p → IsWhole octets p → IsSound p → IsTextOf octets p.stated
 said octets p h whole sound =
     let all = says_all (whole_lines octets) p h whole.0 sound in
-    (sym (join_with_byte-slice_split 10 octets) ∙ (ap (join_with_byte 10) whole.1 ∙ (joined (whole_lines octets) ∙ ap octets_of (sym all.0))), all.1)
+    record {
+      octets_are = sym (join_with_byte-slice_split 10 octets) ∙ (ap (join_with_byte 10) whole.1 ∙ (joined (whole_lines octets) ∙ ap octets_of (sym all.0)));
+      in_form = all.1;
+    }

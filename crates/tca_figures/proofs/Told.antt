@@ -2,7 +2,7 @@
 use Rattle.std.proofs.Common.{◌≡◌, ◌+◌, ◌-◌, ◌++◌, ◌∷◌, [], ℕ, List, length, take, arith, subst, sym, ap, refl, ◌∙◌}
 use Rattle.std.proofs.lemmas.List.{append_cancel_left, take_all}
 use Rattle.std.proofs.lemmas.Option.{slice_get_within}
-use Rattle.tca_figures.specs.Progress.{Follow, Follows, IsSound, IsWrongSum, Progress, unread}
+use Rattle.tca_figures.specs.Progress.{Follow, Follows, IsKept, IsSound, IsWrongSum, Progress, unread}
 use Rattle.tca_figures.specs.Reading.{IsFirstFault, IsWhole, fault_at, line_number, parts, whole_lines}
 use Rattle.tca_figures.specs.declared.fault.StatementFault.TheVariants as faults
 use Rattle.tca_figures.specs.declared.reader.Refusal.{Refusal}
@@ -20,8 +20,9 @@ only_memory refusals.Memory before spans line sum = refl
 pub told : (octets : List ℕ) (lines : List (List ℕ)) (line behind : List ℕ) (reader : Progress) (refusal : Refusal) (spans : ℕ)
     → parts octets ≡ lines ++ (line ∷ parts behind) → Follow unread lines reader → IsSound reader
     → ((q : Progress) → Follows reader line q → refusal ≡ refusals.Line → ⊥) → (refusal ≡ refusals.Sum → IsWrongSum reader line)
-    → (refusal ≡ refusals.Sum → spans ≡ length reader.account.spans) → IsFirstFault octets (fault_at refusal (length lines) spans)
-told octets lines line behind reader refusals.Line spans e follow sound only sum count =
+    → (refusal ≡ refusals.Sum → spans ≡ length reader.account.spans) → (refusal ≡ refusals.Memory → IsKept reader line)
+    → IsFirstFault octets (fault_at refusal (length lines) spans)
+told octets lines line behind reader refusals.Line spans e follow sound only sum count memory =
     let front = front_lines octets lines line behind e in
     record {
       before = length lines;
@@ -33,7 +34,7 @@ told octets lines line behind reader refusals.Line spans e follow sound only sum
       next = λ text is q h. only q (subst (λ z. Follows reader z q) (same_line text line (sym is ∙ front.1)) h) refl;
       early = λ is whole. omega (arith, is, front.2);
     }
-told octets lines line behind reader refusals.Sum spans e follow sound only sum count =
+told octets lines line behind reader refusals.Sum spans e follow sound only sum count memory =
     let front = front_lines octets lines line behind e in
     record {
       before = length lines;
@@ -45,7 +46,17 @@ told octets lines line behind reader refusals.Sum spans e follow sound only sum 
       next_is = front.1;
       wrong = sum refl;
     }
-told octets lines line behind reader refusals.Memory spans e follow sound only sum count = tt
+told octets lines line behind reader refusals.Memory spans e follow sound only sum count memory =
+    let front = front_lines octets lines line behind e in
+    record {
+      before = length lines;
+      progress = reader;
+      follow = subst (λ z. Follow unread z reader) (sym front.0) follow;
+      sound = sound;
+      next = line;
+      next_is = front.1;
+      kept = memory refl;
+    }
 
 first_of_one : (a b : List ℕ) → a ∷ [] ≡ b ∷ [] → a ≡ b
 first_of_one a b e = cc

@@ -6,7 +6,7 @@ use Rattle.std.proofs.lemmas.List.{append-nil, append_assoc, length-append}
 use Rattle.std.proofs.lemmas.List.Elements.{All-from_recursion}
 use Rattle.std.proofs.lemmas.List.Splits.{slice_split_at}
 use Rattle.tca_figures.specs.Figures.{AreApart, Ascend, IsAccount, IsSpan, IsStatement, IsSummed, Stated, StatedAccount, named}
-use Rattle.tca_figures.specs.Lines.{account_lines, end_line, octets_of, span_line, statement_lines, statement_octets, total_line}
+use Rattle.tca_figures.specs.Lines.{IsTextOf, account_lines, end_line, octets_of, span_line, statement_lines, total_line}
 use Rattle.tca_figures.specs.Progress.{Follow, IsSound, Progress, unread}
 use Rattle.tca_figures.specs.Reading.{IsWhole, parts, whole_lines}
 use Rattle.tca_figures.specs.declared.figures.ColourFigures.{ColourFigures}
@@ -138,10 +138,11 @@ pub record IsWritten (octets : List ℕ) (s : Stated) : Type 0 where
   pub sound : IsSound progress
   pub stated : progress.stated ≡ s
 
-pub written : (octets : List ℕ) (s : Stated) → IsStatement s → octets ≡ statement_octets s → IsWritten octets s
-written octets s h e =
+pub written : (octets : List ℕ) (s : Stated) → IsTextOf octets s → IsWritten octets s
+written octets s is =
+    let h = is.in_form in
     let follow = written_follows s h in
-    let cut : parts octets ≡ statement_lines s ++ [] ∷ [] = ap parts e ∙ without_feeds unread (statement_lines s) (at_end s) follow in
+    let cut : parts octets ≡ statement_lines s ++ [] ∷ [] = ap parts is.octets_are ∙ without_feeds unread (statement_lines s) (at_end s) follow in
     let lines : whole_lines octets ≡ statement_lines s = all_lines octets (statement_lines s) [] cut in
     record {
       progress = at_end s;

@@ -1,7 +1,7 @@
 -- The lines of a statement, without their line feeds.
-use Rattle.std.specs.Prelude.{ℕ, List, [], ◌∷◌, ◌++◌, codes, map, decimal}
+use Rattle.std.specs.Prelude.{◌≡◌, ℕ, List, [], ◌∷◌, ◌++◌, codes, map, decimal}
 use Rattle.std.specs.List.{flat_map}
-use Rattle.tca_figures.specs.Figures.{Stated, StatedAccount}
+use Rattle.tca_figures.specs.Figures.{IsStatement, Stated, StatedAccount}
 use Rattle.tca_figures.specs.declared.figures.ColourFigures.{ColourFigures}
 use Rattle.tca_figures.specs.declared.figures.Figure.{Figure}
 use Rattle.tca_figures.specs.declared.figures.SpanFigures.{SpanFigures}
@@ -64,3 +64,8 @@ octets_of lines = flat_map (λ line. line ++ 10 ∷ []) lines
 -- the octets of a statement
 abbrev pub statement_octets : Stated → List ℕ
 statement_octets s = octets_of (statement_lines s)
+
+-- octets that are those of a statement in form
+pub record IsTextOf (octets : List ℕ) (s : Stated) : Type 0 where
+  pub octets_are : octets ≡ statement_octets s
+  pub in_form : IsStatement s

@@ -101,6 +101,19 @@ pub record IsWrongSum (p : Progress) (line : List ℕ) : Type 0 where
   pub ends : (q : Progress) → Follows p line q → q.stated.accounts ≡ p.stated.accounts ++ p.account ∷ []
   pub wrong : IsSummed p.account → ⊥
 
+-- whether memory is taken for a line of this kind: for the name of an account, for a period, and for the account that the last line ends
+abbrev pub is_kept : Stage → Bool
+is_kept Account = true
+is_kept Spans = true
+is_kept other = false
+
+-- a line may stand there, ends those of no account whose total isn't the sum of its periods, and memory is taken for it
+pub record IsKept (p : Progress) (line : List ℕ) : Type 0 where
+  pub kept : is_kept p.stage ≡ true
+  pub next : Progress
+  pub follows : Follows p line next
+  pub sound : IsSound p → IsSound next
+
 -- lines that may follow one another, from what was read before to what is read with them
 unfoldable pub Follow : Progress → List (List ℕ) → Progress → Type 0
 Follow p [] q = q ≡ p

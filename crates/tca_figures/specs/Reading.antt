@@ -1,7 +1,7 @@
 -- The octets of a statement, and where octets that are no statement cease to be one.
 use Rattle.std.specs.Prelude.{◌≡◌, ◌≤◌, ◌+◌, ◌-◌, ◌==◌, ◌++◌, ℕ, List, [], ◌∷◌, length, take, slice_get, Some, min}
 use Rattle.std.specs.List.{slice_split}
-use Rattle.tca_figures.specs.Progress.{Follow, Follows, IsSound, IsWrongSum, Progress, unread}
+use Rattle.tca_figures.specs.Progress.{Follow, Follows, IsKept, IsSound, IsWrongSum, Progress, unread}
 use Rattle.tca_figures.specs.declared.fault.StatementFault.{StatementFault}
 use Rattle.tca_figures.specs.declared.fault.StatementFault.TheVariants as faults
 use Rattle.tca_figures.specs.declared.reader.Refusal.{Refusal}
@@ -54,10 +54,21 @@ pub record IsWrongTotal (octets : List ℕ) (line : ℕ) : Type 0 where
   pub next_is : slice_get (whole_lines octets) before ≡ Some next
   pub wrong : IsWrongSum progress next
 
--- the first fault of octets that are no statement; a growth may be refused at any line
+-- Where memory is wanted: lines in front follow one another, of each account whose lines they end the total is right, and so it is with the
+-- next line, for which the memory is taken.
+pub record WantsMemory (octets : List ℕ) : Type 0 where
+  pub before : ℕ
+  pub progress : Progress
+  pub follow : Follow unread (take before (whole_lines octets)) progress
+  pub sound : IsSound progress
+  pub next : List ℕ
+  pub next_is : slice_get (whole_lines octets) before ≡ Some next
+  pub kept : IsKept progress next
+
+-- the first fault of octets that are no statement, or where memory is wanted before there is one
 abbrev pub IsFirstFault : List ℕ → StatementFault → Type 0
 IsFirstFault octets (faults.Line line) = IsWrongLine octets line
 IsFirstFault octets (faults.Sum line) = IsWrongTotal octets line
 IsFirstFault octets (faults.Other line) = ⊥
 IsFirstFault octets faults.Range = ⊥
-IsFirstFault octets faults.Memory = Unit {0}
+IsFirstFault octets faults.Memory = WantsMemory octets

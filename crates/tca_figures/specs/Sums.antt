@@ -1,5 +1,5 @@
 -- The sum of two statements, and where a statement tells of another period or account than one before it.
-use Rattle.std.specs.Prelude.{◌≡◌, ◌≢◌, ◌⊎◌, ◌<◌, ◌^◌, ◌+◌, ◌==◌, ◌++◌, ℕ, if◌then◌else◌, List, [], ◌∷◌, length, map, take, slice_get}
+use Rattle.std.specs.Prelude.{◌≡◌, ◌≢◌, ◌⊎◌, ◌<◌, ◌^◌, ◌+◌, ◌==◌, ◌++◌, ℕ, if◌then◌else◌, List, [], ◌∷◌, length, map, take, slice_get, Some}
 use Rattle.std.specs.List.{AllByRecursion, flat_map}
 use Rattle.std.specs.Ordering.{nat_cmp}
 use Rattle.tca_figures.specs.Figures.{AllFit64, Ascend, Stated, StatedAccount, none, plus}
@@ -79,13 +79,29 @@ pub record IsOtherAccount (as_ bs : List StatedAccount) (line : ℕ) : Type 0 wh
 abbrev pub IsOther : Stated → Stated → ℕ → Type 0
 IsOther a b line = ((a.period ≢ b.period) × (line ≡ 2)) ⊎ ((a.period ≡ b.period) × IsOtherAccount a.accounts b.accounts line)
 
--- why two statements have no sum; a growth may be refused where they are alike
+-- Where memory is wanted for the sums of accounts: all sums of those in front of one have 64 bits, and so have those of its total.
+pub record SumsWantMemory (sums : List StatedAccount) : Type 0 where
+  pub before : ℕ
+  pub fit : AllByRecursion FitsAccount (take before sums)
+  pub account : StatedAccount
+  pub account_is : slice_get sums before ≡ Some account
+  pub total : AllFit64 account.total
+
+-- Where memory is wanted for a sum: two statements are alike, the sums of their counts have 64 bits, and it is wanted for those of accounts.
+pub record SumWantsMemory (a b : Stated) : Type 0 where
+  pub alike : AreAlike a b
+  pub reports : a.reports + b.reports < 2 ^ 64
+  pub disputed : a.disputed + b.disputed < 2 ^ 64
+  pub unassigned : a.unassigned + b.unassigned < 2 ^ 64
+  pub accounts : SumsWantMemory (added_accounts a.accounts b.accounts)
+
+-- why two statements have no sum, or where memory is wanted for one
 abbrev pub IsSumFault : Stated → Stated → StatementFault → Type 0
 IsSumFault a b (faults.Line line) = ⊥
 IsSumFault a b (faults.Sum line) = ⊥
 IsSumFault a b (faults.Other line) = IsOther a b line
 IsSumFault a b faults.Range = AreAlike a b × ¬ Fits (added a b)
-IsSumFault a b faults.Memory = AreAlike a b
+IsSumFault a b faults.Memory = SumWantsMemory a b
 
 -- what is known of periods that are added up
 abbrev pub AreInOrder : List SpanFigures → Type 0

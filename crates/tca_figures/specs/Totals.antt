@@ -1,13 +1,8 @@
 -- The sum of the statements of texts, one after the other.
 use Rattle.std.specs.Prelude.{◌≡◌, List, [], ◌∷◌, ℕ}
-use Rattle.tca_figures.specs.Figures.{IsStatement, Stated}
-use Rattle.tca_figures.specs.Lines.{statement_octets}
+use Rattle.tca_figures.specs.Figures.{Stated}
+use Rattle.tca_figures.specs.Lines.{IsTextOf}
 use Rattle.tca_figures.specs.Sums.{AreAlike, Fits, added}
-
--- octets that are those of a statement
-pub record IsTextOf (text : List ℕ) (s : Stated) : Type 0 where
-  pub octets : text ≡ statement_octets s
-  pub statement : IsStatement s
 
 -- each of these texts is a statement of the period and the accounts of a sum so far, and the numbers of each sum have 64 bits; this is the
 -- sum with all of them added, one after the other

@@ -2,7 +2,7 @@
 ghost use Rattle.std.specs.Prelude.{◌≡◌, ◌≢◌, true, ◌++◌, ◌∷◌, [], IfErr, IsErrOf, MatchBool, MatchResult, OnOk, length};
 ghost use Rattle.tca_figures.specs.Figures.{IsStatement, IsSummed};
 ghost use Rattle.tca_figures.specs.Lines.{name_line};
-ghost use Rattle.tca_figures.specs.Progress.{Follows, FollowsAt, IsBehind, IsOpened, IsSound, IsWrongSum, Progress, closed, ended, has_name, opened, unread};
+ghost use Rattle.tca_figures.specs.Progress.{Follows, FollowsAt, IsBehind, IsKept, IsOpened, IsSound, IsWrongSum, Progress, closed, ended, has_name, opened, unread};
 ghost use Rattle.tca_accounts.specs.Plans.{is_name};
 ghost use Rattle.tca_figures.specs.declared.reader.Refusal.TheVariants as refusals;
 ghost use Rattle.tca_figures.specs.declared.reader.Stage.TheVariants as stages;
@@ -104,7 +104,7 @@ impl Reader {
         ensures taken { OnOk result (FollowsAt stages.Title self.old line.now self.new) }
         ensures only { (q : Progress) → FollowsAt stages.Title self.old line.now q → MatchResult result (λ _. self.new ≡ q) (λ e. e ≢ refusals.Line) }
         ensures same { OnOk result (self.new.stated.accounts ≡ self.old.stated.accounts) }
-        ensures no_sum { IfErr result (λ e. e ≢ refusals.Sum) }
+        ensures line { IfErr result (λ e. e ≡ refusals.Line) }
     {
         if line != "tcacct statement 1" {
             return Err(Refusal::Line);
@@ -118,7 +118,7 @@ impl Reader {
         ensures taken { OnOk result (FollowsAt stages.Period self.old line.now self.new) }
         ensures only { (q : Progress) → FollowsAt stages.Period self.old line.now q → MatchResult result (λ _. self.new ≡ q) (λ e. e ≢ refusals.Line) }
         ensures same { OnOk result (self.new.stated.accounts ≡ self.old.stated.accounts) }
-        ensures no_sum { IfErr result (λ e. e ≢ refusals.Sum) }
+        ensures line { IfErr result (λ e. e ≡ refusals.Line) }
     {
         let Some(period) = number_behind("period", line) else {
             return Err(Refusal::Line);
@@ -136,7 +136,7 @@ impl Reader {
         ensures taken { OnOk result (FollowsAt stages.Reports self.old line.now self.new) }
         ensures only { (q : Progress) → FollowsAt stages.Reports self.old line.now q → MatchResult result (λ _. self.new ≡ q) (λ e. e ≢ refusals.Line) }
         ensures same { OnOk result (self.new.stated.accounts ≡ self.old.stated.accounts) }
-        ensures no_sum { IfErr result (λ e. e ≢ refusals.Sum) }
+        ensures line { IfErr result (λ e. e ≡ refusals.Line) }
     {
         let Some(reports) = number_behind("reports", line) else {
             return Err(Refusal::Line);
@@ -151,7 +151,7 @@ impl Reader {
         ensures taken { OnOk result (FollowsAt stages.Disputed self.old line.now self.new) }
         ensures only { (q : Progress) → FollowsAt stages.Disputed self.old line.now q → MatchResult result (λ _. self.new ≡ q) (λ e. e ≢ refusals.Line) }
         ensures same { OnOk result (self.new.stated.accounts ≡ self.old.stated.accounts) }
-        ensures no_sum { IfErr result (λ e. e ≢ refusals.Sum) }
+        ensures line { IfErr result (λ e. e ≡ refusals.Line) }
     {
         let Some(disputed) = number_behind("disputed", line) else {
             return Err(Refusal::Line);
@@ -166,7 +166,7 @@ impl Reader {
         ensures taken { OnOk result (FollowsAt stages.Unassigned self.old line.now self.new) }
         ensures only { (q : Progress) → FollowsAt stages.Unassigned self.old line.now q → MatchResult result (λ _. self.new ≡ q) (λ e. e ≢ refusals.Line) }
         ensures same { OnOk result (self.new.stated.accounts ≡ self.old.stated.accounts) }
-        ensures no_sum { IfErr result (λ e. e ≢ refusals.Sum) }
+        ensures line { IfErr result (λ e. e ≡ refusals.Line) }
     {
         let Some(unassigned) = number_behind("unassigned", line) else {
             return Err(Refusal::Line);
@@ -185,10 +185,12 @@ impl Reader {
 
     // Takes the line of the first account's name.
     fn take_name(&mut self, line: &str) -> Result<(), Refusal>
+        requires { self.old.stage ≡ stages.Account }
         ensures taken { OnOk result (FollowsAt stages.Account self.old line.now self.new) }
         ensures only { (q : Progress) → FollowsAt stages.Account self.old line.now q → MatchResult result (λ _. self.new ≡ q) (λ e. e ≢ refusals.Line) }
         ensures same { OnOk result (self.new.stated.accounts ≡ self.old.stated.accounts) }
         ensures no_sum { IfErr result (λ e. e ≢ refusals.Sum) }
+        ensures memory { IsErrOf result refusals.Memory → IsKept self.old line.now }
     {
         let Some(name) = name_in(line) else {
             return Err(Refusal::Line);
@@ -206,7 +208,7 @@ impl Reader {
         ensures taken { OnOk result (FollowsAt stages.Total self.old line.now self.new) }
         ensures only { (q : Progress) → FollowsAt stages.Total self.old line.now q → MatchResult result (λ _. self.new ≡ q) (λ e. e ≢ refusals.Line) }
         ensures same { OnOk result (self.new.stated.accounts ≡ self.old.stated.accounts) }
-        ensures no_sum { IfErr result (λ e. e ≢ refusals.Sum) }
+        ensures line { IfErr result (λ e. e ≡ refusals.Line) }
     {
         let Some(total) = total_in(line) else {
             return Err(Refusal::Line);
@@ -231,6 +233,7 @@ impl Reader {
         ensures taken { OnOk result (IsBehind span.index self.old.account.spans
             × (self.new ≡ record self.old { account = record self.old.account { spans = self.old.account.spans ++ span ∷ [] } })) }
         ensures refused { IsErrOf result refusals.Line → ¬ IsBehind span.index self.old.account.spans }
+        ensures memory { IsErrOf result refusals.Memory → IsBehind span.index self.old.account.spans }
         ensures no_sum { IfErr result (λ e. e ≢ refusals.Sum) }
     {
         if !self.is_behind(span.index) {
@@ -256,6 +259,7 @@ impl Reader {
         ensures summed { OnOk result (IsSummed self.old.account) }
         ensures only { (q : Progress) → IsOpened (closed self.old) (name_line name.now) q → MatchResult result (λ _. self.new ≡ q) (λ e. e ≢ refusals.Line) }
         ensures sum { IsErrOf result refusals.Sum → (¬ IsSummed self.old.account) × IsOpened (closed self.old) (name_line name.now) (opened name.now (closed self.old)) }
+        ensures memory { IsErrOf result refusals.Memory → IsSummed self.old.account × IsOpened (closed self.old) (name_line name.now) (opened name.now (closed self.old)) }
         ensures kept { IsErrOf result refusals.Sum → self.new ≡ self.old }
     {
         if self.accounts.len() >= MOST_ACCOUNTS - 1
@@ -279,6 +283,7 @@ impl Reader {
         ensures summed { OnOk result (IsSummed self.old.account) }
         ensures no_line { IfErr result (λ e. e ≢ refusals.Line) }
         ensures sum { IsErrOf result refusals.Sum → ¬ IsSummed self.old.account }
+        ensures memory { IsErrOf result refusals.Memory → IsSummed self.old.account }
         ensures kept { IsErrOf result refusals.Sum → self.new ≡ self.old }
     {
         if !self.account.is_summed() {
@@ -296,6 +301,7 @@ impl Reader {
         ensures only { (q : Progress) → FollowsAt stages.Spans self.old line.now q → MatchResult result (λ _. self.new ≡ q) (λ e. e ≢ refusals.Line) }
         ensures sound { OnOk result (IsSound self.old → IsSound self.new) }
         ensures sum { IsErrOf result refusals.Sum → IsWrongSum self.old line.now }
+        ensures memory { IsErrOf result refusals.Memory → IsKept self.old line.now }
         ensures kept { IsErrOf result refusals.Sum → self.new ≡ self.old }
     {
         if let Some(span) = span_in(self.period, line) {
@@ -317,6 +323,7 @@ impl Reader {
         ensures only { (q : Progress) → Follows self.old line.now q → MatchResult result (λ _. self.new ≡ q) (λ e. e ≢ refusals.Line) }
         ensures sound { OnOk result (IsSound self.old → IsSound self.new) }
         ensures sum { IsErrOf result refusals.Sum → IsWrongSum self.old line.now }
+        ensures memory { IsErrOf result refusals.Memory → IsKept self.old line.now }
         ensures kept { IsErrOf result refusals.Sum → self.new ≡ self.old }
     {
         match self.stage {
@@ -338,6 +345,7 @@ impl Reader {
         ensures only { (q : Progress) → Follows self.old line.now q → MatchResult result (λ _. self.new ≡ q) (λ e. e ≢ refusals.Line) }
         ensures sound { OnOk result (IsSound self.old → IsSound self.new) }
         ensures sum { IsErrOf result refusals.Sum → IsWrongSum self.old line.now }
+        ensures memory { IsErrOf result refusals.Memory → IsKept self.old line.now }
         ensures kept { IsErrOf result refusals.Sum → self.new ≡ self.old }
     {
         match str::from_utf8(line) {

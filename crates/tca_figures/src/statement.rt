@@ -1,7 +1,7 @@
 //! Statements as they are read.
 ghost use Rattle.std.specs.Prelude.{◌≡◌, ◌≢◌, ◌++◌, ◌∷◌, ◌-◌, ◌+◌, ℕ, [], MatchResult, IfErr, IfOk, IfSome, None, length};
-ghost use Rattle.tca_figures.specs.Figures.{IsStatement, Stated};
-ghost use Rattle.tca_figures.specs.Lines.{statement_octets};
+ghost use Rattle.tca_figures.specs.Figures.{Stated};
+ghost use Rattle.tca_figures.specs.Lines.{IsTextOf};
 ghost use Rattle.tca_figures.specs.Reading.{IsFirstFault, fault_at, line_number, parts};
 ghost use Rattle.tca_figures.specs.declared.fault.StatementFault.TheVariants as faults;
 
@@ -44,10 +44,11 @@ fn fault_at(refusal: Refusal, before: usize, spans: usize) -> StatementFault
 }
 
 /// Reads a statement. A fault is that of the first line that may not stand there, or at which the statement ends too early; or of an account's total
-/// that isn't the sum of its periods, which is told by the total's line once all lines of the account are read.
+/// that isn't the sum of its periods, which is told by the total's line once all lines of the account are read. Memory is taken line by line, and
+/// want of it told where the lines before are right and so is the one that it is taken for.
 pub fn read_statement(alloc: Global, octets: &[u8]) -> Result<Figures, StatementFault>
-    ensures found { IfOk result (λ f. (octets.now ≡ statement_octets f) × IsStatement f) }
-    ensures only { (s : Stated) → IsStatement s → octets.now ≡ statement_octets s → MatchResult result (λ f. f ≡ s) (λ e. e ≡ faults.Memory) }
+    ensures found { IfOk result (IsTextOf octets.now) }
+    ensures only { (s : Stated) → IsTextOf octets.now s → MatchResult result (λ f. f ≡ s) (λ e. e ≡ faults.Memory) }
     ensures refused { IfErr result (IsFirstFault octets.now) }
 {
     let mut reader = Reader::new(alloc);

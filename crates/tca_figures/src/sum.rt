@@ -4,7 +4,7 @@ ghost use Rattle.std.specs.List.{AllByRecursion};
 ghost use Rattle.std.specs.Option.{MatchOption};
 ghost use Rattle.tca_figures.specs.Figures.{AllFit64, IsStatement, plus};
 ghost use Rattle.tca_figures.specs.Lines.{account_lines};
-ghost use Rattle.tca_figures.specs.Sums.{AllFit, AreAlike, AreInOrder, Fits, FitsAccount, IsFirst, IsOtherAccount, IsSumFault, added, added_account, added_accounts, added_spans, names};
+ghost use Rattle.tca_figures.specs.Sums.{AllFit, AreAlike, AreInOrder, Fits, FitsAccount, IsFirst, IsOtherAccount, IsSumFault, SumWantsMemory, SumsWantMemory, added, added_account, added_accounts, added_spans, names};
 ghost use Rattle.tca_figures.specs.declared.fault.StatementFault.TheVariants as faults;
 
 use crate::fault::StatementFault;
@@ -117,7 +117,8 @@ fn account_sum(
     requires first { AreInOrder account.now.spans }
     requires second { AreInOrder other.now.spans }
     ensures added { IfOk result (λ sum. (sum ≡ added_account account.now other.now) × FitsAccount sum) }
-    ensures refused { IfErr result (λ e. (e ≡ faults.Memory) ⊎ ((e ≡ faults.Range) × ¬ FitsAccount (added_account account.now other.now))) }
+    ensures refused { IfErr result (λ e. ((e ≡ faults.Memory) × AllFit64 (plus account.now.total other.now.total))
+        ⊎ ((e ≡ faults.Range) × ¬ FitsAccount (added_account account.now other.now))) }
 {
     let Some(total) = account.total().plus(other.total()) else {
         return Err(StatementFault::Range);
@@ -155,7 +156,8 @@ fn account_sums(
     requires second { AllByRecursion (λ a. AreInOrder a.spans) others.now }
     requires alike { names accounts.now ≡ names others.now }
     ensures added { IfOk result (λ sums. (sums.items ≡ added_accounts accounts.now others.now) × AllByRecursion FitsAccount sums.items) }
-    ensures refused { IfErr result (λ e. (e ≡ faults.Memory) ⊎ ((e ≡ faults.Range) × ¬ AllByRecursion FitsAccount (added_accounts accounts.now others.now))) }
+    ensures refused { IfErr result (λ e. ((e ≡ faults.Memory) × SumsWantMemory (added_accounts accounts.now others.now))
+        ⊎ ((e ≡ faults.Range) × ¬ AllByRecursion FitsAccount (added_accounts accounts.now others.now))) }
 {
     let mut sums = Vec::new(alloc);
     let mut left = accounts;
@@ -177,7 +179,8 @@ fn sum_of(alloc: Global, first: &Figures, second: &Figures) -> Result<Figures, S
     requires alike { AreAlike first.now second.now }
     ensures added { IfOk result (λ sum. (sum ≡ added first.now second.now) × Fits sum) }
     ensures statement { IfOk result IsStatement }
-    ensures refused { IfErr result (λ e. (e ≡ faults.Memory) ⊎ ((e ≡ faults.Range) × ¬ Fits (added first.now second.now))) }
+    ensures refused { IfErr result (λ e. ((e ≡ faults.Memory) × SumWantsMemory first.now second.now)
+        ⊎ ((e ≡ faults.Range) × ¬ Fits (added first.now second.now))) }
 {
     Ok(Figures {
         period: first.period,
@@ -190,7 +193,8 @@ fn sum_of(alloc: Global, first: &Figures, second: &Figures) -> Result<Figures, S
 
 /// The sum of two statements of one period and the same accounts: each count is the sum of both, and so is each account's total and each of its
 /// periods. A period that just one has is kept. `Other` tells the first line of the second statement that is of another period or account, `Range`
-/// that they are alike and a sum has more than 64 bits.
+/// that they are alike and a sum has more than 64 bits. Memory is taken account by account, and want of it told where the sums before have 64
+/// bits.
 pub fn add(alloc: Global, first: &Figures, second: &Figures) -> Result<Figures, StatementFault>
     ensures added { IfOk result (λ sum. sum ≡ added first.now second.now) }
     ensures alike { IfOk result (λ sum. AreAlike first.now second.now × Fits sum) }

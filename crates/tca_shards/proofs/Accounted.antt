@@ -1,5 +1,5 @@
 -- The account of a tally is one that a statement may have.
-use Rattle.std.proofs.Common.{◌≡◌, ℕ, ◌+◌, ◌*◌, ◌/◌, ◌<◌, ◌≤◌, ◌^◌, ◌↔◌, Bool, true, false, cond, eqb, List, [], ◌∷◌, ◌++◌, filter, length, map, suc, zero, refl, sym, subst, ap, ◌∙◌, arith}
+use Rattle.std.proofs.Common.{◌≡◌, ℕ, ◌+◌, ◌*◌, ◌≤◌, Bool, true, false, cond, eqb, List, [], ◌∷◌, filter, length, map, refl, sym, subst, ap, ◌∙◌, arith}
 use Rattle.std.specs.List.{AllByRecursion}
 use Rattle.std.specs.List.Sorted.{IsStrictlySortedBy}
 use Rattle.std.specs.Ordering.{nat_cmp}
@@ -9,7 +9,7 @@ use Rattle.std.proofs.lemmas.Cmp.{nat_cmp_total}
 use Rattle.std.proofs.lemmas.List.Sums.{sum_by-cons}
 use Rattle.tca_join.specs.Sets.{in_order, put}
 use Rattle.tca_join.proofs.Sets.{rises_in_order}
-use Rattle.tca_report.specs.report.Reports.{InRange, PacketReport, most_octets, time_end}
+use Rattle.tca_report.specs.report.Reports.{InRange, PacketReport, most_octets}
 use Rattle.tca_report.specs.export.Spelling.{most_reports}
 use Rattle.tca_meters.specs.Colours.{colour_number}
 use Rattle.tca_meters.specs.declared.colour.Colour.{Colour}
@@ -17,15 +17,13 @@ use Rattle.tca_meters.specs.declared.colour.Colour.TheVariants.{Green, Yellow, R
 use Rattle.tca_accounts.specs.Bills.{tally_of}
 use Rattle.tca_accounts.specs.Plans.{PlannedAccount, is_name}
 use Rattle.tca_accounts.specs.Spans.{period_of, spans_of, within}
-use Rattle.tca_accounts.specs.Sums.{octets_in, packets_in, sums_of}
+use Rattle.tca_accounts.specs.Sums.{octets_in, sums_of}
 use Rattle.tca_accounts.specs.declared.span.Span.{Span}
-use Rattle.tca_accounts.specs.declared.tally.Tally.{Tally}
 use Rattle.tca_accounts.proofs.Bills.{filter_few}
 use Rattle.tca_accounts.proofs.Counting.{packets_few}
-use Rattle.tca_figures.specs.Figures.{AllFit64, AreFigures, Ascend, IsAccount, IsFigure, IsSpan, all_of, none, packets_of, plus}
+use Rattle.tca_figures.specs.Figures.{AllFit64, AreFigures, IsAccount, IsFigure, IsSpan, all_of, none, packets_of, plus}
 use Rattle.tca_figures.specs.Sums.{AllFit, FitsAccount}
 use Rattle.tca_figures.specs.declared.figures.ColourFigures.{ColourFigures}
-use Rattle.tca_figures.specs.declared.figures.SpanFigures.{SpanFigures}
 use Rattle.tca_figures.proofs.InForm.{account_sum, all_cons}
 use Rattle.tca_shards.specs.Statements.{account_figures, figures_of, span_figures}
 use Rattle.tca_shards.proofs.AddedUp.{tally_append}

@@ -1,31 +1,28 @@
 -- The statement of a bill is in form, and says the bill's figures.
-use Rattle.std.proofs.Common.{◌≡◌, ℕ, ◌+◌, ◌<◌, ◌≤◌, ◌^◌, Bool, true, false, ◌&&◌, ◌||◌, not, cond, eqb, List, [], ◌∷◌, ◌++◌, codes, filter, length, map, suc, zero, refl, sym, subst, ap, ◌∙◌, arith}
+use Rattle.std.proofs.Common.{◌≡◌, ℕ, ◌+◌, ◌≤◌, Bool, true, false, ◌&&◌, ◌||◌, not, cond, eqb, List, [], ◌∷◌, ◌++◌, codes, filter, length, map, suc, refl, sym, subst, ap, ◌∙◌, arith}
 use Rattle.std.specs.Prelude.{decimal, is_none}
 use Rattle.std.specs.List.{AllByRecursion, IsDistinct, enumerate_from, flat_map, list_any, zip}
 use Rattle.std.specs.Str.{bytes_eq}
 use Rattle.std.proofs.lemmas.Bool.{false≢true}
-use Rattle.std.proofs.lemmas.List.{append-nil, append_assoc, length-map}
-use Rattle.std.proofs.lemmas.List.FromFn.{length-enumerate_from}
+use Rattle.std.proofs.lemmas.List.{append-nil, append_assoc}
 use Rattle.std.proofs.lemmas.Map.Keys.{IsDistinct-cons}
 use Rattle.tca_report.specs.report.Reports.{InRange, PacketReport}
 use Rattle.tca_report.specs.report.Identities.{identity_of}
 use Rattle.tca_report.specs.export.Spelling.{most_reports}
-use Rattle.tca_log.specs.Disputes.{contents, disputed, undisputed}
+use Rattle.tca_log.specs.Disputes.{contents, undisputed}
 use Rattle.tca_log.proofs.Repeats.{disputed_few}
 use Rattle.tca_meters.specs.Packets.{Packet, Rule, coloured}
 use Rattle.tca_meters.specs.Termed.{termed_rule}
-use Rattle.tca_meters.specs.declared.colour.Colour.{Colour}
-use Rattle.tca_accounts.specs.Bills.{bill_of, coloured_in, is_number, reports_of, tally_of, unassigned}
-use Rattle.tca_accounts.specs.Plans.{AccountPlan, IsPlan, PlannedAccount, account_of, all_differ, all_pairs, are_distinct, is_name, same_pair}
-use Rattle.tca_accounts.specs.Sums.{ColourSums, packet_of}
+use Rattle.tca_accounts.specs.Bills.{bill_of, coloured_in, is_number, reports_of, tally_of}
+use Rattle.tca_accounts.specs.Plans.{AccountPlan, IsPlan, PlannedAccount, account_of, all_differ, all_pairs, is_name, same_pair}
+use Rattle.tca_accounts.specs.Sums.{packet_of}
 use Rattle.tca_accounts.specs.declared.bill.Bill.{Bill}
 use Rattle.tca_accounts.specs.declared.span.Span.{Span}
 use Rattle.tca_accounts.specs.declared.tally.Tally.{Tally}
 use Rattle.tca_accounts.proofs.Bills.{coloured_length, filter_few}
 use Rattle.tca_statements.specs.Statements as text
-use Rattle.tca_figures.specs.Figures.{AreApart, IsAccount, IsStatement, StatedAccount}
-use Rattle.tca_figures.specs.Lines.{account_lines, colour_fields, end_line, octets_of, opening_lines, span_line, statement_octets}
-use Rattle.tca_figures.specs.Totals.{IsTextOf}
+use Rattle.tca_figures.specs.Figures.{IsAccount, IsStatement}
+use Rattle.tca_figures.specs.Lines.{account_lines, colour_fields, octets_of, opening_lines, span_line, statement_octets}
 use Rattle.tca_figures.proofs.Shown.{account_octets, all_octets}
 use Rattle.tca_shards.specs.Statements.{BillsAreRead, IsLogged, account_figures, figures_of, span_figures, stated}
 use Rattle.tca_shards.proofs.Accounted.{AreRanged, accounted}
@@ -161,4 +158,4 @@ says plan bill =
     ∙ all_octets (stated plan bill)
 
 pub bills_are_read : BillsAreRead
-bills_are_read plan rs is h = record { octets = says plan (bill_of plan rs); statement = in_form plan rs is h }
+bills_are_read plan rs is h = record { octets_are = says plan (bill_of plan rs); in_form = in_form plan rs is h }

@@ -1,6 +1,6 @@
 -- The statements of sets that are billed apart add up.
 use Rattle.std.proofs.Common.{◌≡◌, ℕ, ◌+◌, List, [], ◌∷◌, ◌++◌, length, map, refl, sym, subst, ap, ◌∙◌}
-use Rattle.std.specs.List.{AllByRecursion, enumerate_from, zip}
+use Rattle.std.specs.List.{AllByRecursion, enumerate_from}
 use Rattle.std.specs.List.Sorted.{IsStrictlySortedBy}
 use Rattle.std.proofs.lemmas.List.{length-map}
 use Rattle.std.proofs.lemmas.List.FromFn.{length-enumerate_from}
@@ -11,7 +11,7 @@ use Rattle.tca_report.proofs.lemmas.report.Order.{report_total}
 use Rattle.tca_accounts.specs.Bills.{bill_of, coloured_in, reports_of, tally_of}
 use Rattle.tca_accounts.specs.Plans.{AccountPlan, IsPlan, PlannedAccount}
 use Rattle.tca_accounts.specs.declared.tally.Tally.{Tally}
-use Rattle.tca_figures.specs.Figures.{Stated, StatedAccount}
+use Rattle.tca_figures.specs.Figures.{Stated}
 use Rattle.tca_figures.specs.Sums.{AreAlike, Fits, added, names}
 use Rattle.tca_figures.specs.Totals.{Adds}
 use Rattle.tca_shards.specs.Shards.{HaveDomainsApart, Pairwise, united}

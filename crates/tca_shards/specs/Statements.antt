@@ -1,5 +1,5 @@
 -- The figures of the statement of a bill, and the statements of sets that are billed apart.
-use Rattle.std.specs.Prelude.{◌≡◌, ◌≤◌, ℕ, List, [], ◌∷◌, length, map, slice_index}
+use Rattle.std.specs.Prelude.{◌≤◌, ℕ, List, [], ◌∷◌, length, map, slice_index}
 use Rattle.std.specs.List.{AllByRecursion, zip}
 use Rattle.std.specs.List.Sorted.{IsStrictlySortedBy}
 use Rattle.tca_join.specs.SetLaws.{union}
@@ -13,8 +13,9 @@ use Rattle.tca_accounts.specs.declared.tally.Tally.{Tally}
 use Rattle.tca_accounts.specs.declared.bill.Bill.{Bill}
 use Rattle.tca_statements.specs.Statements.{statement_text}
 use Rattle.tca_figures.specs.Figures.{Stated, StatedAccount}
+use Rattle.tca_figures.specs.Lines.{IsTextOf}
 use Rattle.tca_figures.specs.Sums.{Fits}
-use Rattle.tca_figures.specs.Totals.{IsSumOf, IsTextOf}
+use Rattle.tca_figures.specs.Totals.{IsSumOf}
 use Rattle.tca_figures.specs.declared.figures.ColourFigures.{ColourFigures}
 use Rattle.tca_figures.specs.declared.figures.Figure.{Figure}
 use Rattle.tca_figures.specs.declared.figures.SpanFigures.{SpanFigures}

@@ -6,8 +6,7 @@ use Rattle.tca_figures.specs.Progress.{Follow, Follows, IsSound, Progress, unrea
 use Rattle.tca_figures.specs.Reading.{IsFirstFault, fault_at, parts, whole_lines}
 use Rattle.tca_figures.specs.declared.reader.Refusal.TheVariants as refusals
 use Rattle.tca_figures.proofs.Cuts.{all_lines, follow_back, follow_cut, follow_on, front_lines}
-use Rattle.tca_figures.specs.Figures.{IsStatement}
-use Rattle.tca_figures.specs.Lines.{statement_octets}
+use Rattle.tca_figures.specs.Lines.{IsTextOf}
 use Rattle.tca_figures.proofs.Says.{said}
 use Rattle.tca_figures.proofs.Written.{written}
 use Rattle.tca_figures.proofs.Sound.{no_wrong_sum, sound_back}
@@ -34,8 +33,8 @@ loop-line-preserved c =
     )
 
 pub returns-in-Err-clause-only : goal.returns-in-Err-clause-only
-returns-in-Err-clause-only c s is octets_are =
-    let w = written c.args.octets.now s is octets_are in
+returns-in-Err-clause-only c s is =
+    let w = written c.args.octets.now s is in
     let p = w.progress in
     let i = c.loop-line.invariant in
     let line = c.in-Some.line.now in
@@ -54,7 +53,7 @@ returns-in-Err-clause-refused c =
     let e = c.in-Err.ensures in
     let one = told c.args.octets.now i.0 c.in-Some.line.now c.in-Some.behind.now c.loop-line.reader c.in-Err.refusal c.spans.result
     (i.1 ∙ ap (λ z. i.0 ++ z) c.in-Some.ensures.first) i.4 i.6 e.only (λ is. e.sum (ap Err is))
-    (λ is. c.spans.ensures ∙ ap (λ (z : Progress). length z.account.spans) (e.kept (ap Err is))) in
+    (λ is. c.spans.ensures ∙ ap (λ (z : Progress). length z.account.spans) (e.kept (ap Err is))) (λ is. e.memory (ap Err is)) in
     subst (IsFirstFault c.args.octets.now) (sym c.fault_at.ensures)
     (subst (λ n. IsFirstFault c.args.octets.now (fault_at c.in-Err.refusal n c.spans.result)) i.2 one)
 
@@ -65,12 +64,12 @@ returns-then-is_ended-clause-found c =
     let whole = all_lines c.args.octets.now i.0 c.loop-line.rest.now last in
     let nothing : c.loop-line.rest.now ≡ [] = nil_from_length c.loop-line.rest.now (eqb-true _ _ (sym c.if-is_empty.ensures)) in
     let cut = last ∙ (ap (λ z. i.0 ++ z ∷ []) nothing ∙ ap (λ z. z ++ [] ∷ []) (sym whole)) in
-    subst (λ f. (c.args.octets.now ≡ statement_octets f) × IsStatement f) (sym c.into_figures.ensures)
+    subst (IsTextOf c.args.octets.now) (sym c.into_figures.ensures)
     (said c.args.octets.now c.loop-line.reader (subst (λ z. Follow unread z c.loop-line.reader) (sym whole) i.4) (c.if-is_ended.ensures, cut) i.6)
 
 pub returns-then-is_ended-clause-only : goal.returns-then-is_ended-clause-only
-returns-then-is_ended-clause-only c s is octets_are =
-    let w = written c.args.octets.now s is octets_are in
+returns-then-is_ended-clause-only c s is =
+    let w = written c.args.octets.now s is in
     let i = c.loop-line.invariant in
     let last = i.1 ∙ ap (λ z. i.0 ++ z) (c.in_default.ensures.none refl) in
     let whole = all_lines c.args.octets.now i.0 c.loop-line.rest.now last in
@@ -89,8 +88,8 @@ returns-else-is_empty-clause-refused c =
     subst (IsFirstFault c.args.octets.now) (sym f) (subst (λ n. IsFirstFault c.args.octets.now (fault_at refusals.Line n 0)) i.2 one)
 
 pub returns-else-is_empty-clause-only : goal.returns-else-is_empty-clause-only
-returns-else-is_empty-clause-only c s is octets_are =
-    let w = written c.args.octets.now s is octets_are in
+returns-else-is_empty-clause-only c s is =
+    let w = written c.args.octets.now s is in
     let i = c.loop-line.invariant in
     let last = i.1 ∙ ap (λ z. i.0 ++ z) (c.in_default.ensures.none refl) in
     let whole = all_lines c.args.octets.now i.0 c.loop-line.rest.now last in
@@ -108,4 +107,4 @@ into_figures-requires c =
     let whole = all_lines c.args.octets.now i.0 c.loop-line.rest.now last in
     let nothing : c.loop-line.rest.now ≡ [] = nil_from_length c.loop-line.rest.now (eqb-true _ _ (sym c.if-is_empty.ensures)) in
     let cut = last ∙ (ap (λ z. i.0 ++ z ∷ []) nothing ∙ ap (λ z. z ++ [] ∷ []) (sym whole)) in
-    (said c.args.octets.now c.loop-line.reader (subst (λ z. Follow unread z c.loop-line.reader) (sym whole) i.4) (c.if-is_ended.ensures, cut) i.6).1
+    (said c.args.octets.now c.loop-line.reader (subst (λ z. Follow unread z c.loop-line.reader) (sym whole) i.4) (c.if-is_ended.ensures, cut) i.6).in_form

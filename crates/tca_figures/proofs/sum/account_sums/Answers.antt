@@ -1,11 +1,12 @@
 use Rattle.std.proofs.Common.{◌∙◌, ◌++◌, ◌∷◌, [], inl, inr, rules, sym, subst, ap}
 use Rattle.std.specs.List.{AllByRecursion}
 use Rattle.std.proofs.lemmas.List.{append-nil, append_assoc}
-use Rattle.tca_figures.specs.Figures.{StatedAccount}
+use Rattle.tca_figures.specs.Figures.{AllFit64, StatedAccount}
 use Rattle.tca_figures.specs.Sums.{AreInOrder, FitsAccount, added_account, added_accounts, names}
 use Rattle.tca_figures.proofs.Ascending.{all_push}
 use Rattle.tca_figures.proofs.InForm.{added_none, added_step, names_behind}
 use Rattle.tca_figures.proofs.Sound.{both_parts}
+use Rattle.tca_figures.proofs.Wanting.{wanted_at}
 use Rattle.tca_figures.proofs.sum.account_sums.Goals as goal
 
 pub returns-in_err-sum-clause-refused : goal.returns-in_err-sum-clause-refused
@@ -18,9 +19,23 @@ returns-in_err-sum-clause-refused c =
     let worse : ¬ FitsAccount (added_account a b) → ¬ AllByRecursion FitsAccount (added_accounts c.args.accounts.now c.args.others.now) = λ n f. n
     (both_parts FitsAccount c.loop-account.sums.items (added_account a b ∷ behind) (subst (AllByRecursion FitsAccount) (i.0 ∙ ap (λ z. c.loop-account.sums.items ++ z) step) f)).1.0 in
     elim c.in_err-sum.ensures.refused [
-      | inl memory ↦ search (rules, memory)
+      | inl memory ↦
+          let wanted = wanted_at (added_accounts c.args.accounts.now c.args.others.now) c.loop-account.sums.items (added_account a b) behind (i.0 ∙ ap (λ z. c.loop-account.sums.items ++ z) step) i.2 memory.1 in
+          search (rules, memory.0, wanted)
       | inr range ↦ let wide = worse range.1 in search (rules, wide, range.0)
     ]
+
+pub returns-in_err-push_account-clause-refused : goal.returns-in_err-push_account-clause-refused
+returns-in_err-push_account-clause-refused c =
+    let i = c.loop-account.invariant in
+    let a = c.in-Some.account.now in
+    let b = c.in-Some-split_first.other.now in
+    let sum = c.in_ok-sum.ensures.added in
+    let behind = added_accounts c.in-Some.left_behind.now c.in-Some-split_first.right_behind.now in
+    let step = added_step c.loop-account.left.now c.loop-account.right.now a c.in-Some.left_behind.now b c.in-Some-split_first.right_behind.now c.in-Some.ensures.cases.0 c.in-Some-split_first.ensures.cases.0 in
+    let wanted = wanted_at (added_accounts c.args.accounts.now c.args.others.now) c.loop-account.sums.items (added_account a b) behind (i.0 ∙ ap (λ z. c.loop-account.sums.items ++ z) step) i.2
+    (subst (λ (z : StatedAccount). AllFit64 z.total) sum.0 sum.1.0) in
+    search (rules, wanted)
 
 pub loop-account-preserved : goal.loop-account-preserved
 loop-account-preserved c =

@@ -1,4 +1,4 @@
-use Rattle.std.proofs.Common.{rules, ◌≡◌, ◌<◌, ◌^◌, ℕ, ◌∙◌}
+use Rattle.std.proofs.Common.{rules, ◌<◌, ◌^◌, ◌∙◌}
 use Rattle.tca_figures.specs.Figures.{Stated}
 use Rattle.tca_figures.specs.Sums.{AreAlike, added_accounts}
 use Rattle.tca_figures.proofs.InForm.{is_sum}
