@@ -4,15 +4,14 @@ use Rattle.std.specs.Global.{Vec}
 use Rattle.std.specs.Option.{unwrap_or}
 use Rattle.std.proofs.Common.{get_or}
 use Rattle.tca_figures.specs.Figures.{Stated}
+use Rattle.tca_figures.specs.Lines.{IsTextOf}
 use Rattle.tca_figures.specs.Reading.{IsFirstFault}
 use Rattle.tca_figures.specs.Sums.{AreAlike, Fits, IsSumFault, added}
-use Rattle.tca_figures.specs.Totals.{Adds, IsSumOf, IsTextOf}
-use Rattle.tca_figures.specs.Faults.{statement_number}
+use Rattle.tca_figures.specs.Totals.{Adds, IsSumOf}
 use Rattle.tca_figures.specs.declared.fault.StatementFault.{StatementFault}
-use Rattle.tca_program.specs.Runs.{refusal}
-use Rattle.tca_program.specs.declared.fault.Family.TheVariants as family
 use Rattle.tca_program.specs.declared.fault.RunFault.{RunFault}
-use Rattle.tcatool.specs.Added.{HasNoSum, IsFirstUnfit, IsUnread, texts_of}
+use Rattle.tcatool.specs.Added.{HasNoSum, IsFirstUnfit, IsNoStatement, texts_of}
+use Rattle.tcatool.specs.Told.{statement_refusal}
 
 adds_more : (held : Stated) (texts : List (List ℕ)) (sum : Stated) (text : List ℕ) (more : Stated) → Adds held texts sum → IsTextOf text more → AreAlike sum more → Fits (added sum more)
     → Adds held (texts ++ text ∷ []) (added sum more)
@@ -33,7 +32,7 @@ sum_first text s is = (s, is, refl)
 
 -- a text behind others that have a sum is no statement
 pub unread : (texts : List (List ℕ)) (number : ℕ) (text : List ℕ) (fault : StatementFault) (e : RunFault) (sum : Stated) → IsSumOf (take number texts) sum → slice_get texts number ≡ Some text
-    → IsFirstFault text fault → e ≡ refusal (Some number) family.Statement (statement_number fault) → IsFirstUnfit texts e
+    → IsFirstFault text fault → e ≡ statement_refusal number fault → IsFirstUnfit texts e
 unread texts number text fault e sum h at faulty told = record {
   number = number;
   text = text;
@@ -44,7 +43,7 @@ unread texts number text fault e sum h at faulty told = record {
 }
 
 -- the first text is no statement
-pub first_unread : (text : List ℕ) (others : List (List ℕ)) (fault : StatementFault) (e : RunFault) → IsFirstFault text fault → e ≡ refusal (Some 0) family.Statement (statement_number fault) → IsFirstUnfit (text ∷ others) e
+pub first_unread : (text : List ℕ) (others : List (List ℕ)) (fault : StatementFault) (e : RunFault) → IsFirstFault text fault → e ≡ statement_refusal 0 fault → IsFirstUnfit (text ∷ others) e
 first_unread text others fault e faulty told = record {
   number = 0;
   text = text;
@@ -56,7 +55,7 @@ first_unread text others fault e faulty told = record {
 
 -- a statement has no sum with those before it
 pub unfit : (texts : List (List ℕ)) (number : ℕ) (text : List ℕ) (fault : StatementFault) (e : RunFault) (sum more : Stated) → IsSumOf (take number texts) sum → slice_get texts number ≡ Some text
-    → IsTextOf text more → IsSumFault sum more fault → e ≡ refusal (Some number) family.Statement (statement_number fault) → IsFirstUnfit texts e
+    → IsTextOf text more → IsSumFault sum more fault → e ≡ statement_refusal number fault → IsFirstUnfit texts e
 unfit texts number text fault e sum more h at is wrong told = record {
   number = number;
   text = text;
@@ -99,13 +98,13 @@ module _ (front : List ℕ) (vs : List (Vec ℕ)) (k : ℕ) (v : Vec ℕ) (below
       (subst (λ (ts : List (List ℕ)). IsSumOf (front ∷ ts) (added sum more)) texts one)
 
   pub next_unread : (number : ℕ) (fault : StatementFault) (e : RunFault) (sum : Stated) → number ≡ k + 1 → IsSumOf (front ∷ take k (texts_of vs)) sum → IsFirstFault text fault
-      → e ≡ refusal (Some number) family.Statement (statement_number fault) → IsFirstUnfit (front ∷ texts_of vs) e
+      → e ≡ statement_refusal number fault → IsFirstUnfit (front ∷ texts_of vs) e
   next_unread number fault e sum n h faulty told =
       unread (front ∷ texts_of vs) (k + 1) text fault e sum (subst (λ ts. IsSumOf ts sum) (sym before) h) behind faulty
-      (subst (λ m. e ≡ refusal (Some m) family.Statement (statement_number fault)) n told)
+      (subst (λ m. e ≡ statement_refusal m fault) n told)
 
   pub next_unfit : (number : ℕ) (fault : StatementFault) (e : RunFault) (sum more : Stated) → number ≡ k + 1 → IsSumOf (front ∷ take k (texts_of vs)) sum → IsTextOf text more → IsSumFault sum more fault
-      → e ≡ refusal (Some number) family.Statement (statement_number fault) → IsFirstUnfit (front ∷ texts_of vs) e
+      → e ≡ statement_refusal number fault → IsFirstUnfit (front ∷ texts_of vs) e
   next_unfit number fault e sum more n h is wrong told =
       unfit (front ∷ texts_of vs) (k + 1) text fault e sum more (subst (λ ts. IsSumOf ts sum) (sym before) h) behind is wrong
-      (subst (λ m. e ≡ refusal (Some m) family.Statement (statement_number fault)) n told)
+      (subst (λ m. e ≡ statement_refusal m fault) n told)

@@ -23,7 +23,7 @@ use Rattle.tca_log.proofs.OrderedRows.Parts.{turned}
 use Rattle.tca_report.specs.report.Reports.{PacketReport, report_cmp}
 use Rattle.tca_accounts.proofs.Bills.{filter_few, rest_later}
 use Rattle.tcatool.specs.Paired.{AreUsages, IsUsage, of_pair, pair_cmp, pair_of, pairs_of, same_pair}
-use Rattle.tcatool.specs.Pairing.{first_time, last_time, usage_so_far}
+use Rattle.tcatool.specs.inside.Pairing.{first_time, last_time, usage_so_far}
 use Rattle.tcatool.specs.declared.pairs.Pair.{Pair}
 use Rattle.tcatool.specs.declared.pairs.PairUsage.{PairUsage}
 use Rattle.tcatool.proofs.Differing.{kept, left}

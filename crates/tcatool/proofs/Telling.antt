@@ -1,12 +1,13 @@
 -- How a command that tells of a statement ends once the text is made.
 use Rattle.std.proofs.Common.{◌≡◌, ℕ, List, Result, Ok, Err, OnOk, IfErr, inl, inr}
 use Rattle.tca_figures.specs.Figures.{Stated}
+use Rattle.tca_figures.specs.Lines.{IsTextOf}
 use Rattle.tca_program.specs.Devices.{Device, IsCutOff, Receives}
 use Rattle.tca_program.specs.Runs.{write_refusal}
 use Rattle.tca_program.specs.declared.fault.RunFault.{RunFault}
-use Rattle.tcatool.specs.Told.{IsRead, IsTold, IsUntold}
+use Rattle.tcatool.specs.Told.{IsTold, IsUntold}
 
-module _ (text : Stated → List ℕ → Type 0) (octets : List ℕ) (s : Stated) (t : List ℕ) (old new : Device) (read : IsRead octets s) (is : text s t) where
+module _ (text : Stated → List ℕ → Type 0) (octets : List ℕ) (s : Stated) (t : List ℕ) (old new : Device) (read : IsTextOf octets s) (is : text s t) where
   pub tells : (r : Result (Unit {0}) RunFault) → OnOk r (Receives t old new) → OnOk r (IsTold text octets old new)
   tells (Ok x) written = record { stated = s; read = read; told = t; is = is; written = written }
   tells (Err e) none = tt

@@ -2,16 +2,15 @@
 use Rattle.std.specs.Prelude.{◌≡◌, ◌⊎◌, ℕ, false, true, List, [], ◌∷◌, map, take, slice_get, Some}
 use Rattle.std.specs.Global.{Vec}
 use Rattle.tca_figures.specs.Figures.{Stated}
-use Rattle.tca_figures.specs.Lines.{statement_octets}
+use Rattle.tca_figures.specs.Lines.{IsTextOf, statement_octets}
 use Rattle.tca_figures.specs.Reading.{IsFirstFault}
 use Rattle.tca_figures.specs.Sums.{IsSumFault}
-use Rattle.tca_figures.specs.Totals.{IsSumOf, IsTextOf}
-use Rattle.tca_figures.specs.Faults.{statement_number}
+use Rattle.tca_figures.specs.Totals.{IsSumOf}
 use Rattle.tca_figures.specs.declared.fault.StatementFault.{StatementFault}
 use Rattle.tca_program.specs.Devices.{Device, IsCutOff, Receives}
-use Rattle.tca_program.specs.Runs.{is_write, memory_refusal, refusal, write_refusal}
-use Rattle.tca_program.specs.declared.fault.Family.TheVariants as family
+use Rattle.tca_program.specs.Runs.{is_write, memory_refusal, write_refusal}
 use Rattle.tca_program.specs.declared.fault.RunFault.{RunFault}
+use Rattle.tcatool.specs.Told.{statement_refusal}
 
 -- the octets of each of these
 abbrev pub texts_of : List (Vec ℕ) → List (List ℕ)
@@ -26,7 +25,7 @@ pub record HasNoSum (before : List (List ℕ)) (text : List ℕ) (fault : Statem
   pub unfit : IsSumFault sum more fault
 
 -- a text is no statement, and those before it, if there are any, have a sum
-pub record IsUnread (before : List (List ℕ)) (text : List ℕ) (fault : StatementFault) : Type 0 where
+pub record IsNoStatement (before : List (List ℕ)) (text : List ℕ) (fault : StatementFault) : Type 0 where
   pub fits : (before ≡ []) ⊎ ((sum : Stated) × IsSumOf before sum)
   pub faulty : IsFirstFault text fault
 
@@ -36,8 +35,8 @@ pub record IsFirstUnfit (texts : List (List ℕ)) (e : RunFault) : Type 0 where
   pub text : List ℕ
   pub at : slice_get texts number ≡ Some text
   pub fault : StatementFault
-  pub told : e ≡ refusal (Some number) family.Statement (statement_number fault)
-  pub why : IsUnread (take number texts) text fault ⊎ HasNoSum (take number texts) text fault
+  pub told : e ≡ statement_refusal number fault
+  pub why : IsNoStatement (take number texts) text fault ⊎ HasNoSum (take number texts) text fault
 
 -- Each text is a statement, they have a sum, and it was written.
 pub record IsAddDone (texts : List (List ℕ)) (old new : Device) : Type 0 where

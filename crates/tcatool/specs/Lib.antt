@@ -5,7 +5,6 @@ pub mod Csv
 pub mod ReportLines
 pub mod Diffed
 pub mod Paired
-pub mod Pairing
 pub mod Moments
 pub mod Told
 pub mod Table

@@ -1,53 +1,27 @@
 //! The command `add`.
-ghost use Rattle.std.specs.Prelude.{◌≡◌, ◌⊎◌, ◌<◌, ◌^◌, ◌++◌, ◌∷◌, [], IfErr, IfOk, OnOk, Some, length, map, string_bytes};
-ghost use Rattle.tca_figures.specs.Faults.{statement_number};
-ghost use Rattle.tca_figures.specs.Lines.{statement_octets};
-ghost use Rattle.tca_figures.specs.Reading.{IsFirstFault};
+ghost use Rattle.std.specs.Prelude.{◌≡◌, ◌<◌, ◌^◌, ◌∷◌, IfErr, IfOk, OnOk, length};
 ghost use Rattle.tca_figures.specs.Sums.{AreAlike, Fits, IsSumFault, added};
+ghost use Rattle.tca_figures.specs.Totals.{IsSumOf};
+ghost use Rattle.tca_figures.specs.declared.fault.StatementFault.{StatementFault};
 ghost use Rattle.tca_program.specs.Devices.{device};
-ghost use Rattle.tca_program.specs.Runs.{memory_refusal, refusal};
-ghost use Rattle.tca_program.specs.declared.fault.Family.TheVariants as family;
-ghost use Rattle.tca_figures.specs.Totals.{IsSumOf, IsTextOf};
 ghost use Rattle.tcatool.specs.Added.{IsAddDone, IsAddRefused, IsFirstUnfit, texts_of};
+ghost use Rattle.tcatool.specs.Told.{statement_refusal};
 
-use crate::told::put_text;
+use crate::told::{put_text, read_figures, statement_refusal};
 use std::alloc::Global;
-use tca_figures::{Figures, StatementFault, add, read_statement};
-use tca_program::{Family, RunFault};
+use tca_figures::{Figures, add};
+use tca_program::RunFault;
 use tca_report::Write;
-
-// The refusal of a statement by its number.
-fn refused(number: u32, fault: StatementFault) -> RunFault
-    ensures { result ≡ refusal (Some number) family.Statement (statement_number fault) }
-{
-    RunFault {
-        input: Some(number),
-        family: Family::Statement,
-        number: fault.number(),
-    }
-}
-
-// A statement by its number.
-fn read_at(alloc: Global, number: u32, text: &[u8]) -> Result<Figures, RunFault>
-    ensures read { IfOk result (IsTextOf text.now) }
-    ensures refused { IfErr result (λ e. (fault : StatementFault) × IsFirstFault text.now fault
-        × (e ≡ refusal (Some number) family.Statement (statement_number fault))) }
-{
-    match read_statement(alloc, text) {
-        Ok(figures) => Ok(figures),
-        Err(fault) => Err(refused(number, fault)),
-    }
-}
 
 // A sum with a statement by its number.
 fn add_at(alloc: Global, number: u32, sum: &Figures, more: &Figures) -> Result<Figures, RunFault>
     ensures added { IfOk result (λ s. (s ≡ added sum.now more.now) × AreAlike sum.now more.now × Fits s) }
     ensures refused { IfErr result (λ e. (fault : StatementFault) × IsSumFault sum.now more.now fault
-        × (e ≡ refusal (Some number) family.Statement (statement_number fault))) }
+        × (e ≡ statement_refusal number fault)) }
 {
     match add(alloc, sum, more) {
         Ok(figures) => Ok(figures),
-        Err(fault) => Err(refused(number, fault)),
+        Err(fault) => Err(statement_refusal(number, fault)),
     }
 }
 
@@ -57,10 +31,10 @@ fn sum_of(alloc: Global, first: &[u8], others: &[Vec<u8>]) -> Result<Figures, Ru
     ensures sum { IfOk result (IsSumOf (first.now ∷ texts_of others.now)) }
     ensures refused { IfErr result (IsFirstUnfit (first.now ∷ texts_of others.now)) }
 {
-    let mut sum = read_at(alloc, 0, first)?;
+    let mut sum = read_figures(alloc, 0, first)?;
     for (before, text) in others.iter().enumerate() {
         let number = before as u32 + 1;
-        let more = read_at(alloc, number, text)?;
+        let more = read_figures(alloc, number, text)?;
         sum = add_at(alloc, number, &sum, &more)?;
     }
     Ok(sum)

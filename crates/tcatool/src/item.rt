@@ -7,6 +7,7 @@ ghost use Rattle.tcatool.specs.Listed.{colour_name, item_alone, share_fields, st
 ghost use Rattle.tcatool.specs.inside.Settling.{is_next};
 
 use crate::cell::{Buffer, Cell, append_line};
+use crate::report_line::report_cells;
 use crate::row::Row;
 use std::alloc::{AllocError, Global};
 use tca_accounts::Plan;
@@ -65,21 +66,20 @@ impl Row<Option<Plan>> for Item {
     ghost line = { item_line };
 
     fn append_to(&self, plan: &Option<Plan>, buffer: &mut Buffer) {
-        let identity = self.report.identity();
-        let content = self.report.content();
+        let [time, domain, session, place, octets, dscp, interface] = report_cells(&self.report);
         let (account, colour) = share_names(plan, self.share);
         let others = [
-            Cell::Number(u64::from(identity.domain)),
-            Cell::Number(u64::from(identity.session)),
-            Cell::Number(u64::from(identity.place)),
-            Cell::Number(u64::from(content.octets)),
-            Cell::Number(u64::from(content.dscp)),
-            Cell::Number(u64::from(content.iface)),
+            domain,
+            session,
+            place,
+            octets,
+            dscp,
+            interface,
             Cell::Text(state_name(self.is_settled)),
             Cell::Text(account),
             Cell::Text(colour),
         ];
-        append_line(Cell::Number(content.time), &others, buffer);
+        append_line(time, &others, buffer);
     }
 }
 

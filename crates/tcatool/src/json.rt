@@ -255,7 +255,7 @@ pub fn run_json<W: Write>(alloc: Global, statement: &[u8], out: &mut W) -> Resul
     ensures refused { IfErr result (IsUntold IsJson statement.now
         (device W.written W.failures out.old) (device W.written W.failures out.new)) }
 {
-    let figures = read_figures(alloc, statement)?;
+    let figures = read_figures(alloc, 0, statement)?;
     let json = Json(&figures);
     let text = format!(in alloc; "{json}")?;
     put_text(&text, out)

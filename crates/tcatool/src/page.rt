@@ -51,7 +51,7 @@ pub fn run_page<W: Write>(alloc: Global, statement: &[u8], out: &mut W) -> Resul
     ensures refused { IfErr result (IsUntold IsAnyText statement.now
         (device W.written W.failures out.old) (device W.written W.failures out.new)) }
 {
-    let figures = read_figures(alloc, statement)?;
+    let figures = read_figures(alloc, 0, statement)?;
     let page = Page(&figures);
     let text = format!(in alloc; "{page}")?;
     put_text(&text, out)

@@ -7,7 +7,7 @@ ghost use Rattle.tca_report.specs.report.Reports.{report_cmp};
 ghost use Rattle.tca_program.specs.Devices.{device};
 ghost use Rattle.tca_program.specs.Runs.{IsUnitingRefused, views_of};
 ghost use Rattle.tcatool.specs.Paired.{AreUsages, IsPaired, IsPairsDone, IsPairsRefused, pair_cmp, pair_line, pair_of, pairs_of};
-ghost use Rattle.tcatool.specs.Pairing.{usage_so_far};
+ghost use Rattle.tcatool.specs.inside.Pairing.{usage_so_far};
 
 use crate::cell::{Buffer, Cell, append_line};
 use crate::row::{Row, put_rows};

@@ -156,7 +156,7 @@ pub fn run_table<W: Write>(alloc: Global, statement: &[u8], out: &mut W) -> Resu
     ensures refused { IfErr result (IsUntold IsTable statement.now
         (device W.written W.failures out.old) (device W.written W.failures out.new)) }
 {
-    let figures = read_figures(alloc, statement)?;
+    let figures = read_figures(alloc, 0, statement)?;
     let table = Table(&figures);
     let text = format!(in alloc; "{table}")?;
     put_text(&text, out)

@@ -1,33 +1,38 @@
 //! Statements that are told of: reading one, and writing a text of it.
 ghost use Rattle.std.specs.Prelude.{◌≡◌, IfErr, IfOk, OnOk};
+ghost use Rattle.tca_figures.specs.Lines.{IsTextOf};
 ghost use Rattle.tca_program.specs.Devices.{IsCutOff, Receives, device};
 ghost use Rattle.tca_program.specs.Runs.{write_refusal};
-ghost use Rattle.tcatool.specs.Told.{IsRead, IsUnread, statement_refusal};
+ghost use Rattle.tcatool.specs.Told.{IsUnread, statement_refusal};
 
 use std::alloc::Global;
 use tca_figures::{Figures, StatementFault, read_statement};
 use tca_program::{Family, RunFault};
 use tca_report::{Write, put_all};
 
-// The refusal of the statement, the first word behind the command's.
-fn statement_refusal(fault: StatementFault) -> RunFault
-    ensures { result ≡ statement_refusal fault }
+/// The refusal of a statement, which is the word of this number behind the command's, counted from 0.
+pub(crate) fn statement_refusal(number: u32, fault: StatementFault) -> RunFault
+    ensures { result ≡ statement_refusal number fault }
 {
     RunFault {
-        input: Some(0),
+        input: Some(number),
         family: Family::Statement,
         number: fault.number(),
     }
 }
 
-/// The figures of a statement.
-pub(crate) fn read_figures(alloc: Global, statement: &[u8]) -> Result<Figures, RunFault>
-    ensures read { IfOk result (IsRead statement.now) }
-    ensures unread { IfErr result (IsUnread statement.now) }
+/// The figures of the statement of this number.
+pub(crate) fn read_figures(
+    alloc: Global,
+    number: u32,
+    statement: &[u8],
+) -> Result<Figures, RunFault>
+    ensures read { IfOk result (IsTextOf statement.now) }
+    ensures unread { IfErr result (IsUnread number statement.now) }
 {
     match read_statement(alloc, statement) {
         Ok(figures) => Ok(figures),
-        Err(fault) => Err(statement_refusal(fault)),
+        Err(fault) => Err(statement_refusal(number, fault)),
     }
 }
 

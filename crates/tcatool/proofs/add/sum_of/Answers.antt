@@ -9,9 +9,9 @@ pub returns-in_err-more-clause-refused : goal.returns-in_err-more-clause-refused
 returns-in_err-more-clause-refused c =
     let e = c.in_err-more.field-0.0 in
     let is : c.from_residual-in_err-more.result ≡ Err e = search rules in
-    let fault = c.in_err-more.ensures.refused in
+    let fault = c.in_err-more.ensures.unread in
     rw is (next_unread c.args.first.now c.args.others.now c.loop-before.before c.index-others-before.result c.loop-before-test.true c.index-others-before.is c.deref.result.now c.deref.ensures.value
-    _ fault.0 e c.loop-before.sum (omega arith) c.loop-before.invariant fault.1 fault.2)
+    _ fault.fault e c.loop-before.sum (omega arith) c.loop-before.invariant fault.first fault.is)
 
 pub returns-in_err-sum-2-clause-refused : goal.returns-in_err-sum-2-clause-refused
 returns-in_err-sum-2-clause-refused c =

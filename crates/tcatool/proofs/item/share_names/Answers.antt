@@ -5,7 +5,7 @@ use Rattle.tcatool.proofs.item.share_names.Goals as goal
 use Rattle.tcatool.proofs.item.share_names.Goals.{in_default-via-in-Some-Some+else-share-accounts, in_default-via-in-Some+in_default, in_default-via-in_default}
 
 pub returns-in-Some-Some-clause-short : goal.returns-in-Some-Some-clause-short
-returns-in-Some-Some-clause-short c = name_short c.in-Some-Some.plan.accounts c.in-Some-Some.share.account c.name.result.now c.accounts.ensures.limits.named c.name.ensures
+returns-in-Some-Some-clause-short c = name_short c.in-Some-Some.plan.accounts _ c.name.result.now c.accounts.ensures.limits.named c.name.ensures
 
 pub returns-in_default-clause-fields : goal.returns-in_default-clause-fields
 returns-in_default-clause-fields c = elim c.in_default.branch [

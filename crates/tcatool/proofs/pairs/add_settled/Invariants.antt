@@ -3,7 +3,7 @@ use Rattle.std.specs.Prelude.{sum_by}
 use Rattle.tca_log.specs.Disputes.{undisputed}
 use Rattle.tca_report.specs.report.Reports.{PacketReport}
 use Rattle.tcatool.specs.Paired.{pairs_of}
-use Rattle.tcatool.specs.Pairing.{usage_so_far}
+use Rattle.tcatool.specs.inside.Pairing.{usage_so_far}
 use Rattle.tcatool.proofs.pairs.add_settled.Given as goal
 
 -- the settled reports before those that are left were added

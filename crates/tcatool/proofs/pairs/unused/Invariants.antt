@@ -1,5 +1,5 @@
 use Rattle.std.proofs.Common.{◌≡◌, [], map, take}
-use Rattle.tcatool.specs.Pairing.{usage_so_far}
+use Rattle.tcatool.specs.inside.Pairing.{usage_so_far}
 use Rattle.tcatool.proofs.pairs.unused.Given as goal
 
 abbrev pub invariant-loop-pair : goal.invariant-loop-pair
