@@ -14,3 +14,4 @@ pub mod ListEnds
 pub mod ShareNames
 pub mod Adding
 pub mod AddEnds
+pub mod SplitEnds

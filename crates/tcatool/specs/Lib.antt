@@ -10,6 +10,7 @@ pub mod Told
 pub mod Table
 pub mod Json
 pub mod Added
+pub mod Splitting
 pub mod Listed
 pub mod Itemised
 pub mod inside

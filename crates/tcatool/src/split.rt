@@ -1,6 +1,15 @@
 //! The command `split`.
-ghost use Rattle.std.specs.Prelude.{◌≡◌, ◌<◌, ◌≤◌, IfOk, length};
+ghost use Rattle.std.specs.Prelude.{◌≡◌, ◌≢◌, ◌⊎◌, ◌<◌, ◌≤◌, ◌+◌, ℕ, List, Some, Err, IfOk, IfErr, OnOk, IsErrOf, length};
+ghost use Rattle.tca_report.specs.device.Devices.{Rises};
+ghost use Rattle.tca_split.specs.Failures.{most_turns};
+ghost use Rattle.tca_split.specs.Surveys.{IsRight};
+ghost use Rattle.tca_split.specs.Wants.{WantsMemory};
+ghost use Rattle.tca_program.specs.declared.fault.Family.TheVariants as family;
+ghost use Rattle.tca_program.specs.Devices.{IsCutOff, Receives, device};
+ghost use Rattle.tca_program.specs.Runs.{memory_refusal, refusal, write_refusal};
+ghost use Rattle.tcatool.specs.Splitting.{IsFilesRefused, IsPartsPrinted, IsSplitDone, IsSplitRefused, WhereKnown, parts_text, place, split_refusal};
 
+use crate::cell::{Buffer, append};
 use crate::progress::{Progress, Silent, Watch};
 use std::alloc::Global;
 use std::fs::{self, OpenOptions};
@@ -177,7 +186,9 @@ impl<'w, D: Read, W: Watch> Read for Watched<'w, D, W> {
 }
 
 // The refusal of the capture, or of the command, by a fault of splitting.
-fn refusal_of(fault: SplitFault) -> RunFault {
+fn refusal_of(fault: SplitFault) -> RunFault
+    ensures { result ≡ split_refusal fault }
+{
     let (family, number) = match fault {
         SplitFault::Read(fault) => (Family::Read, fault.number()),
         SplitFault::Changed => (Family::Read, ReadFault::Read.number()),
@@ -194,13 +205,25 @@ fn refusal_of(fault: SplitFault) -> RunFault {
 }
 
 // Prints how many domains and messages there are.
-fn print_parts<W: Write>(parts: Parts, out: &mut W) -> Result<(), RunFault> {
-    let mut digits = itoa::Buffer::new();
-    put_all(b"domains ", out)?;
-    put_all(digits.format(parts.domains).as_bytes(), out)?;
-    put_all(b"\nmessages ", out)?;
-    put_all(digits.format(parts.messages).as_bytes(), out)?;
-    put_all(b"\n", out)?;
+fn print_parts<W: Write>(parts: Parts, out: &mut W) -> Result<(), RunFault>
+    ensures done { OnOk result (Receives (parts_text parts)
+        (device W.written W.failures out.old) (device W.written W.failures out.new)) }
+    ensures cut_off { IfErr result (λ e. (e ≡ write_refusal) × IsCutOff (parts_text parts)
+        (device W.written W.failures out.old) (device W.written W.failures out.new)) }
+{
+    let mut text = Buffer::new();
+    append(b"domains ", &mut text);
+    append(
+        itoa::Buffer::new().format(parts.domains).as_bytes(),
+        &mut text,
+    );
+    append(b"\nmessages ", &mut text);
+    append(
+        itoa::Buffer::new().format(parts.messages).as_bytes(),
+        &mut text,
+    );
+    append(b"\n", &mut text);
+    put_all(text.as_slice(), out)?;
     Ok(())
 }
 
@@ -212,7 +235,29 @@ pub fn run_split<A: Read, B: Read, F: Folder, W: Write>(
     second: &mut B,
     folder: &mut F,
     out: &mut W,
-) -> Result<(), RunFault> {
+) -> Result<(), RunFault>
+    ensures done { OnOk result (IsSplitDone (record { first = A.left first.old; second = B.left second.old })
+        (place F.files F.failures folder.old) (place F.files F.failures folder.new)
+        (device W.written W.failures out.old) (device W.written W.failures out.new)) }
+    ensures refused { IfErr result (IsSplitRefused (record { first = A.left first.old; second = B.left second.old })
+        (place F.files F.failures folder.old) (place F.files F.failures folder.new)
+        (device W.written W.failures out.old) (device W.written W.failures out.new)) }
+
+    // Where memory is told, nothing in front was to be refused.
+    ensures memory { IsErrOf result memory_refusal → (octets : List ℕ) → A.left first.old ≡ Some octets
+        → (A.reads first.new ≡ A.reads first.old) ⊎ WantsMemory octets (A.left first.new) ⊎ IsRight octets }
+
+    // Where a failed read is told, a read failed, unless the capture changed between its readings.
+    ensures read { IsErrOf result (refusal (Some 0) family.Read 1)
+        → WhereKnown (record { first = A.left first.old; second = B.left second.old }) (place F.files F.failures folder.old)
+        (λ octets files. Rises (A.failures first.old) (A.failures first.new) ⊎ Rises (B.failures second.old) (B.failures second.new)) }
+    ensures turns { IsErrOf result (refusal (Some 0) family.Read 2)
+        → (A.reads first.new ≡ A.reads first.old + most_turns) ⊎ (B.reads second.new ≡ B.reads second.old + most_turns) }
+
+    // No failed read is told as something else.
+    ensures quiet { result ≢ Err (refusal (Some 0) family.Read 1)
+        → (A.failures first.new ≡ A.failures first.old) × (B.failures second.new ≡ B.failures second.old) }
+{
     match split(alloc, first, second, folder) {
         Ok(parts) => print_parts(parts, out),
         Err(fault) => Err(refusal_of(fault)),
@@ -220,7 +265,9 @@ pub fn run_split<A: Read, B: Read, F: Folder, W: Write>(
 }
 
 // Opens the capture.
-fn open<R: Files>(rt: &R, capture: &str) -> Result<Host<R::File>, RunFault> {
+fn open<R: Files>(rt: &R, capture: &str) -> Result<Host<R::File>, RunFault>
+    ensures refused { IfErr result (λ e. e ≡ refusal (Some 0) family.Read 1) }
+{
     match fs::open(rt, capture) {
         Ok(file) => Ok(Host::new(file)),
         Err(_) => Err(RunFault::read(Some(0), ReadFault::Read)),
@@ -234,7 +281,12 @@ fn split_watched<R: Files + AllocGlobal, T: Watch, W: Write>(
     capture: &str,
     watch: &mut T,
     out: &mut W,
-) -> Result<(), RunFault> {
+) -> Result<(), RunFault>
+    ensures done { OnOk result (IsPartsPrinted
+        (device W.written W.failures out.old) (device W.written W.failures out.new)) }
+    ensures refused { IfErr result (IsFilesRefused
+        (device W.written W.failures out.old) (device W.written W.failures out.new)) }
+{
     let (first, second) = (open(rt, capture)?, open(rt, capture)?);
     let mut folder = Directory::new(rt, folder);
     let mut silent = Silent;
@@ -260,7 +312,12 @@ pub fn split_file<R: Files + Clock + AllocGlobal, W: Write, V: io::Write>(
     tells: bool,
     out: &mut W,
     errors: &mut V,
-) -> Result<(), RunFault> {
+) -> Result<(), RunFault>
+    ensures done { OnOk result (IsPartsPrinted
+        (device W.written W.failures out.old) (device W.written W.failures out.new)) }
+    ensures refused { IfErr result (IsFilesRefused
+        (device W.written W.failures out.old) (device W.written W.failures out.new)) }
+{
     if !tells {
         return split_watched(rt, folder, capture, &mut Silent, out);
     }
