@@ -8,7 +8,7 @@ use Rattle.tca_report.specs.declared.input.Notes.{Notes}
 use Rattle.tca_report.specs.declared.input.InputFault.{InputFault}
 use Rattle.tca_report.specs.declared.input.InputFault.TheVariants.{Export, Wire, Decode, Memory}
 use Rattle.tca_program.specs.declared.fault.RunFault.{RunFault}
-use Rattle.tca_program.specs.Runs.{IsRefusedAs, MayLackMemory, input_refusal, is_memory, wants_memory, with_input}
+use Rattle.tca_program.specs.Unions.{IsRefusedAs, MayLackMemory, input_refusal, is_memory, wants_memory, with_input}
 
 -- reports and notes are those of a capture that was read
 pub gathered_ok : (r : Result CaptureSoFar InputFault) (x : List PacketReport × Notes) → gathered_of r ≡ Ok x → (h : CaptureSoFar) × (r ≡ Ok h) × (x.0 ≡ h.reports) × (x.1 ≡ notes_of h)

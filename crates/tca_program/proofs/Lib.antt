@@ -5,3 +5,4 @@ pub mod NotedLaws
 pub mod Splitting
 pub mod Asking
 pub mod LineLemmas
+pub mod Refusing

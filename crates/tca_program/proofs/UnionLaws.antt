@@ -10,7 +10,7 @@ use Rattle.tca_join.proofs.Merge.{in_order_of_rising, in_order_alike}
 use Rattle.tca_report.specs.report.Reports.{PacketReport, report_cmp}
 use Rattle.tca_report.proofs.lemmas.report.Order.{report_total, report_exact}
 use Rattle.tca_report.specs.input.Inputs.{InputView}
-use Rattle.tca_program.specs.Runs.{HoldsReports, HoldReports, IsUnion}
+use Rattle.tca_program.specs.Unions.{HoldsReports, HoldReports, IsUnion}
 
 -- the reports that the inputs hold, together with a set
 pub record IsUnionWith (held : List PacketReport) (inputs : List InputView) (rs : List PacketReport) : Type 0 where

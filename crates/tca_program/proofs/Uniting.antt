@@ -9,7 +9,7 @@ use Rattle.tca_wire.specs.Results.{◌>>=◌}
 use Rattle.tca_report.specs.report.Reports.{PacketReport}
 use Rattle.tca_report.specs.input.Inputs.{InputView, read_input}
 use Rattle.tca_program.specs.declared.fault.RunFault.{RunFault}
-use Rattle.tca_program.specs.Runs.{IsInTurn, IsRefusedAs, MayLackMemory, is_log_memory, is_memory, united_from, with_input}
+use Rattle.tca_program.specs.Unions.{IsInTurn, IsRefusedAs, MayLackMemory, is_log_memory, is_memory, united_from, with_input}
 
 pub cut : {X : Type 0} (f : X → InputView) (xs : List X) (i : ℕ) (x : X) → i < length xs → x ≡ get_or xs i x → map f (drop i xs) ≡ f x ∷ map f (drop (i + 1) xs)
 cut f xs i x h is = rw add-one (ap (map f) (drop-cons xs i x h) ∙ ap (λ y. f y ∷ map f (drop (suc i) xs)) (sym is))

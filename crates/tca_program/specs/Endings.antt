@@ -6,7 +6,7 @@ use Rattle.tca_program.specs.declared.fault.RunFault.{RunFault}
 use Rattle.tca_program.specs.declared.line_fault.LineFault.TheVariants as fault
 use Rattle.tca_program.specs.Faults.{fault_text}
 use Rattle.tca_program.specs.LineFaults.{line_status}
-use Rattle.tca_program.specs.Runs.{memory_refusal}
+use Rattle.tca_program.specs.Unions.{memory_refusal}
 
 -- the line of a refusal: the program's name, the word, the family and the number
 abbrev pub fault_line : List ℕ → List ℕ → RunFault → List ℕ

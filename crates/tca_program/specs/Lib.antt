@@ -3,7 +3,8 @@ pub mod Arguments
 pub mod LineFaults
 pub mod Devices
 pub mod Faults
-pub mod Runs
+pub mod Unions
+pub mod Outcomes
 pub mod Noted
 pub mod Planned
 pub mod Endings

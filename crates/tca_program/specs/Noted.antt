@@ -4,7 +4,7 @@ use Rattle.tca_report.specs.report.Reports.{PacketReport}
 use Rattle.tca_report.specs.input.Inputs.{InputView, CaptureSoFar, read_input}
 use Rattle.tca_report.specs.input.Gathered.{notes_of}
 use Rattle.tca_report.specs.declared.input.Notes.{Notes}
-use Rattle.tca_program.specs.Runs.{IsUnion, united}
+use Rattle.tca_program.specs.Unions.{IsUnion, united}
 
 -- These are the notes of an input, a log export or a capture.
 pub record IsNoted (input : InputView) (notes : Notes) : Type 0 where

@@ -9,11 +9,12 @@ use Rattle.tca_accounts.specs.declared.fault.PlanFault.TheVariants.{Syntax, Memo
 use Rattle.tca_report.specs.input.Inputs.{InputView}
 use Rattle.tca_program.specs.declared.fault.RunFault.{RunFault}
 use Rattle.tca_program.specs.declared.fault.Family.TheVariants as family
-use Rattle.tca_program.specs.Runs.{IsInTurn, is_family, is_write, refusal, united, wants_memory}
+use Rattle.tca_program.specs.Unions.{IsInTurn, is_family, is_write, refusal, united, wants_memory}
 
--- a text is this plan
-abbrev pub IsPlanOf : List ℕ → AccountPlan → Type 0
-IsPlanOf text p = IsUtf8 text × (plan_in (parse_document text) ≡ Ok p)
+-- A text is this plan.
+pub record IsPlanOf (text : List ℕ) (plan : AccountPlan) : Type 0 where
+  pub utf8 : IsUtf8 text
+  pub named : plan_in (parse_document text) ≡ Ok plan
 
 -- a text is refused as a plan with this fault, or memory ran out
 abbrev pub RefusesPlan : List ℕ → PlanFault → Type 0

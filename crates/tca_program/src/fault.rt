@@ -4,7 +4,7 @@ ghost use Rattle.tca_ingest.specs.Faults.{share_number};
 ghost use Rattle.tca_log.specs.Faults.{fault_number};
 ghost use Rattle.tca_report.specs.Faults.{read_number};
 ghost use Rattle.tca_program.specs.Faults.{family_name, fault_text};
-ghost use Rattle.tca_program.specs.Runs.{input_refusal, refusal, write_refusal};
+ghost use Rattle.tca_program.specs.Unions.{input_refusal, refusal, write_refusal};
 ghost use Rattle.tca_program.specs.declared.fault.Family.TheVariants as family;
 
 use std::alloc::AllocError;
@@ -196,7 +196,7 @@ impl RunFault {
 /// Want of memory that belongs to no other family and no input.
 impl From<AllocError> for RunFault {
     ghost use Rattle.std.specs.Prelude.{◌≡◌};
-    ghost use Rattle.tca_program.specs.Runs.{memory_refusal};
+    ghost use Rattle.tca_program.specs.Unions.{memory_refusal};
 
     ghost from_gives = { λ _ e. e ≡ memory_refusal };
 
@@ -207,7 +207,7 @@ impl From<AllocError> for RunFault {
 
 impl From<WriteFault> for RunFault {
     ghost use Rattle.std.specs.Prelude.{◌≡◌};
-    ghost use Rattle.tca_program.specs.Runs.{write_refusal};
+    ghost use Rattle.tca_program.specs.Unions.{write_refusal};
 
     ghost from_gives = { λ _ e. e ≡ write_refusal };
 
@@ -220,7 +220,7 @@ impl From<WriteFault> for RunFault {
 impl From<PlanFault> for RunFault {
     ghost use Rattle.std.specs.Prelude.{◌≡◌, None};
     ghost use Rattle.tca_accounts.specs.Faults.{plan_number};
-    ghost use Rattle.tca_program.specs.Runs.{refusal};
+    ghost use Rattle.tca_program.specs.Unions.{refusal};
     ghost use Rattle.tca_program.specs.declared.fault.Family.TheVariants as family;
 
     ghost from_gives = { λ fault e. e ≡ refusal None family.Plan (plan_number fault) };
@@ -234,7 +234,7 @@ impl From<PlanFault> for RunFault {
 impl From<SpecFault> for RunFault {
     ghost use Rattle.std.specs.Prelude.{◌≡◌, None};
     ghost use Rattle.tca_meters.specs.Faults.{spec_number};
-    ghost use Rattle.tca_program.specs.Runs.{refusal};
+    ghost use Rattle.tca_program.specs.Unions.{refusal};
     ghost use Rattle.tca_program.specs.declared.fault.Family.TheVariants as family;
 
     ghost from_gives = { λ fault e. e ≡ refusal None family.Spec (spec_number fault) };
@@ -247,7 +247,7 @@ impl From<SpecFault> for RunFault {
 /// An audit that has no verdict.
 impl From<AuditFault> for RunFault {
     ghost use Rattle.std.specs.Prelude.{◌≡◌};
-    ghost use Rattle.tca_program.specs.Runs.{audit_refusal};
+    ghost use Rattle.tca_program.specs.Unions.{audit_refusal};
 
     ghost from_gives = { λ fault e. e ≡ audit_refusal fault };
 
@@ -265,7 +265,7 @@ impl From<AuditFault> for RunFault {
 impl From<ShareFault> for RunFault {
     ghost use Rattle.std.specs.Prelude.{◌≡◌, None};
     ghost use Rattle.tca_ingest.specs.Faults.{share_number};
-    ghost use Rattle.tca_program.specs.Runs.{refusal};
+    ghost use Rattle.tca_program.specs.Unions.{refusal};
     ghost use Rattle.tca_program.specs.declared.fault.Family.TheVariants as family;
 
     ghost from_gives = { λ fault e. e ≡ refusal None family.Share (share_number fault) };
@@ -279,7 +279,7 @@ impl From<ShareFault> for RunFault {
 impl From<WorkFault> for RunFault {
     ghost use Rattle.std.specs.Prelude.{◌≡◌, None};
     ghost use Rattle.tca_ingest.specs.Faults.{work_number};
-    ghost use Rattle.tca_program.specs.Runs.{refusal};
+    ghost use Rattle.tca_program.specs.Unions.{refusal};
     ghost use Rattle.tca_program.specs.declared.fault.Family.TheVariants as family;
 
     ghost from_gives = { λ fault e. e ≡ refusal None family.Work (work_number fault) };
@@ -293,7 +293,7 @@ impl From<WorkFault> for RunFault {
 impl From<CloseFault> for RunFault {
     ghost use Rattle.std.specs.Prelude.{◌≡◌, None};
     ghost use Rattle.tca_ingest.specs.Faults.{close_number};
-    ghost use Rattle.tca_program.specs.Runs.{refusal};
+    ghost use Rattle.tca_program.specs.Unions.{refusal};
     ghost use Rattle.tca_program.specs.declared.fault.Family.TheVariants as family;
 
     ghost from_gives = { λ fault e. e ≡ refusal None family.Close (close_number fault) };
@@ -307,7 +307,7 @@ impl From<CloseFault> for RunFault {
 impl From<AbsorbFault> for RunFault {
     ghost use Rattle.std.specs.Prelude.{◌≡◌, None};
     ghost use Rattle.tca_gossip.specs.Answers.{absorb_number};
-    ghost use Rattle.tca_program.specs.Runs.{refusal};
+    ghost use Rattle.tca_program.specs.Unions.{refusal};
     ghost use Rattle.tca_program.specs.declared.fault.Family.TheVariants as family;
 
     ghost from_gives = { λ fault e. e ≡ refusal None family.Absorb (absorb_number fault) };

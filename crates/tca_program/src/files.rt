@@ -1,7 +1,7 @@
 //! The files that a command line names.
 ghost use Rattle.std.specs.Prelude.{◌≡◌, ◌<◌, ◌^◌, IfErr, IfOk, None, Some, length, map};
 ghost use Rattle.tca_program.specs.inside.Reads.{IsFileRefused, IsReadRefused};
-ghost use Rattle.tca_program.specs.Runs.{write_refusal};
+ghost use Rattle.tca_program.specs.Unions.{write_refusal};
 ghost use Rattle.tca_program.specs.Words.{HaveSessions, texts};
 
 use crate::fault::RunFault;

@@ -5,7 +5,7 @@ ghost use Rattle.tca_join.specs.Sets.{in_order};
 ghost use Rattle.tca_report.specs.report.Reports.{PacketReport, report_cmp};
 ghost use Rattle.tca_report.specs.input.Inputs.{input_view, read_input};
 ghost use Rattle.tca_program.specs.Noted.{IsNoted, IsUniting};
-ghost use Rattle.tca_program.specs.Runs.{HoldsReports, IsRefusedAs, IsUnitingRefused, MayLackMemory, is_log_memory, is_memory, is_write, views_of, with_input};
+ghost use Rattle.tca_program.specs.Unions.{HoldsReports, IsRefusedAs, IsUnitingRefused, MayLackMemory, is_log_memory, is_memory, is_write, views_of, with_input};
 
 use crate::fault::RunFault;
 use std::alloc::Global;
@@ -32,6 +32,7 @@ pub fn add_input(alloc: Global, n: u32, input: &Input, log: &mut Log) -> Result<
     };
     match log.add_all(gathered.reports) {
         Ok(_) => {
+            // For its clause alone: the reports ascend.
             let _reports = log.reports();
             Ok(gathered.notes)
         }

@@ -5,7 +5,7 @@
 //!
 //! - `arguments`, `line_fault`: command lines by `clap`, and why they ask for nothing; `ending`: how a run ends;
 //! - `word`: the words of inputs, each with a session and a path; `files`: the files that words name;
-//! - `inputs`: the union of inputs; `fault`: why a command is refused.
+//! - `inputs`: the union of inputs; `output`: how a text goes out; `fault`: why a command is refused.
 #![tactic(auto)]
 
 mod arguments;
@@ -14,6 +14,7 @@ mod fault;
 mod files;
 mod inputs;
 mod line_fault;
+mod output;
 mod word;
 
 pub use arguments::{flag, is_given, many_words, named, one_word, option_word, text, texts};
@@ -22,4 +23,5 @@ pub use fault::{Family, RunFault};
 pub use files::{create, read_inputs, read_numbered, read_plan};
 pub use inputs::{add_input, unite};
 pub use line_fault::LineFault;
+pub use output::put_text;
 pub use word::{Asked, asked_by, split_word};

@@ -2,12 +2,13 @@
 use Rattle.std.proofs.Common.{◌≡◌, ◌∙◌, ℕ, List, Result, Ok, Err, false, ap, refl, inl, inr}
 use Rattle.std.specs.Prelude.{IfErr}
 use Rattle.tca_accounts.specs.Plans.{AccountPlan}
-use Rattle.tca_audit.specs.Audits.{IsPlanText, IsRefused, IsRefusedUnder}
+use Rattle.tca_audit.specs.Audits.{IsRefused, IsRefusedUnder}
 use Rattle.tca_audit.specs.declared.fault.AuditFault.{AuditFault}
 use Rattle.tca_audit.specs.declared.fault.AuditFault.TheVariants.{Plan, Export, Memory}
 use Rattle.tca_program.specs.declared.fault.RunFault.{RunFault}
 use Rattle.tcacct.specs.Audited.{IsAuditUnmade, IsPlanUnread, IsUnmadeUnder}
-use Rattle.tca_program.specs.Runs.{audit_refusal, is_write}
+use Rattle.tca_program.specs.Unions.{audit_refusal, is_write}
+use Rattle.tca_audit.specs.Audits.{IsPlanText}
 
 no_write : (fault : AuditFault) → is_write (audit_refusal fault) ≡ false
 no_write (Plan f) = refl

@@ -2,6 +2,7 @@ pub mod NumberLemmas
 pub mod LineExamples
 pub mod Metering
 pub mod BillLemmas
+pub mod BillEnds
 pub mod ReadLaws
 pub mod RefusalLaws
 pub mod ReplicatedLaws

@@ -18,7 +18,7 @@ use Rattle.tca_ingest.specs.Works.{IsResult, contents_of}
 use Rattle.tca_program.specs.declared.fault.RunFault.{RunFault}
 use Rattle.tca_program.specs.Noted.{AreNotes, IsNoted}
 use Rattle.tcacct.specs.Replicated.{AreReplicasRefused, AreSound, IsInputFault, IsOwnFault}
-use Rattle.tca_program.specs.Runs.{HoldsReports, HoldReports, input_refusal}
+use Rattle.tca_program.specs.Unions.{HoldsReports, HoldReports, input_refusal}
 use Rattle.tca_program.proofs.InputLaws.{gathered_err, gathered_ok}
 
 -- a take that didn't stop lists all reports that it was given

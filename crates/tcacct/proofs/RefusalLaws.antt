@@ -10,8 +10,8 @@ use Rattle.tca_ingest.specs.declared.fault.WorkFault.TheVariants.{Stranger}
 use Rattle.tca_program.specs.declared.fault.RunFault.{RunFault}
 use Rattle.tca_program.specs.declared.fault.Family.{Family}
 use Rattle.tca_program.specs.declared.fault.Family.TheVariants as family
-use Rattle.tcacct.specs.Replicated.{IsReadingNumber, IsReadingRefused, IsRunNumber, IsRunRefused, stranger_refusal}
-use Rattle.tca_program.specs.Runs.{refusal}
+use Rattle.tcacct.specs.Replicated.{IsReadingNumber, IsReadingRefused, IsExchangeNumber, IsExchangeRefused, stranger_refusal}
+use Rattle.tca_program.specs.Unions.{refusal}
 
 pub of_share : (e : RunFault) (fault : ShareFault) → e ≡ refusal None family.Share (share_number fault) → IsReadingRefused e
 of_share e fault is = rw is (refl, (fault, refl))
@@ -22,13 +22,13 @@ of_work e fault is = rw is (refl, (fault, refl))
 pub of_close : (e : RunFault) (fault : CloseFault) → e ≡ refusal None family.Close (close_number fault) → IsReadingRefused e
 of_close e fault is = rw is (refl, (fault, refl))
 
-pub of_absorb : (e : RunFault) (fault : AbsorbFault) → e ≡ refusal None family.Absorb (absorb_number fault) → IsRunRefused e
+pub of_absorb : (e : RunFault) (fault : AbsorbFault) → e ≡ refusal None family.Absorb (absorb_number fault) → IsExchangeRefused e
 of_absorb e fault is = rw is (refl, (fault, refl))
 
 pub of_stranger : (e : RunFault) → e ≡ stranger_refusal → IsReadingRefused e
 of_stranger e is = rw is (refl, (Stranger 0, refl))
 
-reading_number : (f : Family) (n : ℕ) → IsReadingNumber f n → IsRunNumber f n
+reading_number : (f : Family) (n : ℕ) → IsReadingNumber f n → IsExchangeNumber f n
 reading_number family.Read n h = absurd h
 reading_number family.Export n h = absurd h
 reading_number family.Wire n h = absurd h
@@ -46,5 +46,5 @@ reading_number family.Write n h = absurd h
 reading_number family.Memory n h = h
 
 -- what is refused while inputs are read is refused in the run
-pub in_run : (e : RunFault) → IsReadingRefused e → IsRunRefused e
+pub in_run : (e : RunFault) → IsReadingRefused e → IsExchangeRefused e
 in_run e h = (h.0, reading_number e.family e.number h.1)

@@ -6,11 +6,11 @@ use Rattle.tca_report.specs.input.Inputs.{InputView}
 use Rattle.tca_program.specs.declared.fault.RunFault.{RunFault}
 use Rattle.tca_program.specs.declared.fault.Family.{Family}
 use Rattle.tca_program.specs.declared.fault.Family.TheVariants as family
-use Rattle.tcacct.specs.Replicated.{AreReplicasRefused, IsInputFault, IsLogRefusal, IsReplicatedUnmade, IsRunNumber, IsShareRefusal}
+use Rattle.tcacct.specs.Replicated.{AreReplicasRefused, IsInputFault, IsLogRefusal, IsReplicatedUnmade, IsExchangeNumber, IsShareRefusal}
 use Rattle.tcacct.proofs.RefusalLaws.{in_run}
-use Rattle.tca_program.specs.Runs.{input_refusal, is_family, is_write}
+use Rattle.tca_program.specs.Unions.{input_refusal, is_family, is_write}
 
-of_run : (f : Family) (n : ℕ) → IsRunNumber f n → is_family f family.Write ≡ false
+of_run : (f : Family) (n : ℕ) → IsExchangeNumber f n → is_family f family.Write ≡ false
 of_run family.Read n h = refl
 of_run family.Export n h = refl
 of_run family.Wire n h = refl

@@ -9,7 +9,8 @@ use Rattle.tca_audit.specs.declared.verdict.Verdict.TheVariants.{Agrees, Differs
 use Rattle.tca_program.specs.declared.fault.RunFault.{RunFault}
 use Rattle.tca_program.specs.Devices.{Device, IsCutOff, Receives}
 use Rattle.tcacct.specs.Texts.{audit_text}
-use Rattle.tca_program.specs.Runs.{audit_refusal, is_write, memory_refusal, write_refusal}
+use Rattle.tca_program.specs.Outcomes.{IsCommandRefused}
+use Rattle.tca_program.specs.Unions.{audit_refusal, is_write, memory_refusal}
 
 -- whether a verdict is that the statement agrees
 abbrev pub is_agreement : Verdict → Bool
@@ -34,9 +35,8 @@ pub record IsAuditDone (plan export statement : List ℕ) (old new : Device) (ag
   pub written : Receives (audit_text verdict) old new
   pub answer : agrees ≡ is_agreement verdict
 
--- A write failed, and of the line only a part went out.
-pub record IsAuditCutOff (plan export statement : List ℕ) (old new : Device) (e : RunFault) : Type 0 where
-  pub fault : e ≡ write_refusal
+-- Of the line only a part went out.
+pub record IsAuditCutOff (plan export statement : List ℕ) (old new : Device) : Type 0 where
   pub verdict : Verdict
   pub audited : IsAudited plan export statement verdict
   pub part : IsCutOff (audit_text verdict) old new
@@ -48,8 +48,6 @@ pub record IsAuditUnmade (plan export : List ℕ) (e : RunFault) : Type 0 where
   pub named : e ≡ audit_refusal fault
   pub no_write : is_write e ≡ false
 
--- What a refusal is, and what it leaves of the device: as it was, unless a write failed.
-pub record IsAuditRefused (plan export statement : List ℕ) (old new : Device) (e : RunFault) : Type 0 where
-  pub unmade : is_write e ≡ false → IsAuditUnmade plan export e
-  pub untouched : is_write e ≡ false → new ≡ old
-  pub cut_off : is_write e ≡ true → IsAuditCutOff plan export statement old new e
+-- what a refusal is, and what it leaves of the device
+abbrev pub IsAuditRefused : (plan export statement : List ℕ) → Device → Device → RunFault → Type 0
+IsAuditRefused plan export statement = IsCommandRefused (IsAuditUnmade plan export) (IsAuditCutOff plan export statement)

@@ -1,5 +1,5 @@
 -- What the command `meter` prints, and what it is refused for.
-use Rattle.std.specs.Prelude.{◌≡◌, ℕ, true, false, List, Result, Ok, Err, IsOk, None}
+use Rattle.std.specs.Prelude.{◌≡◌, ℕ, false, List, Result, Ok, Err, IsOk, None}
 use Rattle.tca_wire.specs.Results.{◌>>=◌}
 use Rattle.tca_report.specs.report.Reports.{PacketReport}
 use Rattle.tca_meters.specs.declared.colour.Colour.TheVariants.{Green}
@@ -16,7 +16,8 @@ use Rattle.tca_program.specs.declared.fault.RunFault.{RunFault}
 use Rattle.tca_program.specs.declared.fault.Family.TheVariants as family
 use Rattle.tca_program.specs.Devices.{Device, IsCutOff, Receives}
 use Rattle.tcacct.specs.Texts.{meter_text}
-use Rattle.tca_program.specs.Runs.{IsInTurn, IsRefusedAs, IsUnion, is_family, is_write, refusal, united, write_refusal}
+use Rattle.tca_program.specs.Outcomes.{IsCommandRefused}
+use Rattle.tca_program.specs.Unions.{IsInTurn, IsRefusedAs, IsUnion, is_family, is_write, refusal, united}
 
 -- the lines of a set: the sums of its undisputed reports in order, with the colours that the meter gives them from time 0 on,
 -- where the precolour of a code point that has none is green
@@ -44,12 +45,11 @@ pub record AreMeterLines (spec : List ℕ) (inputs : List InputView) (lines : Li
 -- The lines were written.
 pub record IsMeterDone (spec : List ℕ) (inputs : List InputView) (old new : Device) : Type 0 where
   pub lines : List ℕ
-  pub made : AreMeterLines spec inputs lines
+  pub due : AreMeterLines spec inputs lines
   pub written : Receives lines old new
 
--- A write failed, and of the lines only a part went out.
-pub record IsMeterCutOff (spec : List ℕ) (inputs : List InputView) (old new : Device) (e : RunFault) : Type 0 where
-  pub fault : e ≡ write_refusal
+-- Of the lines only a part went out.
+pub record IsMeterCutOff (spec : List ℕ) (inputs : List InputView) (old new : Device) : Type 0 where
   pub lines : List ℕ
   pub due : metering spec inputs ≡ Ok lines
   pub part : IsCutOff lines old new
@@ -61,8 +61,6 @@ pub record IsMeterUnmade (spec : List ℕ) (inputs : List InputView) (e : RunFau
   pub turn : is_family e.family family.Spec ≡ false → IsInTurn inputs e
   pub no_write : is_write e ≡ false
 
--- What a refusal is, and what it leaves of the device: as it was, unless a write failed.
-pub record IsMeterRefused (spec : List ℕ) (inputs : List InputView) (old new : Device) (e : RunFault) : Type 0 where
-  pub unmade : is_write e ≡ false → IsMeterUnmade spec inputs e
-  pub untouched : is_write e ≡ false → new ≡ old
-  pub cut_off : is_write e ≡ true → IsMeterCutOff spec inputs old new e
+-- what a refusal is, and what it leaves of the device
+abbrev pub IsMeterRefused : List ℕ → List InputView → Device → Device → RunFault → Type 0
+IsMeterRefused spec inputs = IsCommandRefused (IsMeterUnmade spec inputs) (IsMeterCutOff spec inputs)

@@ -1,9 +1,8 @@
 -- What the command `bill` is refused for where replicas and workers read the inputs.
-use Rattle.std.specs.Prelude.{◌≡◌, ◌≢◌, ◌≤◌, ◌<◌, ◌⊎◌, ℕ, ◌+◌, ◌*◌, ◌%◌, ◌==◌, true, false, List, length, map, take, Option, Some, None, Result, Ok, Err, IsOk, slice_get}
+use Rattle.std.specs.Prelude.{◌≡◌, ◌≢◌, ◌≤◌, ◌<◌, ◌⊎◌, ℕ, ◌+◌, ◌*◌, ◌%◌, ◌==◌, List, length, map, take, Option, Some, None, Result, Ok, Err, IsOk, slice_get}
 use Rattle.std.specs.Borrow.{Bor}
 use Rattle.std.specs.List.{AllByRecursion, enumerate_from, filter, zip}
 use Rattle.tca_report.specs.report.Reports.{PacketReport}
-use Rattle.tca_report.specs.export.Spelling.{export}
 use Rattle.tca_report.specs.input.Inputs.{InputView, input_view, read_input}
 use Rattle.tca_report.specs.declared.input.Input.{Input}
 use Rattle.tca_report.specs.input.Wants.{WantsMemory}
@@ -29,12 +28,14 @@ use Rattle.tca_log.specs.declared.fault.LogFault.{LogFault}
 use Rattle.tca_program.specs.declared.fault.RunFault.{RunFault}
 use Rattle.tca_program.specs.declared.fault.Family.{Family}
 use Rattle.tca_program.specs.declared.fault.Family.TheVariants as family
-use Rattle.tca_program.specs.Planned.{IsPlanOf, IsPlanRefused}
-use Rattle.tcacct.specs.Billed.{statement_under}
+use Rattle.tca_program.specs.Planned.{IsPlanRefused}
+use Rattle.tcacct.specs.Billed.{IsBillCutOff}
 use Rattle.tcacct.specs.Commands.{most_billed, most_replicas, most_workers}
-use Rattle.tca_program.specs.Devices.{Device, IsCutOff, IsCutOffIfGiven, ReceivesIfGiven}
+use Rattle.tca_program.specs.Devices.{Device}
+use Rattle.tca_program.specs.Outcomes.{IsCommandRefused, outlets}
 use Rattle.tca_program.specs.Noted.{AreNotes}
-use Rattle.tca_program.specs.Runs.{HoldReports, IsUnion, input_refusal, is_write, memory_refusal, refusal, write_refusal}
+use Rattle.tca_program.specs.Unions.{HoldReports, input_refusal, memory_refusal, refusal}
+use Rattle.tca_program.specs.Planned.{IsPlanOf}
 
 -- how many replicas, workers of each and inputs there may be
 pub record IsWithinLimits (replicas workers inputs : ℕ) : Type 0 where
@@ -79,13 +80,13 @@ IsReadingNumber family.Memory number = number ≡ 1
 IsReadingNumber other number = ⊥
 
 -- the same while replicas tell each other what they hold: there are those of a replica that doesn't absorb, too
-abbrev pub IsRunNumber : Family → ℕ → Type 0
-IsRunNumber family.Absorb number = (fault : AbsorbFault) × (number ≡ absorb_number fault)
-IsRunNumber other number = IsReadingNumber other number
+abbrev pub IsExchangeNumber : Family → ℕ → Type 0
+IsExchangeNumber family.Absorb number = (fault : AbsorbFault) × (number ≡ absorb_number fault)
+IsExchangeNumber other number = IsReadingNumber other number
 
 -- a refusal of the run, which blames no input
-abbrev pub IsRunRefused : RunFault → Type 0
-IsRunRefused e = (e.input ≡ None) × IsRunNumber e.family e.number
+abbrev pub IsExchangeRefused : RunFault → Type 0
+IsExchangeRefused e = (e.input ≡ None) × IsExchangeNumber e.family e.number
 
 -- a refusal of the run while its replicas still read the inputs, when none absorbs anything
 abbrev pub IsReadingRefused : RunFault → Type 0
@@ -169,27 +170,13 @@ pub record IsInputRefused (inputs : List InputView) (e : RunFault) : Type 0 wher
 -- what replicas and workers refuse: the reading of the inputs; an input; or, where no input has a fault, that the replicas tell each
 -- other what they hold
 abbrev pub AreReplicasRefused : List InputView → RunFault → Type 0
-AreReplicasRefused inputs e = IsReadingRefused e ⊎ (IsInputRefused inputs e ⊎ (AreSound inputs × IsRunRefused e))
+AreReplicasRefused inputs e = IsReadingRefused e ⊎ (IsInputRefused inputs e ⊎ (AreSound inputs × IsExchangeRefused e))
 
 -- why there is no statement: the plan's refusal, or where the text is a plan that of an input or of the run
 abbrev pub IsReplicatedUnmade : List ℕ → List InputView → RunFault → Type 0
 IsReplicatedUnmade plan inputs e = IsPlanRefused plan e ⊎ ((p : AccountPlan) × IsPlanOf plan p × AreReplicasRefused inputs e)
 
--- A write failed: of the export, where it was asked, only a part went out, and nothing of the statement; or all of the export where
--- it was asked, and of the statement only a part.
-pub record IsReplicatedCutOff (plan : List ℕ) (inputs : List InputView) (old_export new_export : Option Device) (old new : Device) (e : RunFault) : Type 0 where
-  pub fault : e ≡ write_refusal
-  pub under : AccountPlan
-  pub named : IsPlanOf plan under
-  pub reports : List PacketReport
-  pub union : IsUnion inputs reports
-  pub part :
-      (IsCutOffIfGiven (export reports) old_export new_export × (new ≡ old))
-      ⊎ (ReceivesIfGiven (export reports) old_export new_export × IsCutOff (statement_under under reports) old new)
-
--- What a refusal is, and what it leaves of the devices: as they were, unless a write failed.
-pub record IsReplicatedRefused (plan : List ℕ) (inputs : List InputView) (old_export new_export : Option Device) (old new : Device) (e : RunFault) : Type 0 where
-  pub unmade : is_write e ≡ false → IsReplicatedUnmade plan inputs e
-  pub untouched_export : is_write e ≡ false → new_export ≡ old_export
-  pub untouched : is_write e ≡ false → new ≡ old
-  pub cut_off : is_write e ≡ true → IsReplicatedCutOff plan inputs old_export new_export old new e
+-- what a refusal is, and what it leaves of the devices
+abbrev pub IsReplicatedRefused : List ℕ → List InputView → (old_export new_export : Option Device) → (old new : Device) → RunFault → Type 0
+IsReplicatedRefused plan inputs old_export new_export old new =
+    IsCommandRefused (IsReplicatedUnmade plan inputs) (IsBillCutOff plan inputs) (outlets old_export old) (outlets new_export new)

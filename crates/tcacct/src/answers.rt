@@ -5,7 +5,7 @@ ghost use Rattle.tca_ingest.specs.Works.{AreLentResults};
 ghost use Rattle.tca_report.specs.input.Inputs.{input_view};
 ghost use Rattle.tca_program.specs.Noted.{IsNoted};
 ghost use Rattle.tcacct.specs.Replicated.{AnswerView, AreAnswersRefused, ArePut, AreRead, AreReplicasRefused, IsInputFault, answers_of, refusal_of, stranger_refusal};
-ghost use Rattle.tca_program.specs.Runs.{HoldsReports, views_of, union_of};
+ghost use Rattle.tca_program.specs.Unions.{HoldsReports, views_of, union_of};
 
 use std::alloc::{AllocError, Global};
 use std::marker::Model;
@@ -147,17 +147,17 @@ fn read_answer(n: u32, answer: Answer<'_>) -> Result<(Notes, Reports), RunFault>
 
 /// The notes of all inputs, and the reports of each, in order.
 #[derive(Drop)]
-pub(crate) struct Contents {
+pub(crate) struct Readings {
     pub(crate) notes: Vec<Notes>,
     pub(crate) lists: Vec<Reports>,
 }
 
 /// What all inputs hold, unless one is refused: the first in order that has a fault, or whose reports a replica didn't take.
-pub(crate) fn contents_of<'a>(
+pub(crate) fn readings_of<'a>(
     alloc: Global,
     inputs: &[Input],
     places: Vec<Option<Answer<'a>>>,
-) -> Result<Contents, RunFault>
+) -> Result<Readings, RunFault>
     requires { length inputs.now < 2 ^ 32 }
     ensures read { IfOk result (λ x. AreRead (views_of inputs.now) x.notes.items x.lists.items) }
     ensures first { IfErr result (AreAnswersRefused (views_of inputs.now) places.entry.items) }
@@ -173,7 +173,7 @@ pub(crate) fn contents_of<'a>(
             return Err(RunFault::from(AllocError));
         }
     }
-    Ok(Contents { notes, lists })
+    Ok(Readings { notes, lists })
 }
 
 // How many reports these lists have, for room in advance.
@@ -186,7 +186,7 @@ fn count_of(lists: &[Reports]) -> usize {
 }
 
 // A list, and behind it the reports of others, one list after another.
-fn followed(first: Vec<Report>, others: Vec<Reports>) -> Result<Vec<Report>, AllocError>
+fn append_all(first: Vec<Report>, others: Vec<Reports>) -> Result<Vec<Report>, AllocError>
     ensures { IfOk result (λ all. all.items ≡ first.items ++ flat_map (λ rs. rs) others.items) }
 {
     let mut all = first;
@@ -198,7 +198,7 @@ fn followed(first: Vec<Report>, others: Vec<Reports>) -> Result<Vec<Report>, All
 }
 
 /// The reports of these lists, one list after another. The first list isn't copied where nobody else holds it.
-pub(crate) fn chained(alloc: Global, lists: Vec<Reports>) -> Result<Vec<Report>, AllocError>
+pub(crate) fn chain_all(alloc: Global, lists: Vec<Reports>) -> Result<Vec<Report>, AllocError>
     ensures { IfOk result (λ all. all.items ≡ flat_map (λ rs. rs) lists.items) }
 {
     let mut others = lists;
@@ -206,14 +206,14 @@ pub(crate) fn chained(alloc: Global, lists: Vec<Reports>) -> Result<Vec<Report>,
         return Ok(Vec::new(alloc));
     }
     let first = others.remove(0).into_vec(alloc)?;
-    followed(first, others)
+    append_all(first, others)
 }
 
 /// All reports of these lists in order, each once.
 pub(crate) fn union_of(alloc: Global, lists: Vec<Reports>) -> Result<Vec<Report>, AllocError>
     ensures { IfOk result (λ all. all.items ≡ union_of lists.items) }
 {
-    let mut all = chained(alloc, lists)?;
+    let mut all = chain_all(alloc, lists)?;
     all.sort_unstable();
     all.dedup();
     Ok(all)

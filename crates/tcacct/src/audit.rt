@@ -1,16 +1,17 @@
 //! The command `audit`.
 ghost use Rattle.std.specs.Prelude.{◌≡◌, IfOk, IfErr, string_bytes};
-ghost use Rattle.tca_audit.specs.Audits.{IsAudited, IsAuditedUnder, IsPlanText};
+ghost use Rattle.tca_audit.specs.Audits.{IsAudited, IsAuditedUnder};
 ghost use Rattle.tcacct.specs.Audited.{IsAuditDone, IsAuditRefused, IsAuditUnmade, IsPlanUnread, IsUnmadeUnder, is_agreement};
 ghost use Rattle.tca_program.specs.Devices.{device};
 ghost use Rattle.tcacct.specs.Texts.{audit_text};
+ghost use Rattle.tca_audit.specs.Audits.{IsPlanText};
 
 use crate::texts::audit_line;
 use std::alloc::{AllocError, Global};
 use tca_accounts::{Plan, PlanFault};
 use tca_audit::{AuditFault, Verdict, audit_under};
-use tca_program::RunFault;
-use tca_report::{Write, put_all};
+use tca_program::{RunFault, put_text};
+use tca_report::Write;
 
 // The plan of a text.
 fn plan_of(alloc: Global, text: &[u8]) -> Result<Plan, RunFault>
@@ -25,7 +26,7 @@ fn plan_of(alloc: Global, text: &[u8]) -> Result<Plan, RunFault>
 }
 
 // The verdict under a plan, and its line.
-fn made_under(
+fn verdict_under(
     alloc: Global,
     plan: &Plan,
     export: &[u8],
@@ -41,7 +42,7 @@ fn made_under(
 }
 
 // The verdict, and its line.
-fn made(
+fn verdict_of(
     alloc: Global,
     plan: &[u8],
     export: &[u8],
@@ -52,7 +53,7 @@ fn made(
     ensures unmade { IfErr result (IsAuditUnmade plan.now export.now) }
 {
     let plan = plan_of(alloc, plan)?;
-    made_under(alloc, &plan, export, statement)
+    verdict_under(alloc, &plan, export, statement)
 }
 
 // Whether a verdict is that the statement agrees.
@@ -83,7 +84,7 @@ pub fn run_audit<W: Write>(
     ensures refused { IfErr result (IsAuditRefused plan.now export.now statement.now
         (device W.written W.failures out.old) (device W.written W.failures out.new)) }
 {
-    let (verdict, line) = made(alloc, plan, export, statement)?;
-    put_all(line.as_bytes(), out)?;
+    let (verdict, line) = verdict_of(alloc, plan, export, statement)?;
+    put_text(&line, out)?;
     Ok(agrees(verdict))
 }

@@ -2,19 +2,19 @@
 ghost use Rattle.std.specs.Prelude.{◌≡◌, ◌<◌, ◌≤◌, ◌^◌, Ok, OnOk, IfOk, IfErr, length, string_bytes};
 ghost use Rattle.std.specs.List.Sorted.{IsStrictlySortedBy};
 ghost use Rattle.tca_report.specs.report.Reports.{report_cmp};
+ghost use Rattle.tca_report.specs.export.Spelling.{most_reports};
 ghost use Rattle.tcacct.specs.Combined.{IsCombineDone, IsCombineRefused};
 ghost use Rattle.tca_program.specs.Devices.{device};
 ghost use Rattle.tcacct.specs.Texts.{combine_text};
-ghost use Rattle.tca_program.specs.Runs.{IsUnion, IsUnitingRefused, views_of, united};
-ghost use Rattle.tca_report.specs.export.Spelling.{most_reports};
+ghost use Rattle.tca_program.specs.Unions.{IsUnion, IsUnitingRefused, views_of, united};
 
 use crate::texts::combine_line;
 use std::alloc::Global;
-use tca_program::{RunFault, unite};
-use tca_report::{Input, Report, Write, put_all, write_export};
+use tca_program::{RunFault, put_text, unite};
+use tca_report::{Input, Report, Write, write_export};
 
-// The reports and the line that go out.
-fn made(alloc: Global, inputs: &[Input]) -> Result<(Vec<Report>, String), RunFault>
+// The union of the inputs, and the line of how many reports it has.
+fn union_and_line(alloc: Global, inputs: &[Input]) -> Result<(Vec<Report>, String), RunFault>
     requires { length inputs.now < 2 ^ 32 }
     ensures union { IfOk result (λ x. IsUnion (views_of inputs.now) x.0.items) }
     ensures taken { IfOk result (λ x. united (views_of inputs.now) ≡ Ok x.0.items) }
@@ -48,8 +48,8 @@ pub fn run_combine<W: Write, V: Write>(
         (device V.written V.failures export.old) (device V.written V.failures export.new)
         (device W.written W.failures out.old) (device W.written W.failures out.new)) }
 {
-    let (reports, line) = made(alloc, inputs)?;
+    let (reports, line) = union_and_line(alloc, inputs)?;
     write_export(&reports, export)?;
-    put_all(line.as_bytes(), out)?;
+    put_text(&line, out)?;
     Ok(())
 }

@@ -2,26 +2,25 @@
 ghost use Rattle.std.specs.Prelude.{◌≡◌, ◌<◌, ◌≤◌, ◌^◌, Ok, OnOk, IfOk, IfErr, length, string_bytes};
 ghost use Rattle.std.specs.List.Sorted.{IsStrictlySortedBy};
 ghost use Rattle.tca_report.specs.report.Reports.{report_cmp};
+ghost use Rattle.tca_report.specs.export.Spelling.{most_reports};
 ghost use Rattle.tca_meters.specs.declared.colour.Colour.TheVariants.{Green};
-ghost use Rattle.tca_meters.specs.AnyMeters.{any_rule};
 ghost use Rattle.tca_meters.specs.Packets.{colours};
 ghost use Rattle.tca_accounts.specs.Sums.{packet_of, sums_of};
 ghost use Rattle.tca_program.specs.Devices.{device};
 ghost use Rattle.tcacct.specs.Metered.{AreMeterLines, IsMeterDone, IsMeterRefused, IsMeterUnmade, metering};
-ghost use Rattle.tca_program.specs.Runs.{views_of};
-ghost use Rattle.tca_report.specs.export.Spelling.{most_reports};
+ghost use Rattle.tca_program.specs.Unions.{views_of};
 
 use crate::texts::meter_lines;
 use std::alloc::Global;
 use tca_accounts::{Sums, meter_next, no_reports};
 use tca_log::Settled;
-use tca_meters::{AnyMeter, Colour, Meter, meter_spec};
-use tca_program::{RunFault, unite};
-use tca_report::{Input, Write, put_all};
+use tca_meters::{Colour, Meter, meter_spec};
+use tca_program::{RunFault, put_text, unite};
+use tca_report::{Input, Write};
 
 // The sums of the reports, metered in their order from time 0 on, each with the precolour of its code
 // point, green where that has none.
-fn metered<M: Meter>(meter: &M, reports: Settled<'_>) -> Sums
+fn meter_all<M: Meter>(meter: &M, reports: Settled<'_>) -> Sums
     requires rises { IsStrictlySortedBy report_cmp reports }
     requires few { length reports ≤ most_reports }
     ensures { result ≡ sums_of (colours (M.rule meter.now) (packet_of Green) reports.entry) }
@@ -33,29 +32,16 @@ fn metered<M: Meter>(meter: &M, reports: Settled<'_>) -> Sums
     metered.total
 }
 
-// The same by a meter of any kind.
-fn metered_by(meter: &AnyMeter, reports: Settled<'_>) -> Sums
-    requires rises { IsStrictlySortedBy report_cmp reports }
-    requires few { length reports ≤ most_reports }
-    ensures { result ≡ sums_of (colours (any_rule meter.now) (packet_of Green) reports.entry) }
-{
-    match meter {
-        AnyMeter::SrTcm(meter) => metered(meter, reports),
-        AnyMeter::TrTcm(meter) => metered(meter, reports),
-        AnyMeter::Rfc4115(meter) => metered(meter, reports),
-    }
-}
-
-// The lines that go out.
-fn made(alloc: Global, spec: &str, inputs: &[Input]) -> Result<String, RunFault>
+// The lines of the meter that a spec names over the union of the inputs.
+fn lines_of(alloc: Global, spec: &str, inputs: &[Input]) -> Result<String, RunFault>
     requires { length inputs.now < 2 ^ 32 }
-    ensures made { IfOk result (λ text. AreMeterLines spec.now (views_of inputs.now) (string_bytes text)) }
+    ensures lines { IfOk result (λ text. AreMeterLines spec.now (views_of inputs.now) (string_bytes text)) }
     ensures due { IfOk result (λ text. metering spec.now (views_of inputs.now) ≡ Ok (string_bytes text)) }
     ensures unmade { IfErr result (IsMeterUnmade spec.now (views_of inputs.now)) }
 {
     let meter = meter_spec(spec)?;
     let (log, _notes) = unite(alloc, inputs)?;
-    let sums = metered_by(&meter, log.settled());
+    let sums = meter_all(&meter, log.settled());
     let lines = meter_lines(alloc, &sums)?;
     Ok(lines)
 }
@@ -78,7 +64,7 @@ pub fn run_meter<W: Write>(
     ensures refused { IfErr result (IsMeterRefused spec.now (views_of inputs.now)
         (device W.written W.failures out.old) (device W.written W.failures out.new)) }
 {
-    let lines = made(alloc, spec, inputs)?;
-    put_all(lines.as_bytes(), out)?;
+    let lines = lines_of(alloc, spec, inputs)?;
+    put_text(&lines, out)?;
     Ok(())
 }

@@ -3,8 +3,8 @@
 ghost use Rattle.std.specs.Prelude.{◌≡◌, ◌≢◌, None, Ok, Err, IfOk, IfErr, MatchResult};
 ghost use Rattle.tca_gossip.specs.Answers.{absorb_number};
 ghost use Rattle.tca_ingest.specs.Faults.{close_number, work_number};
-ghost use Rattle.tcacct.specs.Replicated.{IsReadingRefused, IsRunRefused};
-ghost use Rattle.tca_program.specs.Runs.{refusal};
+ghost use Rattle.tcacct.specs.Replicated.{IsReadingRefused, IsExchangeRefused};
+ghost use Rattle.tca_program.specs.Unions.{refusal};
 ghost use Rattle.tca_program.specs.declared.fault.Family.TheVariants as family;
 
 use tca_gossip::AbsorbFault;
@@ -41,7 +41,7 @@ pub(crate) fn of_close<L: Side>(outcome: Result<Closed, Unclosed<L>>) -> Result<
 pub(crate) fn of_absorb(outcome: Result<u64, AbsorbFault>) -> Result<u64, RunFault>
     ensures exact { MatchResult outcome (λ count. result ≡ Ok count) (λ fault. result ≡ Err (refusal None family.Absorb (absorb_number fault))) }
     ensures absorbed { IfOk result (λ count. outcome ≡ Ok count) }
-    ensures refused { IfErr result IsRunRefused }
+    ensures refused { IfErr result IsExchangeRefused }
 {
     match outcome {
         Ok(count) => Ok(count),

@@ -5,11 +5,11 @@ ghost use Rattle.tca_ingest.specs.Closed.{replicas_of};
 ghost use Rattle.tca_ingest.specs.Passes.{AreClosing};
 ghost use Rattle.tca_ingest.specs.Shares.{IsReplayed};
 ghost use Rattle.tcacct.specs.inside.Absorbs.{Absorbs, AreAgreed, AreJoined, HasAbsorbed, HasRightJournal, closed_with, names_of, with_lacking};
-ghost use Rattle.tcacct.specs.Replicated.{AreRead, AreReplicasRefused, IsReadingRefused, IsRunRefused, IsWithinLimits, share_of};
-ghost use Rattle.tca_program.specs.Runs.{views_of};
+ghost use Rattle.tcacct.specs.Replicated.{AreRead, AreReplicasRefused, IsReadingRefused, IsExchangeRefused, IsWithinLimits, share_of};
+ghost use Rattle.tca_program.specs.Unions.{views_of};
 ghost use Rattle.tca_report.specs.input.Inputs.{input_view};
 
-use crate::answers::{Answer, Contents, contents_of, empty_places, put_answers};
+use crate::answers::{Answer, Readings, empty_places, put_answers, readings_of};
 use crate::refusals::{of_absorb, of_close, of_workers};
 use std::alloc::{AllocError, Global};
 use std::marker::Brand;
@@ -27,7 +27,7 @@ pub(crate) const PARTS: u64 = 65_537;
 
 /// What a run is given: the inputs, by how many replicas they are read, and by how many workers of each.
 #[derive(Drop)]
-pub(crate) struct Setting<'a, R, G> {
+pub(crate) struct BillSetting<'a, R, G> {
     pub(crate) rt: &'a R,
     pub(crate) alloc: Global,
     pub(crate) inputs: &'a [Input],
@@ -58,8 +58,8 @@ fn share_of<'a>(
 
 // Has a replica's workers read its inputs, puts the answers where the inputs stand, and gives the passes back. `first` is the place of
 // the first of its inputs.
-fn worked<'a, L: Side + Send + Sync, R: Threads + Wait + Sync, G: Gate>(
-    setting: &Setting<'a, R, G>,
+fn read_share<'a, L: Side + Send + Sync, R: Threads + Wait + Sync, G: Gate>(
+    setting: &BillSetting<'a, R, G>,
     shared: &Shared<L>,
     first: u32,
     places: &mut Vec<Option<Answer<'a>>>,
@@ -82,7 +82,7 @@ fn worked<'a, L: Side + Send + Sync, R: Threads + Wait + Sync, G: Gate>(
 }
 
 // Closes a replica with all its passes.
-fn closed<L: Side>(shared: Shared<L>, passes: Vec<Pass<L>>) -> Result<Closed, RunFault>
+fn close<L: Side>(shared: Shared<L>, passes: Vec<Pass<L>>) -> Result<Closed, RunFault>
     ensures replayed { IfOk result (λ c. IsReplayed L.plan L.called c.replica c.journal) }
     ensures closing { IfOk result (λ c. AreClosing c.journal passes.items) }
     ensures refused { IfErr result IsReadingRefused }
@@ -91,8 +91,8 @@ fn closed<L: Side>(shared: Shared<L>, passes: Vec<Pass<L>>) -> Result<Closed, Ru
 }
 
 // A replica of this name that read its inputs, closed.
-fn read_by<'a, L: Side + Send + Sync, R: Threads + Wait + Sync, G: Gate>(
-    setting: &Setting<'a, R, G>,
+fn read_and_close<'a, L: Side + Send + Sync, R: Threads + Wait + Sync, G: Gate>(
+    setting: &BillSetting<'a, R, G>,
     blank: Blank,
     name: u32,
     plan: Plan,
@@ -108,13 +108,13 @@ fn read_by<'a, L: Side + Send + Sync, R: Threads + Wait + Sync, G: Gate>(
     ensures refused { IfErr result IsReadingRefused }
 {
     let shared = Shared::<L>::new(setting.alloc, blank, name, plan)?;
-    let passes = worked(setting, &shared, name - 1, places)?;
-    closed(shared, passes)
+    let passes = read_share(setting, &shared, name - 1, places)?;
+    close(shared, passes)
 }
 
 // All replicas but the first, each of which read its inputs and was closed before the next one was made.
 fn others_of<'a, R: Threads + Wait + Sync, G: Gate>(
-    setting: &Setting<'a, R, G>,
+    setting: &BillSetting<'a, R, G>,
     plan: &Plan,
     places: &mut Vec<Option<Answer<'a>>>,
 ) -> Result<Vec<Closed>, RunFault>
@@ -128,7 +128,7 @@ fn others_of<'a, R: Threads + Wait + Sync, G: Gate>(
     let mut others = Vec::new(alloc);
     for name in 2..setting.replicas + 1 {
         let copy = plan.copy(alloc)?;
-        let other = read_by::<Brand, R, G>(setting, Blank::new(PARTS), name, copy, places)?;
+        let other = read_and_close::<Brand, R, G>(setting, Blank::new(PARTS), name, copy, places)?;
         if others.push(other).is_err() {
             return Err(RunFault::from(AllocError));
         }
@@ -137,14 +137,14 @@ fn others_of<'a, R: Threads + Wait + Sync, G: Gate>(
 }
 
 // Has a shared replica absorb what it lacks of another one.
-fn bring<L: Side, R: Wait>(
+fn absorb_lacking<L: Side, R: Wait>(
     rt: &R,
     into: &Shared<L>,
     mine: &mut Pass<L>,
     from: &Replica,
 ) -> Result<(), RunFault>
     ensures absorbs { OnOk result (Absorbs from.now mine.old mine.new) }
-    ensures refused { IfErr result IsRunRefused }
+    ensures refused { IfErr result IsExchangeRefused }
 {
     let asked = into.summary(rt, mine)?;
     let Entry::Asked { summary, .. } = asked.entry else {
@@ -160,7 +160,7 @@ fn bring<L: Side, R: Wait>(
 }
 
 // Has a shared replica absorb what it lacks of each other one in order, and closes it.
-fn joined<L: Side, R: Wait>(
+fn absorb_and_close<L: Side, R: Wait>(
     rt: &R,
     shared: Shared<L>,
     passes: Vec<Pass<L>>,
@@ -168,23 +168,23 @@ fn joined<L: Side, R: Wait>(
 ) -> Result<Closed, RunFault>
     ensures replayed { IfOk result (λ c. IsReplayed L.plan L.called c.replica c.journal) }
     ensures absorbed { IfOk result (λ c. HasAbsorbed (replicas_of others.now) c.journal) }
-    ensures refused { IfErr result IsRunRefused }
+    ensures refused { IfErr result IsExchangeRefused }
 {
     let mut passes = passes;
     let mut mine = shared.pass(rt)?;
     for other in others {
-        bring(rt, &shared, &mut mine, &other.replica)?;
+        absorb_lacking(rt, &shared, &mut mine, &other.replica)?;
     }
     if passes.push(mine).is_err() {
         return Err(RunFault::from(AllocError));
     }
-    closed(shared, passes)
+    close(shared, passes)
 }
 
 // Has a replica absorb what it lacks of another one.
 fn tell(into: &mut Replica, from: &Replica) -> Result<(), RunFault>
     ensures told { OnOk result (into.new ≡ with_lacking into.old from.now) }
-    ensures refused { IfErr result IsRunRefused }
+    ensures refused { IfErr result IsExchangeRefused }
 {
     let summary = into.summary()?;
     let delta = from.delta(&summary)?;
@@ -195,7 +195,7 @@ fn tell(into: &mut Replica, from: &Replica) -> Result<(), RunFault>
 // Each other replica absorbs what it lacks of the first.
 fn tell_all(others: &mut [Closed], first: &Replica) -> Result<(), RunFault>
     ensures told { OnOk result (others.new ≡ map (closed_with first.now) others.old) }
-    ensures refused { IfErr result IsRunRefused }
+    ensures refused { IfErr result IsExchangeRefused }
 {
     for other in others.iter_mut() {
         tell(&mut other.replica, first)?;
@@ -204,9 +204,9 @@ fn tell_all(others: &mut [Closed], first: &Replica) -> Result<(), RunFault>
 }
 
 // All replicas, the first one last, where each other one absorbed what it lacked of the first and all agree.
-fn agreed(first: Closed, others: Vec<Closed>) -> Result<Vec<Closed>, RunFault>
+fn agree(first: Closed, others: Vec<Closed>) -> Result<Vec<Closed>, RunFault>
     ensures agreed { IfOk result (λ all. AreAgreed first others.items all.items) }
-    ensures refused { IfErr result IsRunRefused }
+    ensures refused { IfErr result IsExchangeRefused }
 {
     let mut all = others;
     tell_all(&mut all, &first.replica)?;
@@ -223,11 +223,11 @@ fn agreed(first: Closed, others: Vec<Closed>) -> Result<Vec<Closed>, RunFault>
 /// the first input in order that has one. Then the first replica, still shared, absorbs what it lacks of each other one and is closed,
 /// each other one absorbs what it lacks of the first, and all are compared.
 pub(crate) fn run_replicas<'a, L: Side + Send + Sync, R: Threads + Wait + Sync, G: Gate>(
-    setting: &Setting<'a, R, G>,
+    setting: &BillSetting<'a, R, G>,
     blank: Blank,
     plan: &Plan,
     mine: Plan,
-) -> Result<(Vec<Closed>, Contents), RunFault>
+) -> Result<(Vec<Closed>, Readings), RunFault>
     requires name { blank.name ≡ L.name }
     requires parts { (blank.parts ≡ L.parts) × (L.parts ≡ 65537) }
     requires called { 1 ≡ L.called }
@@ -241,10 +241,10 @@ pub(crate) fn run_replicas<'a, L: Side + Send + Sync, R: Threads + Wait + Sync, 
     let (rt, alloc, inputs) = (setting.rt, setting.alloc, setting.inputs);
     let mut places = empty_places(alloc, inputs)?;
     let shared = Shared::<L>::new(alloc, blank, 1, mine)?;
-    let passes = worked(setting, &shared, 0, &mut places)?;
+    let passes = read_share(setting, &shared, 0, &mut places)?;
     let others = others_of(setting, plan, &mut places)?;
-    let contents = contents_of(alloc, inputs, places)?;
-    let first = joined(rt, shared, passes, &others)?;
-    let all = agreed(first, others)?;
-    Ok((all, contents))
+    let readings = readings_of(alloc, inputs, places)?;
+    let first = absorb_and_close(rt, shared, passes, &others)?;
+    let all = agree(first, others)?;
+    Ok((all, readings))
 }

@@ -1,20 +1,22 @@
 //! The command `bill` by replicas and workers.
-ghost use Rattle.std.specs.Prelude.{◌≡◌, ◌≢◌, ◌≤◌, ◌↔◌, ◌++◌, IfOk, IfErr, IsTrue, None, Some, length, true};
+ghost use Rattle.std.specs.Prelude.{◌≡◌, ◌≢◌, ◌≤◌, ◌↔◌, ◌++◌, IfOk, IfErr, IsTrue, None, length, true};
 ghost use Rattle.std.specs.List.{flat_map};
 ghost use Rattle.std.specs.List.Sorted.{IsStrictlySortedBy};
 ghost use Rattle.tca_accounts.specs.Plans.{AccountPlan};
-ghost use Rattle.tca_report.specs.export.Spelling.{most_reports};
 ghost use Rattle.tca_report.specs.report.Reports.{report_cmp};
-ghost use Rattle.tca_program.specs.Planned.{IsPlanOf};
-ghost use Rattle.tcacct.specs.Billed.{IsBillDone, statement_under};
+ghost use Rattle.tca_report.specs.export.Spelling.{most_reports};
+ghost use Rattle.tcacct.specs.Billed.{IsBillDone};
 ghost use Rattle.tca_program.specs.Devices.{after, before, device};
 ghost use Rattle.tca_program.specs.Noted.{AreNotes};
-ghost use Rattle.tcacct.specs.Replicated.{IsReplicatedRefused, IsReplicatedUnmade, IsRunRefused, IsWithinLimits};
-ghost use Rattle.tca_program.specs.Runs.{IsUnion, memory_refusal, refusal, views_of, union_of};
+ghost use Rattle.tcacct.specs.Replicated.{IsReplicatedRefused, IsReplicatedUnmade, IsExchangeRefused, IsWithinLimits};
+ghost use Rattle.tca_program.specs.Unions.{IsUnion, memory_refusal, refusal, views_of, union_of};
 ghost use Rattle.tca_program.specs.declared.fault.Family.TheVariants as family;
+ghost use Rattle.tcacct.specs.Billed.{statement_under};
+ghost use Rattle.tca_program.specs.Planned.{IsPlanOf};
 
-use crate::answers::{chained, union_of};
-use crate::replicas::{PARTS, Setting, run_replicas};
+use crate::answers::{chain_all, union_of};
+use crate::bill::{Prepared, put_alone, put_exported};
+use crate::replicas::{BillSetting, PARTS, run_replicas};
 use std::alloc::Global;
 use std::marker::Brand;
 use std::sync::Wait;
@@ -26,19 +28,11 @@ use tca_ingest::{Closed, Gate, Reports};
 use tca_log::Log;
 use tca_log::rows::RowsIter;
 use tca_program::RunFault;
-use tca_report::{Input, Notes, Report, Write, write_export};
-use tca_statements::{Statement, render};
-
-/// What is written, and the notes of the inputs.
-#[derive(Drop)]
-struct Prepared {
-    statement: Statement,
-    reports: Vec<Report>,
-    notes: Vec<Notes>,
-}
+use tca_report::{Input, Notes, Report, Write};
+use tca_statements::Statement;
 
 // Reports that are those of a log, in their order.
-fn held_by(reports: Vec<Report>, log: &Log) -> Result<Vec<Report>, RunFault>
+fn check_held(reports: Vec<Report>, log: &Log) -> Result<Vec<Report>, RunFault>
     ensures held { IfOk result (λ list. (list.items ≡ reports.items) × (list.items ≡ log.now)) }
     ensures differs { IfErr result (λ e. (e ≡ refusal None family.Close 3) × (reports.items ≢ log.now)) }
     ensures limit { length log.now ≤ most_reports }
@@ -50,20 +44,20 @@ fn held_by(reports: Vec<Report>, log: &Log) -> Result<Vec<Report>, RunFault>
 }
 
 // All reports in order, where they are what the replica holds.
-fn compared(alloc: Global, replica: &Replica, lists: Vec<Reports>) -> Result<Vec<Report>, RunFault>
+fn compare(alloc: Global, replica: &Replica, lists: Vec<Reports>) -> Result<Vec<Report>, RunFault>
     ensures whole { IfOk result (λ list. list.items ≡ union_of lists.items) }
     ensures held { IfOk result (λ list. list.items ≡ replica.now.log) }
     ensures rises { IfOk result (λ list. IsStrictlySortedBy report_cmp list.items) }
     ensures limit { IfOk result (λ list. length list.items ≤ most_reports) }
     ensures differs { IfErr result (λ e. e ≢ memory_refusal → (e ≡ refusal None family.Close 3) × (union_of lists.items ≢ replica.now.log)) }
-    ensures refused { IfErr result IsRunRefused }
+    ensures refused { IfErr result IsExchangeRefused }
 {
     let log = replica.log();
     if are_log(&lists, log) {
-        return Ok(chained(alloc, lists)?);
+        return Ok(chain_all(alloc, lists)?);
     }
     let reports = union_of(alloc, lists)?;
-    held_by(reports, log)
+    check_held(reports, log)
 }
 
 // Whether the lists, one after another, are the reports of a log in their order. Then no union has to be made.
@@ -114,10 +108,10 @@ fn are_all_of(reports: &[Report], log: &Log) -> bool
 }
 
 // The statement of what a replica holds.
-fn stated(alloc: Global, plan: &Plan, replica: &Replica) -> Result<Statement, RunFault>
+fn statement_of(alloc: Global, plan: &Plan, replica: &Replica) -> Result<Statement, RunFault>
     requires { replica.now.plan ≡ plan.now }
     ensures stated { IfOk result (λ s. s ≡ statement_under plan.now replica.now.log) }
-    ensures refused { IfErr result IsRunRefused }
+    ensures refused { IfErr result IsExchangeRefused }
     ensures memory { IfErr result (λ e. e ≡ memory_refusal) }
 {
     let bill = replica.totals()?;
@@ -125,7 +119,7 @@ fn stated(alloc: Global, plan: &Plan, replica: &Replica) -> Result<Statement, Ru
 }
 
 // A closed replica without its journal. The journals go, and the other replicas, so that nobody shares the lists of the answers.
-fn alone(first: Closed, others: Vec<Closed>) -> Replica
+fn without_journal(first: Closed, others: Vec<Closed>) -> Replica
     ensures { result ≡ first.replica }
 {
     drop(others);
@@ -134,8 +128,8 @@ fn alone(first: Closed, others: Vec<Closed>) -> Replica
 }
 
 // What goes out, and the inputs' notes.
-fn made<R: Threads + Wait + Sync, G: Gate>(
-    setting: &Setting<'_, R, G>,
+fn bill_replicas<R: Threads + Wait + Sync, G: Gate>(
+    setting: &BillSetting<'_, R, G>,
     plan: &[u8],
 ) -> Result<Prepared, RunFault>
     requires { IsWithinLimits setting.now.replicas setting.now.workers (length setting.now.inputs.now) }
@@ -148,64 +142,18 @@ fn made<R: Threads + Wait + Sync, G: Gate>(
 {
     let plan = Plan::from_text(setting.alloc, plan)?;
     let mine = plan.copy(setting.alloc)?;
-    let (mut all, contents) = run_replicas::<Brand, R, G>(setting, Blank::new(PARTS), &plan, mine)?;
+    let (mut all, readings) = run_replicas::<Brand, R, G>(setting, Blank::new(PARTS), &plan, mine)?;
     let Some(first) = all.pop() else {
         unreachable!();
     };
-    let replica = alone(first, all);
-    let reports = compared(setting.alloc, &replica, contents.lists)?;
-    let statement = stated(setting.alloc, &plan, &replica)?;
+    let replica = without_journal(first, all);
+    let reports = compare(setting.alloc, &replica, readings.lists)?;
+    let statement = statement_of(setting.alloc, &plan, &replica)?;
     Ok(Prepared {
         statement,
         reports,
-        notes: contents.notes,
+        notes: readings.notes,
     })
-}
-
-// The bill with an export.
-fn run_exported<R: Threads + Wait + Sync, G: Gate, W: Write, V: Write>(
-    setting: &Setting<'_, R, G>,
-    plan: &[u8],
-    export: &mut V,
-    out: &mut W,
-) -> Result<Vec<Notes>, RunFault>
-    requires { IsWithinLimits setting.now.replicas setting.now.workers (length setting.now.inputs.now) }
-    ensures done { IfOk result (λ notes. IsBillDone plan.now (views_of setting.now.inputs.now)
-        (Some (device V.written V.failures export.old)) (Some (device V.written V.failures export.new))
-        (device W.written W.failures out.old) (device W.written W.failures out.new) notes.items) }
-    ensures refused { IfErr result (IsReplicatedRefused plan.now (views_of setting.now.inputs.now)
-        (Some (device V.written V.failures export.old)) (Some (device V.written V.failures export.new))
-        (device W.written W.failures out.old) (device W.written W.failures out.new)) }
-{
-    let Prepared {
-        statement,
-        reports,
-        notes,
-    } = made(setting, plan)?;
-    write_export(&reports, export)?;
-    render(&statement, out)?;
-    Ok(notes)
-}
-
-// The bill without an export.
-fn run_alone<R: Threads + Wait + Sync, G: Gate, W: Write>(
-    setting: &Setting<'_, R, G>,
-    plan: &[u8],
-    out: &mut W,
-) -> Result<Vec<Notes>, RunFault>
-    requires { IsWithinLimits setting.now.replicas setting.now.workers (length setting.now.inputs.now) }
-    ensures done { IfOk result (λ notes. IsBillDone plan.now (views_of setting.now.inputs.now) None None
-        (device W.written W.failures out.old) (device W.written W.failures out.new) notes.items) }
-    ensures refused { IfErr result (IsReplicatedRefused plan.now (views_of setting.now.inputs.now) None None
-        (device W.written W.failures out.old) (device W.written W.failures out.new)) }
-{
-    let Prepared {
-        statement,
-        notes,
-        ..
-    } = made(setting, plan)?;
-    render(&statement, out)?;
-    Ok(notes)
 }
 
 /// Writes the statement of the union of the inputs' reports under a plan to `out`, and before it, where
@@ -240,7 +188,7 @@ pub fn run_bill<R: Threads + Wait + Sync, G: Gate, W: Write, V: Write>(
         (before (device V.written V.failures) export.entry) (after (device V.written V.failures) export.exit)
         (device W.written W.failures out.old) (device W.written W.failures out.new)) }
 {
-    let setting = Setting {
+    let setting = BillSetting {
         rt,
         alloc,
         inputs,
@@ -248,8 +196,9 @@ pub fn run_bill<R: Threads + Wait + Sync, G: Gate, W: Write, V: Write>(
         workers,
         gate,
     };
+    let made = bill_replicas(&setting, plan);
     match export {
-        Some(export) => run_exported(&setting, plan, export, out),
-        None => run_alone(&setting, plan, out),
+        Some(export) => put_exported(made, export, out),
+        None => put_alone(made, out),
     }
 }

@@ -1,11 +1,12 @@
 -- How a `diff` ends once its rows are made.
-use Rattle.std.proofs.Common.{◌≡◌, ◌∙◌, List, ap, sym, subst, true≢false}
+use Rattle.std.proofs.Common.{◌≡◌, List, subst}
 use Rattle.tca_report.specs.input.Inputs.{InputView}
 use Rattle.tca_program.specs.Devices.{Device, IsCutOff, Receives}
-use Rattle.tca_program.specs.Runs.{is_write, write_refusal}
+use Rattle.tca_program.specs.Unions.{write_refusal}
 use Rattle.tca_program.specs.declared.fault.RunFault.{RunFault}
 use Rattle.tcatool.specs.Csv.{csv_text}
-use Rattle.tcatool.specs.Diffed.{IsDiffDone, IsDiffRefused, IsDifference, diff_header, diff_line}
+use Rattle.tca_program.proofs.Refusing.{cut_off}
+use Rattle.tcatool.specs.Diffed.{IsComparingRefused, IsDiffCutOff, IsDiffDone, IsDiffRefused, IsDifference, diff_header, diff_line}
 use Rattle.tcatool.specs.declared.diff.Differences.{Differences}
 use Rattle.tcatool.specs.declared.diff.LoneReport.{LoneReport}
 
@@ -23,13 +24,10 @@ module _ (a b : InputView) (old new : Device) (rows : List LoneReport) (counts :
 
   -- a write failed
   pub cut_short : (e : RunFault) → e ≡ write_refusal → IsCutOff (csv_text diff_header diff_line rows) old new → IsDiffRefused a b old new e
-  cut_short e is part = record {
-    uncompared = λ no. absurd (true≢false (sym (ap is_write is) ∙ no));
-    untouched = λ no. absurd (true≢false (sym (ap is_write is) ∙ no));
-    cut_off = λ write. record {
-      fault = is;
-      sets = (told.first, told.second);
-      due = told.due;
-      part = subst (λ (rs : List LoneReport). IsCutOff (csv_text diff_header diff_line rs) old new) told.rows_are part;
-    };
-  }
+  cut_short e is part =
+      cut_off (IsComparingRefused a b) (IsDiffCutOff a b) old new e is
+      (record {
+        sets = (told.first, told.second);
+        due = told.due;
+        part = subst (λ (rs : List LoneReport). IsCutOff (csv_text diff_header diff_line rs) old new) told.rows_are part;
+      })

@@ -3,14 +3,12 @@ pub mod Differing
 pub mod Partition
 pub mod DiffEnds
 pub mod Pairing
-pub mod PairsEnds
 pub mod LineExamples
 pub mod Shown
 pub mod Telling
 pub mod Settling
 pub mod SharedItems
 pub mod Itemised
-pub mod ListEnds
 pub mod ShareNames
 pub mod Adding
 pub mod AddEnds

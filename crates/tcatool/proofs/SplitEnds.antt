@@ -7,7 +7,7 @@ use Rattle.tca_split.specs.declared.splitting.Parts.{Parts}
 use Rattle.tca_split.specs.Folders.{Files}
 use Rattle.tca_split.specs.Splits.{IsRefused, IsSplit}
 use Rattle.tca_program.specs.Devices.{Device, IsCutOff, Receives}
-use Rattle.tca_program.specs.Runs.{is_family, is_write, memory_refusal, refusal, write_refusal}
+use Rattle.tca_program.specs.Unions.{is_family, is_write, memory_refusal, refusal, write_refusal}
 use Rattle.tca_program.specs.declared.fault.Family.TheVariants as family
 use Rattle.tca_program.specs.declared.fault.RunFault.{RunFault}
 use Rattle.tcatool.specs.Splitting.{IsFilesRefused, IsPartsPrinted, IsSplitDone, IsSplitRefused, Place, Readings, WhereKnown, parts_text, split_refusal}

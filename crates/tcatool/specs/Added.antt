@@ -1,5 +1,5 @@
 -- What the command `add` writes, and what it is refused for.
-use Rattle.std.specs.Prelude.{◌≡◌, ◌⊎◌, ℕ, false, true, List, [], ◌∷◌, map, take, slice_get, Some}
+use Rattle.std.specs.Prelude.{◌≡◌, ◌⊎◌, ℕ, List, [], ◌∷◌, map, take, slice_get, Some}
 use Rattle.std.specs.Global.{Vec}
 use Rattle.tca_figures.specs.Figures.{Stated}
 use Rattle.tca_figures.specs.Lines.{IsTextOf, statement_octets}
@@ -8,7 +8,8 @@ use Rattle.tca_figures.specs.Sums.{IsSumFault}
 use Rattle.tca_figures.specs.Totals.{IsSumOf}
 use Rattle.tca_figures.specs.declared.fault.StatementFault.{StatementFault}
 use Rattle.tca_program.specs.Devices.{Device, IsCutOff, Receives}
-use Rattle.tca_program.specs.Runs.{is_write, memory_refusal, write_refusal}
+use Rattle.tca_program.specs.Outcomes.{IsCommandRefused}
+use Rattle.tca_program.specs.Unions.{memory_refusal}
 use Rattle.tca_program.specs.declared.fault.RunFault.{RunFault}
 use Rattle.tcatool.specs.Told.{statement_refusal}
 
@@ -50,15 +51,16 @@ pub record IsSumUnwritten (texts : List (List ℕ)) (e : RunFault) : Type 0 wher
   pub sum : Stated
   pub sum_is : IsSumOf texts sum
 
--- A write failed, and of the sum only a part went out.
-pub record IsAddCutOff (texts : List (List ℕ)) (old new : Device) (e : RunFault) : Type 0 where
-  pub fault : e ≡ write_refusal
+-- Of the sum only a part went out.
+pub record IsAddCutOff (texts : List (List ℕ)) (old new : Device) : Type 0 where
   pub sum : Stated
   pub sum_is : IsSumOf texts sum
   pub part : IsCutOff (statement_octets sum) old new
 
--- What a refusal is, and what it leaves of the device: as it was, unless a write failed.
-pub record IsAddRefused (texts : List (List ℕ)) (old new : Device) (e : RunFault) : Type 0 where
-  pub unfit : is_write e ≡ false → IsFirstUnfit texts e ⊎ IsSumUnwritten texts e
-  pub untouched : is_write e ≡ false → new ≡ old
-  pub cut_off : is_write e ≡ true → IsAddCutOff texts old new e
+-- why there is no sum to write
+abbrev pub IsSumRefused : List (List ℕ) → RunFault → Type 0
+IsSumRefused texts e = IsFirstUnfit texts e ⊎ IsSumUnwritten texts e
+
+-- what a refusal is, and what it leaves of the device
+abbrev pub IsAddRefused : List (List ℕ) → Device → Device → RunFault → Type 0
+IsAddRefused texts = IsCommandRefused (IsSumRefused texts) (IsAddCutOff texts)

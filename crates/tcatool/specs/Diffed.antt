@@ -7,7 +7,8 @@ use Rattle.tca_report.specs.report.Reports.{PacketReport, report_cmp}
 use Rattle.tca_report.specs.input.Inputs.{InputView, read_input}
 use Rattle.tca_program.specs.declared.fault.RunFault.{RunFault}
 use Rattle.tca_program.specs.Devices.{Device, IsCutOff, Receives}
-use Rattle.tca_program.specs.Runs.{HoldsReports, IsRefusedAs, MayLackMemory, is_log_memory, is_memory, is_write, with_input, write_refusal}
+use Rattle.tca_program.specs.Outcomes.{IsCommandRefused}
+use Rattle.tca_program.specs.Unions.{HoldsReports, IsRefusedAs, MayLackMemory, is_log_memory, is_memory, is_write, with_input}
 use Rattle.tcatool.specs.Csv.{csv_line, csv_text}
 use Rattle.tcatool.specs.ReportLines.{report_fields}
 use Rattle.tcatool.specs.declared.diff.Differences.{Differences}
@@ -91,9 +92,8 @@ pub record IsDiffDone (a b : InputView) (old new : Device) (answer : Differences
   pub written : Receives (diff_text first second) old new
   pub counts : answer ≡ differences_of first second
 
--- A write failed, and of the lines only a part went out.
-pub record IsDiffCutOff (a b : InputView) (old new : Device) (e : RunFault) : Type 0 where
-  pub fault : e ≡ write_refusal
+-- Of the lines only a part went out.
+pub record IsDiffCutOff (a b : InputView) (old new : Device) : Type 0 where
   pub sets : List PacketReport × List PacketReport
   pub due : compared a b ≡ Ok sets
   pub part : IsCutOff (diff_text sets.0 sets.1) old new
@@ -114,8 +114,6 @@ pub record IsComparingRefused (a b : InputView) (e : RunFault) : Type 0 where
   pub turn : IsInTurnOfTwo a b e e.input
   pub no_write : is_write e ≡ false
 
--- What a refusal is, and what it leaves of the device: as it was, unless a write failed.
-pub record IsDiffRefused (a b : InputView) (old new : Device) (e : RunFault) : Type 0 where
-  pub uncompared : is_write e ≡ false → IsComparingRefused a b e
-  pub untouched : is_write e ≡ false → new ≡ old
-  pub cut_off : is_write e ≡ true → IsDiffCutOff a b old new e
+-- what a refusal is, and what it leaves of the device
+abbrev pub IsDiffRefused : InputView → InputView → Device → Device → RunFault → Type 0
+IsDiffRefused a b = IsCommandRefused (IsComparingRefused a b) (IsDiffCutOff a b)

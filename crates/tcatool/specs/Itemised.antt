@@ -1,11 +1,15 @@
 -- What the items of a list come to, by account, colour and period.
-use Rattle.std.specs.Prelude.{ℕ, ◌==◌, Bool, false, ◌&&◌, List, length, filter, find, slice_index, sum_by, Option, Some, None}
+use Rattle.std.specs.Prelude.{◌≡◌, ℕ, ◌==◌, Bool, false, ◌&&◌, List, length, filter, find, slice_index, slice_get, sum_by, Option, Some, None}
 use Rattle.tca_meters.specs.declared.colour.Colour.{Colour}
 use Rattle.tca_meters.specs.Colours.{colour_number}
+use Rattle.tca_report.specs.report.Reports.{PacketReport}
+use Rattle.tca_accounts.specs.Bills.{bill_of}
 use Rattle.tca_accounts.specs.Metering.{no_sums}
+use Rattle.tca_accounts.specs.Plans.{AccountPlan}
 use Rattle.tca_accounts.specs.Spans.{period_of}
 use Rattle.tca_accounts.specs.Sums.{ColourSums}
 use Rattle.tca_accounts.specs.declared.span.Span.{Span}
+use Rattle.tca_accounts.specs.declared.tally.Tally.{Tally}
 use Rattle.tcatool.specs.declared.item.Item.{Item}
 use Rattle.tcatool.specs.declared.item.Share.{Share}
 
@@ -45,3 +49,7 @@ sums_of_span (Some span) = span.sums
 -- the sums of a period, by the spans of a bill
 abbrev pub sums_in : ℕ → List Span → ColourSums
 sums_in index spans = sums_of_span (find (λ s. s.index == index) spans)
+
+-- what the bill of a set under a plan has of an account
+abbrev pub IsTallyOf : AccountPlan → List PacketReport → ℕ → Tally → Type 0
+IsTallyOf plan rs n t = slice_get (bill_of plan rs).accounts n ≡ Some t

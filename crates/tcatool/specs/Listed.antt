@@ -12,12 +12,14 @@ use Rattle.tca_accounts.specs.Plans.{AccountPlan, PlannedAccount, account_of}
 use Rattle.tca_accounts.specs.Bills.{coloured_in, reports_of}
 use Rattle.tca_program.specs.declared.fault.RunFault.{RunFault}
 use Rattle.tca_program.specs.Devices.{Device, IsCutOff, Receives}
-use Rattle.tca_program.specs.Planned.{IsPlanOf, IsPlannedRefused}
-use Rattle.tca_program.specs.Runs.{IsUnion, IsUnitingRefused, is_write, united, write_refusal}
+use Rattle.tca_program.specs.Planned.{IsPlannedRefused}
+use Rattle.tca_program.specs.Outcomes.{IsCommandRefused}
+use Rattle.tca_program.specs.Unions.{IsUnion, IsUnitingRefused, united}
 use Rattle.tcatool.specs.Csv.{csv_line, csv_text}
 use Rattle.tcatool.specs.ReportLines.{report_fields}
 use Rattle.tcatool.specs.declared.item.Item.{Item}
 use Rattle.tcatool.specs.declared.item.Share.{Share}
+use Rattle.tca_program.specs.Planned.{IsPlanOf}
 
 -- whether a report of a set is one that no other disputes
 abbrev pub is_settled : List PacketReport → PacketReport → Bool
@@ -112,9 +114,8 @@ pub record IsListDone (plan : Option (List ℕ)) (inputs : List InputView) (old 
   pub listed : IsListed plan inputs under items
   pub written : Receives (list_text under items) old new
 
--- A write failed, and of the lines only a part went out.
-pub record IsListCutOff (plan : Option (List ℕ)) (inputs : List InputView) (old new : Device) (e : RunFault) : Type 0 where
-  pub fault : e ≡ write_refusal
+-- Of the lines only a part went out.
+pub record IsListCutOff (plan : Option (List ℕ)) (inputs : List InputView) (old new : Device) : Type 0 where
   pub under : Option AccountPlan
   pub items : List Item
   pub listed : IsListed plan inputs under items
@@ -125,8 +126,6 @@ abbrev pub IsListingRefused : Option (List ℕ) → List InputView → RunFault 
 IsListingRefused None inputs e = IsUnitingRefused inputs e
 IsListingRefused (Some text) inputs e = IsPlannedRefused text inputs e
 
--- What a refusal is, and what it leaves of the device: as it was, unless a write failed.
-pub record IsListRefused (plan : Option (List ℕ)) (inputs : List InputView) (old new : Device) (e : RunFault) : Type 0 where
-  pub unlisted : is_write e ≡ false → IsListingRefused plan inputs e
-  pub untouched : is_write e ≡ false → new ≡ old
-  pub cut_off : is_write e ≡ true → IsListCutOff plan inputs old new e
+-- what a refusal is, and what it leaves of the device
+abbrev pub IsListRefused : Option (List ℕ) → List InputView → Device → Device → RunFault → Type 0
+IsListRefused plan inputs = IsCommandRefused (IsListingRefused plan inputs) (IsListCutOff plan inputs)

@@ -1,5 +1,5 @@
 -- What the command `pairs` writes, and what it is refused for.
-use Rattle.std.specs.Prelude.{◌≡◌, ℕ, ◌≤◌, ◌==◌, Bool, true, false, ◌&&◌, List, [], ◌∷◌, length, filter, map, codes, sum_by, Ok}
+use Rattle.std.specs.Prelude.{◌≡◌, ℕ, ◌≤◌, ◌==◌, Bool, ◌&&◌, List, [], ◌∷◌, length, filter, map, codes, sum_by, Ok}
 use Rattle.std.specs.List.{AllByRecursion, Contains}
 use Rattle.std.specs.Fmt.{decimal}
 use Rattle.std.specs.Ordering.{nat_cmp, ordering_then}
@@ -10,7 +10,8 @@ use Rattle.tca_report.specs.input.Inputs.{InputView}
 use Rattle.tca_log.specs.Disputes.{undisputed}
 use Rattle.tca_program.specs.declared.fault.RunFault.{RunFault}
 use Rattle.tca_program.specs.Devices.{Device, IsCutOff, Receives}
-use Rattle.tca_program.specs.Runs.{IsUnion, IsUnitingRefused, is_write, united, write_refusal}
+use Rattle.tca_program.specs.Outcomes.{IsCommandRefused}
+use Rattle.tca_program.specs.Unions.{IsUnion, IsUnitingRefused, united}
 use Rattle.tcatool.specs.Csv.{csv_line, csv_text}
 use Rattle.tcatool.specs.declared.pairs.Pair.{Pair}
 use Rattle.tcatool.specs.declared.pairs.PairUsage.{PairUsage}
@@ -83,16 +84,12 @@ pub record IsPairsDone (inputs : List InputView) (old new : Device) : Type 0 whe
   pub paired : IsPaired inputs usages
   pub written : Receives (pairs_text usages) old new
 
--- A write failed, and of the lines only a part went out.
-pub record IsPairsCutOff (inputs : List InputView) (old new : Device) (e : RunFault) : Type 0 where
-  pub fault : e ≡ write_refusal
+-- Of the lines only a part went out.
+pub record IsPairsCutOff (inputs : List InputView) (old new : Device) : Type 0 where
   pub usages : List PairUsage
   pub paired : IsPaired inputs usages
   pub part : IsCutOff (pairs_text usages) old new
 
--- What a refusal is, and what it leaves of the device: the first that is due, in the inputs' order, and the device as it was, unless a
--- write failed.
-pub record IsPairsRefused (inputs : List InputView) (old new : Device) (e : RunFault) : Type 0 where
-  pub ununited : is_write e ≡ false → IsUnitingRefused inputs e
-  pub untouched : is_write e ≡ false → new ≡ old
-  pub cut_off : is_write e ≡ true → IsPairsCutOff inputs old new e
+-- what a refusal is, and what it leaves of the device
+abbrev pub IsPairsRefused : List InputView → Device → Device → RunFault → Type 0
+IsPairsRefused inputs = IsCommandRefused (IsUnitingRefused inputs) (IsPairsCutOff inputs)

@@ -12,7 +12,7 @@ use Rattle.tca_split.specs.declared.splitting.Parts.{Parts}
 use Rattle.tca_program.specs.declared.fault.RunFault.{RunFault}
 use Rattle.tca_program.specs.declared.fault.Family.TheVariants as family
 use Rattle.tca_program.specs.Devices.{Device, IsCutOff, Receives}
-use Rattle.tca_program.specs.Runs.{memory_refusal, refusal, write_refusal}
+use Rattle.tca_program.specs.Unions.{memory_refusal, refusal, write_refusal}
 
 -- The refusal by a fault of splitting: the capture, which is input 0, is blamed for what it holds and for how it is read. A capture that
 -- changed is one that can't be read.

@@ -6,7 +6,8 @@ use Rattle.tca_figures.specs.Lines.{IsTextOf}
 use Rattle.tca_figures.specs.Reading.{IsFirstFault}
 use Rattle.tca_figures.specs.declared.fault.StatementFault.{StatementFault}
 use Rattle.tca_program.specs.Devices.{Device, IsCutOff, Receives}
-use Rattle.tca_program.specs.Runs.{memory_refusal, refusal, write_refusal}
+use Rattle.tca_program.specs.Outcomes.{IsCommandRefused}
+use Rattle.tca_program.specs.Unions.{memory_refusal, refusal}
 use Rattle.tca_program.specs.declared.fault.Family.TheVariants as family
 use Rattle.tca_program.specs.declared.fault.RunFault.{RunFault}
 
@@ -34,18 +35,21 @@ pub record IsTooLarge (octets : List ℕ) (e : RunFault) : Type 0 where
   pub read : IsTextOf octets stated
   pub is : e ≡ memory_refusal
 
--- the octets are those of a statement; a write failed, and of a text of it only a part went out
-pub record IsToldInPart (text : Stated → List ℕ → Type 0) (octets : List ℕ) (old new : Device) (e : RunFault) : Type 0 where
+-- the octets are those of a statement, and of a text of it only a part went out
+pub record IsToldInPart (text : Stated → List ℕ → Type 0) (octets : List ℕ) (old new : Device) : Type 0 where
   pub stated : Stated
   pub read : IsTextOf octets stated
   pub told : List ℕ
   pub text_is : text stated told
   pub part : IsCutOff told old new
-  pub is : e ≡ write_refusal
 
--- what a refusal is, and what it leaves of the device: as it was, unless a write failed
+-- why there is no text to write
+abbrev pub HasNoText : List ℕ → RunFault → Type 0
+HasNoText octets e = IsUnread 0 octets e ⊎ IsTooLarge octets e
+
+-- what a refusal is, and what it leaves of the device
 abbrev pub IsUntold : (Stated → List ℕ → Type 0) → List ℕ → Device → Device → RunFault → Type 0
-IsUntold text octets old new e = (IsUnread 0 octets e × (new ≡ old)) ⊎ ((IsTooLarge octets e × (new ≡ old)) ⊎ IsToldInPart text octets old new e)
+IsUntold text octets = IsCommandRefused (HasNoText octets) (IsToldInPart text octets)
 
 -- any text at all
 abbrev pub IsAnyText : Stated → List ℕ → Type 0

@@ -7,10 +7,10 @@ ghost use Rattle.tca_program.specs.Devices.{device};
 ghost use Rattle.tcatool.specs.Added.{IsAddDone, IsAddRefused, IsFirstUnfit, texts_of};
 ghost use Rattle.tcatool.specs.Told.{statement_refusal};
 
-use crate::told::{put_text, read_figures, statement_refusal};
+use crate::told::{read_figures, statement_refusal};
 use std::alloc::Global;
 use tca_figures::{Figures, add};
-use tca_program::RunFault;
+use tca_program::{RunFault, put_text};
 use tca_report::Write;
 
 // A sum with a statement by its number.

@@ -149,8 +149,12 @@ fn told_apart(
     Ok((rows, counts))
 }
 
-// The rows that go out, and how many reports there are of each kind.
-fn made(alloc: Global, a: &Input, b: &Input) -> Result<(Vec<LoneReport>, Differences), RunFault>
+// The reports that just one input has, and how many there are of each kind.
+fn difference_of(
+    alloc: Global,
+    a: &Input,
+    b: &Input,
+) -> Result<(Vec<LoneReport>, Differences), RunFault>
     ensures told { IfOk result (λ x. IsDifference (input_view a.now) (input_view b.now) x.0.items x.1) }
     ensures refused { IfErr result (IsComparingRefused (input_view a.now) (input_view b.now)) }
 {
@@ -177,7 +181,7 @@ pub fn run_diff<W: Write>(
     ensures refused { IfErr result (IsDiffRefused (input_view a.now) (input_view b.now)
         (device W.written W.failures out.old) (device W.written W.failures out.new)) }
 {
-    let (rows, differences) = made(alloc, a, b)?;
+    let (rows, differences) = difference_of(alloc, a, b)?;
     put_rows(HEADER, &(), &rows, out)?;
     Ok(differences)
 }

@@ -5,11 +5,11 @@ ghost use Rattle.tcatool.specs.Json.{IsJson};
 ghost use Rattle.tcatool.specs.Told.{IsTold, IsUntold};
 
 use crate::moment::moment_text;
-use crate::told::{put_text, read_figures};
+use crate::told::read_figures;
 use std::alloc::Global;
 use std::fmt;
 use tca_figures::{AccountFigures, ColourFigures, Figure, Figures, SpanFigures};
-use tca_program::RunFault;
+use tca_program::{RunFault, put_text};
 use tca_report::Write;
 
 // Octets and packets.

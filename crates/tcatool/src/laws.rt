@@ -1,14 +1,13 @@
 //! What a difference of two sets comes to, and what the items of a list do.
-ghost use Rattle.std.specs.Prelude.{◌≡◌, ℕ, ◌+◌, ◌&&◌, ◌||◌, List, [], Some, length, map, not, slice_get};
+ghost use Rattle.std.specs.Prelude.{◌≡◌, ℕ, ◌+◌, ◌&&◌, ◌||◌, List, [], length, map, not};
 ghost use Rattle.std.specs.List.Sorted.{IsStrictlySortedBy};
 ghost use Rattle.tca_join.specs.Sets.{has};
 ghost use Rattle.tca_report.specs.report.Reports.{PacketReport, report_cmp};
 ghost use Rattle.tca_meters.specs.declared.colour.Colour.{Colour};
 ghost use Rattle.tca_accounts.specs.Plans.{AccountPlan};
-ghost use Rattle.tca_accounts.specs.Bills.{bill_of};
 ghost use Rattle.tca_accounts.specs.declared.tally.Tally.{Tally};
 ghost use Rattle.tcatool.specs.Diffed.{both_sets, lone, only_first, only_second, shared};
-ghost use Rattle.tcatool.specs.Itemised.{billed_octets, billed_packets, item_octets, item_packets, items_in, sums_in};
+ghost use Rattle.tcatool.specs.Itemised.{IsTallyOf, billed_octets, billed_packets, item_octets, item_packets, items_in, sums_in};
 ghost use Rattle.tcatool.specs.Listed.{AreItemsUnder};
 ghost use Rattle.tcatool.specs.declared.item.Item.{Item};
 
@@ -31,15 +30,15 @@ pub fn a_difference_is_a_partition()
 pub fn items_add_up_to_the_bill()
     ensures lines { (plan : AccountPlan) (rs : List PacketReport) (items : List Item) → AreItemsUnder plan rs items → map (λ i. i.report) items ≡ rs }
     ensures octets { (plan : AccountPlan) (rs : List PacketReport) (items : List Item) → AreItemsUnder plan rs items
-        → (n : ℕ) (t : Tally) → slice_get (bill_of plan rs).accounts n ≡ Some t
+        → (n : ℕ) (t : Tally) → IsTallyOf plan rs n t
         → (c : Colour) → item_octets n c items ≡ billed_octets c t.total }
     ensures packets { (plan : AccountPlan) (rs : List PacketReport) (items : List Item) → AreItemsUnder plan rs items
-        → (n : ℕ) (t : Tally) → slice_get (bill_of plan rs).accounts n ≡ Some t
+        → (n : ℕ) (t : Tally) → IsTallyOf plan rs n t
         → (c : Colour) → item_packets n c items ≡ billed_packets c t.total }
     ensures period_octets { (plan : AccountPlan) (rs : List PacketReport) (items : List Item) → AreItemsUnder plan rs items
-        → (n : ℕ) (t : Tally) → slice_get (bill_of plan rs).accounts n ≡ Some t
+        → (n : ℕ) (t : Tally) → IsTallyOf plan rs n t
         → (c : Colour) (index : ℕ) → item_octets n c (items_in plan.period index items) ≡ billed_octets c (sums_in index t.spans) }
     ensures period_packets { (plan : AccountPlan) (rs : List PacketReport) (items : List Item) → AreItemsUnder plan rs items
-        → (n : ℕ) (t : Tally) → slice_get (bill_of plan rs).accounts n ≡ Some t
+        → (n : ℕ) (t : Tally) → IsTallyOf plan rs n t
         → (c : Colour) (index : ℕ) → item_packets n c (items_in plan.period index items) ≡ billed_packets c (sums_in index t.spans) }
 {}

@@ -1,7 +1,7 @@
 //! The command `list`.
 ghost use Rattle.std.specs.Prelude.{◌≡◌, ◌<◌, ◌^◌, None, Some, OnOk, IfOk, IfErr, length};
 ghost use Rattle.tca_program.specs.Devices.{device};
-ghost use Rattle.tca_program.specs.Runs.{views_of};
+ghost use Rattle.tca_program.specs.Unions.{views_of};
 ghost use Rattle.tcatool.specs.Listed.{IsListDone, IsListRefused, IsListed, IsListingRefused, text_given};
 
 use crate::item::{Item, items_of};
@@ -41,8 +41,8 @@ fn items_planned(
     Ok((plan, items))
 }
 
-// The plan, where one is given, and the items that go out.
-fn made(
+// The plan, where one is given, and the items of the inputs' union.
+fn union_items(
     alloc: Global,
     plan: Option<&[u8]>,
     inputs: &[Input],
@@ -80,7 +80,7 @@ pub fn run_list<W: Write>(
     ensures refused { IfErr result (IsListRefused (text_given plan.entry) (views_of inputs.now)
         (device W.written W.failures out.old) (device W.written W.failures out.new)) }
 {
-    let (plan, items) = made(alloc, plan, inputs)?;
+    let (plan, items) = union_items(alloc, plan, inputs)?;
     put_rows(HEADER, &plan, &items, out)?;
     Ok(())
 }

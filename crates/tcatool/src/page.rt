@@ -13,13 +13,13 @@ mod number;
 mod picture;
 mod scale;
 
-use crate::told::{put_text, read_figures};
+use crate::told::read_figures;
 use account::Account;
 use head::{Counts, HEAD};
 use std::alloc::Global;
 use std::fmt;
 use tca_figures::Figures;
-use tca_program::RunFault;
+use tca_program::{RunFault, put_text};
 use tca_report::Write;
 
 // A statement as a page.

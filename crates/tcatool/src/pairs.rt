@@ -5,7 +5,7 @@ ghost use Rattle.tca_join.specs.Sets.{has};
 ghost use Rattle.tca_log.specs.Disputes.{undisputed};
 ghost use Rattle.tca_report.specs.report.Reports.{report_cmp};
 ghost use Rattle.tca_program.specs.Devices.{device};
-ghost use Rattle.tca_program.specs.Runs.{IsUnitingRefused, views_of};
+ghost use Rattle.tca_program.specs.Unions.{IsUnitingRefused, views_of};
 ghost use Rattle.tcatool.specs.Paired.{AreUsages, IsPaired, IsPairsDone, IsPairsRefused, pair_cmp, pair_line, pair_of, pairs_of};
 ghost use Rattle.tcatool.specs.inside.Pairing.{usage_so_far};
 
@@ -190,8 +190,8 @@ fn usages_of(alloc: Global, log: &Log) -> Result<Vec<PairUsage>, AllocError>
     Ok(usages)
 }
 
-// The usages that go out.
-fn made(alloc: Global, inputs: &[Input]) -> Result<Vec<PairUsage>, RunFault>
+// The usages of the pairs of the inputs' union.
+fn union_usages(alloc: Global, inputs: &[Input]) -> Result<Vec<PairUsage>, RunFault>
     requires { length inputs.now < 2 ^ 32 }
     ensures paired { IfOk result (λ usages. IsPaired (views_of inputs.now) usages.items) }
     ensures refused { IfErr result (IsUnitingRefused (views_of inputs.now)) }
@@ -213,7 +213,7 @@ pub fn run_pairs<W: Write>(alloc: Global, inputs: &[Input], out: &mut W) -> Resu
     ensures refused { IfErr result (IsPairsRefused (views_of inputs.now)
         (device W.written W.failures out.old) (device W.written W.failures out.new)) }
 {
-    let rows = made(alloc, inputs)?;
+    let rows = union_usages(alloc, inputs)?;
     put_rows(HEADER, &(), &rows, out)?;
     Ok(())
 }

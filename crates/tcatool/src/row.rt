@@ -2,7 +2,7 @@
 ghost use Rattle.std.specs.Prelude.{◌≡◌, ◌≤◌, ◌+◌, ◌++◌, ℕ, List, OnOk, IfErr, length};
 ghost use Rattle.arrayvec.specs.ArrayVec.{array_vec_len};
 ghost use Rattle.tca_program.specs.Devices.{IsCutOff, Receives, device};
-ghost use Rattle.tca_program.specs.Runs.{write_refusal};
+ghost use Rattle.tca_program.specs.Unions.{write_refusal};
 ghost use Rattle.tcatool.specs.Csv.{csv_text};
 
 use crate::cell::{Buffer, append};

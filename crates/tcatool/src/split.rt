@@ -6,7 +6,7 @@ ghost use Rattle.tca_split.specs.Surveys.{IsRight};
 ghost use Rattle.tca_split.specs.Wants.{WantsMemory};
 ghost use Rattle.tca_program.specs.declared.fault.Family.TheVariants as family;
 ghost use Rattle.tca_program.specs.Devices.{IsCutOff, Receives, device};
-ghost use Rattle.tca_program.specs.Runs.{memory_refusal, refusal, write_refusal};
+ghost use Rattle.tca_program.specs.Unions.{memory_refusal, refusal, write_refusal};
 ghost use Rattle.tcatool.specs.Splitting.{IsFilesRefused, IsPartsPrinted, IsSplitDone, IsSplitRefused, WhereKnown, parts_text, place, split_refusal};
 
 use crate::cell::{Buffer, append};

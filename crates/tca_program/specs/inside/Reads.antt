@@ -4,7 +4,7 @@ use Rattle.tca_report.specs.Faults.{read_number}
 use Rattle.tca_report.specs.declared.device.octets.ReadFault.{ReadFault}
 use Rattle.tca_program.specs.declared.fault.RunFault.{RunFault}
 use Rattle.tca_program.specs.declared.fault.Family.TheVariants as family
-use Rattle.tca_program.specs.Runs.{memory_refusal, refusal}
+use Rattle.tca_program.specs.Unions.{memory_refusal, refusal}
 
 -- the refusal of a file that can't be opened or read: that of an input with its number, or of a plan, which is no input
 abbrev pub IsFileRefused : Option ℕ → RunFault → Type 0

@@ -3,7 +3,7 @@ use Rattle.std.proofs.Common.{◌≡◌, ◌∙◌, ◌++◌, ◌≤◌, Ok, Err
 use Rattle.tca_join.specs.Sets.{in_order}
 use Rattle.tca_report.specs.report.Reports.{report_cmp}
 use Rattle.tca_report.specs.input.Inputs.{input_view, read_input}
-use Rattle.tca_program.specs.Runs.{with_input, with_reports}
+use Rattle.tca_program.specs.Unions.{with_input, with_reports}
 use Rattle.tca_program.proofs.InputLaws.{memory_of_gather, refused_as, gathered_ok}
 use Rattle.tca_program.proofs.inputs.add_input.Goals as goal
 

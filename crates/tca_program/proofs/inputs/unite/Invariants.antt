@@ -2,7 +2,7 @@ use Rattle.std.proofs.Common.{◌≡◌, List, [], map, take, drop, Ok}
 use Rattle.std.specs.List.Sorted.{IsStrictlySortedBy}
 use Rattle.tca_report.specs.report.Reports.{PacketReport, report_cmp}
 use Rattle.tca_report.specs.input.Inputs.{input_view}
-use Rattle.tca_program.specs.Runs.{united_from}
+use Rattle.tca_program.specs.Unions.{united_from}
 use Rattle.tca_program.proofs.UnionLaws.{IsUnionWith}
 use Rattle.tca_program.proofs.NotedLaws.{Completed}
 use Rattle.tca_program.proofs.inputs.unite.Given as goal

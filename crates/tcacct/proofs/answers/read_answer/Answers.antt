@@ -5,7 +5,7 @@ use Rattle.tca_ingest.specs.Entries.{Took}
 use Rattle.tca_ingest.specs.Works.{IsResult}
 use Rattle.tca_ingest.specs.declared.job.JobFault.TheVariants as job
 use Rattle.tcacct.specs.Replicated.{AnswerView}
-use Rattle.tca_program.specs.Runs.{HoldsReports}
+use Rattle.tca_program.specs.Unions.{HoldsReports}
 use Rattle.tcacct.proofs.ReadLaws.{holds_if_taken, noted_if_taken, own_fault, read_of}
 use Rattle.tcacct.proofs.answers.read_answer.Goals as goal
 

@@ -46,23 +46,23 @@ returns-in_err-copy-clause-right g c = grind (arith, common_steps)
 pub returns-in_err-copy-clause-refused : goal.returns-in_err-copy-clause-refused
 returns-in_err-copy-clause-refused g c = grind (arith, common_steps)
 
-pub read_by-requires-clause-name : goal.read_by-requires-clause-name
-read_by-requires-clause-name g c κs within = grind (arith, common_steps)
+pub read_and_close-requires-clause-name : goal.read_and_close-requires-clause-name
+read_and_close-requires-clause-name g c κs within = grind (arith, common_steps)
 
-pub read_by-requires-clause-parts : goal.read_by-requires-clause-parts
-read_by-requires-clause-parts g c κs within = grind (arith, common_steps)
+pub read_and_close-requires-clause-parts : goal.read_and_close-requires-clause-parts
+read_and_close-requires-clause-parts g c κs within = grind (arith, common_steps)
 
-pub read_by-requires-clause-called : goal.read_by-requires-clause-called
-read_by-requires-clause-called g c κs within = grind (arith, common_steps)
+pub read_and_close-requires-clause-called : goal.read_and_close-requires-clause-called
+read_and_close-requires-clause-called g c κs within = grind (arith, common_steps)
 
-pub read_by-requires-clause-plan : goal.read_by-requires-clause-plan
-read_by-requires-clause-plan g c κs within = grind (arith, common_steps)
+pub read_and_close-requires-clause-plan : goal.read_and_close-requires-clause-plan
+read_and_close-requires-clause-plan g c κs within = grind (arith, common_steps)
 
-pub read_by-requires-clause-above : goal.read_by-requires-clause-above
-read_by-requires-clause-above g c κs within = grind (arith, common_steps)
+pub read_and_close-requires-clause-above : goal.read_and_close-requires-clause-above
+read_and_close-requires-clause-above g c κs within = grind (arith, common_steps)
 
-pub read_by-requires-clause-limits : goal.read_by-requires-clause-limits
-read_by-requires-clause-limits g c κs within = grind (arith, common_steps)
+pub read_and_close-requires-clause-limits : goal.read_and_close-requires-clause-limits
+read_and_close-requires-clause-limits g c κs within = grind (arith, common_steps)
 
 pub returns-in_err-other-clause-many : goal.returns-in_err-other-clause-many
 returns-in_err-other-clause-many g c = grind (arith, common_steps)

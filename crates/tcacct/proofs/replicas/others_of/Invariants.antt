@@ -7,8 +7,8 @@ use Rattle.tcacct.proofs.replicas.others_of.Given as goal
 abbrev pub invariant-loop-name : goal.invariant-loop-name
 invariant-loop-name g l = record { many : length l.others.items + 2 ≡ l.name; names : names_of l.others.items ≡ range_with_len 2 (length l.others.items); right : All (HasRightJournal l.plan) l.others.items }
 
-abbrev pub ghosts-read_by-L-Ledger : goal.ghosts-read_by-L-Ledger
-ghosts-read_by-L-Ledger g a = record { name = a.blank.name; parts = a.blank.parts }
+abbrev pub ghosts-read_and_close-L-Ledger : goal.ghosts-read_and_close-L-Ledger
+ghosts-read_and_close-L-Ledger g a = record { name = a.blank.name; parts = a.blank.parts }
 
-abbrev pub ghosts-read_by-L-Side : goal.ghosts-read_by-L-Side
-ghosts-read_by-L-Side g a = record { plan = a.plan; called = a.name }
+abbrev pub ghosts-read_and_close-L-Side : goal.ghosts-read_and_close-L-Side
+ghosts-read_and_close-L-Side g a = record { plan = a.plan; called = a.name }

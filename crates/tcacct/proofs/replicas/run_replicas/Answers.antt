@@ -11,12 +11,12 @@ use Rattle.tcacct.proofs.replicas.run_replicas.Goals as goal
 pub returns-in_err-first-clause-refused : goal.returns-in_err-first-clause-refused
 returns-in_err-first-clause-refused g c =
     let is : c.from_residual-in_err-first.result ≡ Err c.in_err-first.field-0.0 = search rules in
-    rw is (inr (inr (all_sound _ _ c.in_ok-contents.ensures.read.noted, c.in_err-first.ensures.refused)))
+    rw is (inr (inr (all_sound _ _ c.in_ok-readings.ensures.read.noted, c.in_err-first.ensures.refused)))
 
 pub returns-in_err-all-clause-refused : goal.returns-in_err-all-clause-refused
 returns-in_err-all-clause-refused g c =
     let is : c.from_residual-in_err-all.result ≡ Err c.in_err-all.field-0.0 = search rules in
-    rw is (inr (inr (all_sound _ _ c.in_ok-contents.ensures.read.noted, c.in_err-all.ensures.refused)))
+    rw is (inr (inr (all_sound _ _ c.in_ok-readings.ensures.read.noted, c.in_err-all.ensures.refused)))
 
 pub returns-clause-joined : goal.returns-clause-joined
 returns-clause-joined g c =
@@ -70,8 +70,8 @@ returns-in_err-shared-clause-read g c = grind (arith, common_steps)
 pub returns-in_err-shared-clause-refused : goal.returns-in_err-shared-clause-refused
 returns-in_err-shared-clause-refused g c = grind (arith, common_steps)
 
-pub worked-requires-after_bounds : goal.worked-requires-after_bounds
-worked-requires-after_bounds g c κs within = grind (arith, common_steps)
+pub read_share-requires-after_bounds : goal.read_share-requires-after_bounds
+read_share-requires-after_bounds g c κs within = grind (arith, common_steps)
 
 pub returns-in_err-passes-clause-joined : goal.returns-in_err-passes-clause-joined
 returns-in_err-passes-clause-joined g c = grind (arith, common_steps)
@@ -94,17 +94,17 @@ returns-in_err-others-clause-read g c = grind (arith, common_steps)
 pub returns-in_err-others-clause-refused : goal.returns-in_err-others-clause-refused
 returns-in_err-others-clause-refused g c = grind (arith, common_steps)
 
-pub contents_of-requires : goal.contents_of-requires
-contents_of-requires g c = grind (arith, common_steps)
+pub readings_of-requires : goal.readings_of-requires
+readings_of-requires g c = grind (arith, common_steps)
 
-pub returns-in_err-contents-clause-joined : goal.returns-in_err-contents-clause-joined
-returns-in_err-contents-clause-joined g c = grind (arith, common_steps)
+pub returns-in_err-readings-clause-joined : goal.returns-in_err-readings-clause-joined
+returns-in_err-readings-clause-joined g c = grind (arith, common_steps)
 
-pub returns-in_err-contents-clause-read : goal.returns-in_err-contents-clause-read
-returns-in_err-contents-clause-read g c = grind (arith, common_steps)
+pub returns-in_err-readings-clause-read : goal.returns-in_err-readings-clause-read
+returns-in_err-readings-clause-read g c = grind (arith, common_steps)
 
-pub returns-in_err-contents-clause-refused : goal.returns-in_err-contents-clause-refused
-returns-in_err-contents-clause-refused g c = grind (arith, common_steps)
+pub returns-in_err-readings-clause-refused : goal.returns-in_err-readings-clause-refused
+returns-in_err-readings-clause-refused g c = grind (arith, common_steps)
 
 pub returns-in_err-first-clause-joined : goal.returns-in_err-first-clause-joined
 returns-in_err-first-clause-joined g c = grind (arith, common_steps)

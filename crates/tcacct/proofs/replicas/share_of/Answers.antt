@@ -5,7 +5,7 @@ use Rattle.std.proofs.Math.ListN.{drop_of_length-le}
 use Rattle.std.proofs.lemmas.List.{append-nil, map-append}
 use Rattle.tca_report.specs.input.Inputs.{InputView, input_view}
 use Rattle.tca_report.specs.declared.input.Input.{Input}
-use Rattle.tca_program.specs.Runs.{views_of}
+use Rattle.tca_program.specs.Unions.{views_of}
 use Rattle.tcacct.proofs.ShareLaws.{share_ends, share_is, share_skips, share_takes}
 use Rattle.tca_program.proofs.Uniting.{cut}
 use Rattle.tcacct.proofs.replicas.share_of.Goals.{then-n-divisor+in_ok-push, else-n-divisor}

@@ -1,6 +1,6 @@
 use Rattle.std.proofs.Common.{◌≡◌, ◌≤◌, ◌++◌, length, map, drop}
 use Rattle.tca_report.specs.input.Inputs.{input_view}
-use Rattle.tca_program.specs.Runs.{views_of}
+use Rattle.tca_program.specs.Unions.{views_of}
 use Rattle.tcacct.proofs.ShareLaws.{share_from}
 use Rattle.tcacct.proofs.replicas.share_of.Given as goal
 

@@ -2,7 +2,7 @@ use Rattle.std.proofs.Common.{◌≡◌, ◌∙◌, Some, Err, inl, refl, ap, sy
 use Rattle.tca_report.specs.declared.device.octets.ReadFault.TheVariants as read
 use Rattle.tca_split.specs.declared.fault.SplitFault.TheVariants.{Read}
 use Rattle.tca_program.specs.Devices.{device}
-use Rattle.tca_program.specs.Runs.{memory_refusal, refusal}
+use Rattle.tca_program.specs.Unions.{memory_refusal, refusal}
 use Rattle.tca_program.specs.declared.fault.Family.TheVariants as family
 use Rattle.tcatool.specs.Splitting.{place, split_refusal}
 use Rattle.tcatool.proofs.SplitEnds.{all_printed, failed_read, no_fault, not_write, one_of, only_memory, only_read, only_turns, part_printed, same_told}
