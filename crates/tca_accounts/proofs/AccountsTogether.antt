@@ -10,7 +10,7 @@ use Rattle.std.proofs.lemmas.List.Folds.{list_any-append}
 use Rattle.toml.specs.View.{items_view, view}
 use Rattle.toml.specs.declared.value.Value.{Value}
 use Rattle.toml.proofs.Views.{items_view-drop}
-use Rattle.tca_wire.specs.Results.{◌>>=◌}
+use Rattle.tca_join.specs.Results.{◌>>=◌}
 use Rattle.tca_accounts.specs.Plans.{PlannedAccount, all_pairs, owns, same_pair, all_differ}
 use Rattle.tca_accounts.specs.Documents.{account_in, accounts_from, only_if, pair_in, pairs_of}
 use Rattle.tca_accounts.specs.inside.Readings.{are_few, differ_before, names_differ, pairs_differ, together}

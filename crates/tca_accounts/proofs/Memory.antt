@@ -3,7 +3,7 @@ use Rattle.std.proofs.Common.{◌≢◌, ◌^◌, ◌+◌, ◌-◌, ℕ, suc, po
 use Rattle.std.specs.Result.{IfErr}
 use Rattle.std.specs.Str.{bytes_eq}
 use Rattle.toml.specs.Data.{Data, Items, Members, array, boolean, integer, item, no_items, string, table}
-use Rattle.tca_wire.specs.Results.{◌>>=◌}
+use Rattle.tca_join.specs.Results.{◌>>=◌}
 use Rattle.tca_meters.specs.declared.any_meter.AnyMeter.{AnyMeter}
 use Rattle.tca_meters.specs.declared.fault.MeterFault.{MeterFault}
 use Rattle.tca_accounts.specs.declared.key.Key.{Key}

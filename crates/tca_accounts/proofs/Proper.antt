@@ -3,7 +3,7 @@ use Rattle.std.proofs.Common.{◌≡◌, ◌<◌, ℕ, suc, Bool, true, false, L
 use Rattle.std.proofs.lemmas.Bool.Decides.{nat_tests}
 use Rattle.std.specs.List.{AllByRecursion}
 use Rattle.toml.specs.Data.{Data, Items, Members, item, no_items}
-use Rattle.tca_wire.specs.Results.{◌>>=◌}
+use Rattle.tca_join.specs.Results.{◌>>=◌}
 use Rattle.tca_accounts.specs.Plans.{PlannedAccount, is_name}
 use Rattle.tca_accounts.specs.declared.key.Key.TheVariants as key
 use Rattle.tca_accounts.specs.Documents.{account_in, accounts_from, at, count_items, has_only, items_of, keys_of, kind_in, members_of, meter_in, name_in, only_if, other_of, pair_in, pairs_in, pairs_of, termed_in, terms_in, text_of, truth_or_false}

@@ -6,7 +6,7 @@ use Rattle.toml.specs.Data.{Data, Items, integer, item, no_items}
 use Rattle.toml.specs.View.{items_view, view}
 use Rattle.toml.specs.declared.value.Value.{Value}
 use Rattle.toml.proofs.Views.{items_view-drop}
-use Rattle.tca_wire.specs.Results.{◌>>=◌}
+use Rattle.tca_join.specs.Results.{◌>>=◌}
 use Rattle.tca_meters.specs.declared.any_meter.AnyMeter.{AnyMeter}
 use Rattle.tca_report.specs.report.Reports.{time_end}
 use Rattle.tca_meters.specs.Termed.{TermedMeter, ascend_from, most_terms, termed}

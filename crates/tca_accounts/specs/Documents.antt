@@ -1,20 +1,21 @@
 -- The plan that a TOML document is, or its first fault.
-use Rattle.std.specs.Prelude.{ℕ, ◌^◌, ◌+◌, ◌-◌, suc, pos, Bool, true, false, ◌&&◌, List, [], ◌∷◌, length, Option, Some, None, Result, Ok, Err, codes, nat_le, if◌then◌else◌}
+use Rattle.std.specs.Prelude.{ℕ, ◌^◌, ◌+◌, ◌-◌, suc, pos, Bool, true, false, ◌&&◌, List, [], ◌∷◌, length, Option, Some, None, Result, Ok, Err, codes, nat_le, if◌then◌else◌, ◌≡◌, IsUtf8}
 use Rattle.std.specs.List.{list_any}
 use Rattle.std.specs.Str.{bytes_eq}
+use Rattle.toml.specs.Parse.{parse_document}
 use Rattle.toml.specs.Data.{Data, Items, Members, array, boolean, get_member, integer, item, member, no_items, no_members, string, table}
-use Rattle.tca_wire.specs.Results.{◌>>=◌}
+use Rattle.tca_join.specs.Results.{◌>>=◌}
 use Rattle.tca_meters.specs.declared.any_meter.AnyMeter.{AnyMeter}
 use Rattle.tca_meters.specs.declared.any_meter.AnyMeter.TheVariants.{SrTcm, TrTcm, Rfc4115}
 use Rattle.tca_meters.specs.declared.colour.Colour.{Colour}
 use Rattle.tca_meters.specs.declared.colour.Colour.TheVariants.{Green, Yellow, Red}
 use Rattle.tca_meters.specs.declared.fault.MeterFault.{MeterFault}
 use Rattle.tca_meters.specs.MeterSpecs.{as_any}
-use Rattle.tca_meters.specs.SrTcm.{single_rate}
-use Rattle.tca_meters.specs.TrTcm.{peak_rate}
-use Rattle.tca_meters.specs.Rfc4115.{excess_rate}
+use Rattle.tca_meters.specs.SrTcm.{srtcm_of}
+use Rattle.tca_meters.specs.TrTcm.{trtcm_of}
+use Rattle.tca_meters.specs.Rfc4115.{rfc4115_of}
 use Rattle.tca_meters.specs.Termed.{TermedMeter, most_terms}
-use Rattle.tca_accounts.specs.Plans.{AccountPlan, PlannedAccount, all_pairs, are_distinct, is_name, most_pairs}
+use Rattle.tca_accounts.specs.Plans.{AccountPlan, PlannedAccount, all_pairs, are_distinct, is_name, most_accounts, most_pairs}
 use Rattle.tca_accounts.specs.declared.key.Key.{Key}
 use Rattle.tca_accounts.specs.declared.key.Key.TheVariants as key
 use Rattle.tca_accounts.specs.declared.kind.Kind.{Kind}
@@ -133,37 +134,37 @@ abbrev pub number_in : Key → Members → Result ℕ PlanFault
 number_in k ms = whole_of k 0 (2 ^ 63 - 1) (at k ms)
 
 -- a meter of RFC 2697, or why there is none of these parameters
-abbrev pub single_rate_in : Bool → Members → Result (Result AnyMeter MeterFault) PlanFault
-single_rate_in aware ms = do
+abbrev pub srtcm_in : Bool → Members → Result (Result AnyMeter MeterFault) PlanFault
+srtcm_in aware ms = do
   cir ← number_in key.Cir ms
   cbs ← number_in key.Cbs ms
   ebs ← number_in key.Ebs ms
-  Ok (as_any SrTcm (single_rate cir cbs ebs aware))
+  Ok (as_any SrTcm (srtcm_of cir cbs ebs aware))
 
 -- a meter of RFC 2698, or why there is none of these parameters
-abbrev pub peak_rate_in : Bool → Members → Result (Result AnyMeter MeterFault) PlanFault
-peak_rate_in aware ms = do
+abbrev pub trtcm_in : Bool → Members → Result (Result AnyMeter MeterFault) PlanFault
+trtcm_in aware ms = do
   cir ← number_in key.Cir ms
   cbs ← number_in key.Cbs ms
   pir ← number_in key.Pir ms
   pbs ← number_in key.Pbs ms
-  Ok (as_any TrTcm (peak_rate pir pbs cir cbs aware))
+  Ok (as_any TrTcm (trtcm_of pir pbs cir cbs aware))
 
 -- a meter of RFC 4115, or why there is none of these parameters
-abbrev pub excess_rate_in : Bool → Members → Result (Result AnyMeter MeterFault) PlanFault
-excess_rate_in aware ms = do
+abbrev pub rfc4115_in : Bool → Members → Result (Result AnyMeter MeterFault) PlanFault
+rfc4115_in aware ms = do
   exact_fit ← truth_of key.ExactFit (at key.ExactFit ms)
   cir ← number_in key.Cir ms
   cbs ← number_in key.Cbs ms
   ebs ← number_in key.Ebs ms
   eir ← number_in key.Eir ms
-  Ok (as_any Rfc4115 (excess_rate cir cbs eir ebs exact_fit aware))
+  Ok (as_any Rfc4115 (rfc4115_of cir cbs eir ebs exact_fit aware))
 
 -- a meter of a kind, or why there is none of its parameters
 abbrev pub meter_in : Kind → Bool → Members → Result (Result AnyMeter MeterFault) PlanFault
-meter_in kind.SrTcm = single_rate_in
-meter_in kind.TrTcm = peak_rate_in
-meter_in kind.Rfc4115 = excess_rate_in
+meter_in kind.SrTcm = srtcm_in
+meter_in kind.TrTcm = trtcm_in
+meter_in kind.Rfc4115 = rfc4115_in
 
 -- the number of an observation domain or an interface
 abbrev pub part_of : Data → Result ℕ PlanFault
@@ -285,7 +286,7 @@ plan_of ms = do
   known ← only_if (has_only (key.Period ∷ key.Account ∷ []) ms) fault.UnknownKey
   period ← whole_of key.Period 1 (time_end - 1) (at key.Period ms)
   items ← items_of key.Account (at key.Account ms)
-  few ← only_if (nat_le 1 (count_items items) && nat_le (count_items items) 256) fault.Limits
+  few ← only_if (nat_le 1 (count_items items) && nat_le (count_items items) most_accounts) fault.Limits
   accounts ← accounts_from 0 items
   plan_with period accounts
 
@@ -293,3 +294,8 @@ plan_of ms = do
 abbrev pub plan_in : Option Members → Result AccountPlan PlanFault
 plan_in None = Err fault.Syntax
 plan_in (Some ms) = plan_of ms
+
+-- A text is this plan.
+pub record IsPlanOf (text : List ℕ) (plan : AccountPlan) : Type 0 where
+  pub utf8 : IsUtf8 text
+  pub named : plan_in (parse_document text) ≡ Ok plan

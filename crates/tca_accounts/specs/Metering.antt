@@ -2,7 +2,7 @@
 -- `metered_with`, and what it is made of; the rest serves private functions and their proofs alone.
 use Rattle.std.specs.Prelude.{◌≡◌, ℕ, ◌/◌, ◌==◌, if◌then◌else◌, ◌<◌, ◌≤◌, List, [], ◌∷◌, ◌++◌, length, filter, get_or, slice_index, Option, Some, None, IfSome, MatchOption}
 use Rattle.std.specs.List.{AllByRecursion}
-use Rattle.tca_report.specs.report.Reports.{PacketReport}
+use Rattle.tca_report.specs.report.Reports.{PacketReport, most_reports}
 use Rattle.tca_meters.specs.declared.colour.Colour.{Colour}
 use Rattle.tca_meters.specs.Colours.{colour_number}
 use Rattle.tca_meters.specs.Packets.{Rule, answer, coloured}
@@ -15,7 +15,6 @@ use Rattle.tca_accounts.specs.declared.metered.Metered.{Metered}
 use Rattle.tca_accounts.specs.declared.running.Running.{Running}
 use Rattle.tca_accounts.specs.declared.span.Span.{Span}
 use Rattle.tca_accounts.specs.declared.tally.Tally.{Tally}
-use Rattle.tca_report.specs.export.Spelling.{most_reports}
 
 -- the sums of no packets
 abbrev pub no_sums : ColourSums

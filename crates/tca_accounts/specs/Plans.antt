@@ -19,7 +19,10 @@ pub record AccountPlan : Type 0 where
   pub period : ℕ
   pub accounts : List PlannedAccount
 
--- the most pairs of all accounts
+-- the most accounts, and the most pairs of all of them
+abbrev pub most_accounts : ℕ
+most_accounts = 256
+
 abbrev pub most_pairs : ℕ
 most_pairs = 4096
 
@@ -66,7 +69,7 @@ pub record IsPlan (plan : AccountPlan) : Type 0 where
   pub some_time : 0 < plan.period
   pub time : plan.period < time_end
   pub some : 0 < length plan.accounts
-  pub few : length plan.accounts ≤ 256
+  pub few : length plan.accounts ≤ most_accounts
   pub pairs : length (all_pairs plan.accounts) ≤ most_pairs
   pub named : AllByRecursion (λ a. is_name a.name ≡ true) plan.accounts
   pub owning : AllByRecursion (λ a. 0 < length a.pairs) plan.accounts

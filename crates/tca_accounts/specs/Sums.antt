@@ -1,12 +1,11 @@
 -- The octets and the packets of each colour.
 use Rattle.std.specs.Prelude.{ℕ, ◌+◌, ◌≤◌, ◌*◌, ◌==◌, ◌≡◌, List, [], ◌∷◌, length, sum_by, count_by, slice_index, set, if◌then◌else◌}
-use Rattle.tca_report.specs.report.Reports.{PacketReport, most_octets}
+use Rattle.tca_report.specs.report.Reports.{PacketReport, most_octets, most_reports}
 use Rattle.tca_meters.specs.declared.colour.Colour.{Colour}
 use Rattle.tca_meters.specs.declared.colour.Colour.TheVariants.{Green, Yellow, Red}
 use Rattle.tca_meters.specs.Colours.{colour_number}
 use Rattle.tca_meters.specs.CodePoints.{precolour}
 use Rattle.tca_meters.specs.Packets.{Packet}
-use Rattle.tca_report.specs.export.Spelling.{most_reports}
 
 -- what a meter sees of a report: its time, its octets, and as the colour that it had the one of its code point, or `other` where
 -- that has none

@@ -2,7 +2,7 @@
 ghost use Rattle.std.specs.Prelude.{◌≡◌, IfOk, IsOk};
 ghost use Rattle.std.specs.List.{list_all};
 ghost use Rattle.toml.specs.View.{table_view, view};
-ghost use Rattle.tca_wire.specs.Results.{Gives};
+ghost use Rattle.tca_join.specs.Results.{Gives};
 ghost use Rattle.tca_accounts.specs.Documents.{account_in, colour_named, name_in, other_of};
 ghost use Rattle.tca_accounts.specs.Plans.{is_name, is_name_octet};
 ghost use Rattle.tca_accounts.specs.inside.Readings.{account_read, drafted, found, mapped};

@@ -1,7 +1,7 @@
 //! The kind and the numbers of an account's meter.
 ghost use Rattle.std.specs.Prelude.{◌≡◌};
 ghost use Rattle.toml.specs.View.{table_view};
-ghost use Rattle.tca_accounts.specs.Documents.{excess_rate_in, keys_of, kind_in, kind_named, meter_in, number_in, peak_rate_in, single_rate_in, term_keys_of};
+ghost use Rattle.tca_accounts.specs.Documents.{rfc4115_in, keys_of, kind_in, kind_named, meter_in, number_in, trtcm_in, srtcm_in, term_keys_of};
 
 use crate::document::{at, text, truth, whole};
 use crate::fault::PlanFault;
@@ -122,8 +122,8 @@ fn number(table: &Table, key: Key) -> Result<u64, PlanFault>
 }
 
 // The meter of RFC 2697 with a table's numbers, or why there is none of these parameters.
-fn single_rate(table: &Table, aware: bool) -> Result<Result<AnyMeter, MeterFault>, PlanFault>
-    ensures { result ≡ single_rate_in aware (table_view table.now) }
+fn srtcm_of(table: &Table, aware: bool) -> Result<Result<AnyMeter, MeterFault>, PlanFault>
+    ensures { result ≡ srtcm_in aware (table_view table.now) }
 {
     let cir = number(table, Key::Cir)?;
     let cbs = number(table, Key::Cbs)?;
@@ -132,8 +132,8 @@ fn single_rate(table: &Table, aware: bool) -> Result<Result<AnyMeter, MeterFault
 }
 
 // The meter of RFC 2698 with a table's numbers, or why there is none of these parameters.
-fn peak_rate(table: &Table, aware: bool) -> Result<Result<AnyMeter, MeterFault>, PlanFault>
-    ensures { result ≡ peak_rate_in aware (table_view table.now) }
+fn trtcm_of(table: &Table, aware: bool) -> Result<Result<AnyMeter, MeterFault>, PlanFault>
+    ensures { result ≡ trtcm_in aware (table_view table.now) }
 {
     let cir = number(table, Key::Cir)?;
     let cbs = number(table, Key::Cbs)?;
@@ -143,8 +143,8 @@ fn peak_rate(table: &Table, aware: bool) -> Result<Result<AnyMeter, MeterFault>,
 }
 
 // The meter of RFC 4115 with a table's numbers, or why there is none of these parameters.
-fn excess_rate(table: &Table, aware: bool) -> Result<Result<AnyMeter, MeterFault>, PlanFault>
-    ensures { result ≡ excess_rate_in aware (table_view table.now) }
+fn rfc4115_of(table: &Table, aware: bool) -> Result<Result<AnyMeter, MeterFault>, PlanFault>
+    ensures { result ≡ rfc4115_in aware (table_view table.now) }
 {
     let exact_fit = truth(at(table, Key::ExactFit), Key::ExactFit)?;
     let cir = number(table, Key::Cir)?;
@@ -164,8 +164,8 @@ pub(crate) fn meter(
     ensures { result ≡ meter_in kind aware (table_view table.now) }
 {
     match kind {
-        Kind::SrTcm => single_rate(table, aware),
-        Kind::TrTcm => peak_rate(table, aware),
-        Kind::Rfc4115 => excess_rate(table, aware),
+        Kind::SrTcm => srtcm_of(table, aware),
+        Kind::TrTcm => trtcm_of(table, aware),
+        Kind::Rfc4115 => rfc4115_of(table, aware),
     }
 }

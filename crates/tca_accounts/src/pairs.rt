@@ -1,7 +1,7 @@
 //! The pairs of an observation domain and an interface that an account owns.
 ghost use Rattle.std.specs.Prelude.{◌≡◌, IfOk, IsOk};
 ghost use Rattle.toml.specs.View.{items_view, table_view, view};
-ghost use Rattle.tca_wire.specs.Results.{Gives};
+ghost use Rattle.tca_join.specs.Results.{Gives};
 ghost use Rattle.tca_accounts.specs.Documents.{pair_in, pairs_in, pairs_of, part_of};
 ghost use Rattle.tca_accounts.specs.inside.Readings.{each_is_pair, pairs_read};
 ghost use Rattle.tca_accounts.specs.declared.fault.PlanFault.TheVariants.{Memory};

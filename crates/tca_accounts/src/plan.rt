@@ -1,7 +1,7 @@
 //! A plan.
 ghost use Rattle.std.specs.Prelude.{◌≡◌, ℕ, ◌<◌, ◌≤◌, IfOk, IfSome, Some, slice_get, length, map, true};
 ghost use Rattle.std.specs.List.{AllByRecursion};
-ghost use Rattle.tca_wire.specs.Results.{Gives};
+ghost use Rattle.tca_join.specs.Results.{Gives};
 ghost use Rattle.tca_accounts.specs.Plans.{IsPlan, PlannedAccount, account_of, is_name, owns, pair_of};
 ghost use Rattle.tca_accounts.specs.Documents.{plan_with};
 ghost use Rattle.tca_report.specs.report.Reports.{time_end};
@@ -97,6 +97,7 @@ impl Plan {
         ensures range { IsTermed result }
     {
         let meter = self.accounts[account as usize].meter;
+        // For its clause alone: the range of a meter with terms.
         let _terms = meter.terms();
         meter
     }

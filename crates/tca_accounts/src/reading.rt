@@ -2,7 +2,7 @@
 ghost use Rattle.std.specs.Prelude.{◌≡◌, ◌≢◌, ◌<◌, ◌≤◌, ◌^◌, IfOk, IfErr, IsOk, IsUtf8, length};
 ghost use Rattle.toml.specs.Parse.{parse_document};
 ghost use Rattle.toml.specs.View.{items_view, table_view};
-ghost use Rattle.tca_wire.specs.Results.{Gives};
+ghost use Rattle.tca_join.specs.Results.{Gives};
 ghost use Rattle.tca_accounts.specs.Documents.{accounts_from, plan_in, plan_of};
 ghost use Rattle.tca_accounts.specs.inside.Readings.{plan_from};
 ghost use Rattle.tca_report.specs.report.Reports.{time_end};

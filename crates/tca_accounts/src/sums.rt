@@ -3,8 +3,7 @@ ghost use Rattle.std.specs.Prelude.{◌≡◌, ◌<◌, ◌≤◌, ◌∷◌, []
 ghost use Rattle.tca_meters.specs.declared.colour.Colour.{Colour};
 ghost use Rattle.tca_meters.specs.Colours.{colour_number};
 ghost use Rattle.tca_accounts.specs.Sums.{AreInRange, with_packet};
-ghost use Rattle.tca_report.specs.export.Spelling.{most_reports};
-ghost use Rattle.tca_report.specs.report.Reports.{most_octets};
+ghost use Rattle.tca_report.specs.report.Reports.{most_octets, most_reports};
 
 use std::marker::Model;
 use tca_meters::Colour;

@@ -1,15 +1,14 @@
 -- What an audit finds: whether the octets of a statement are those that the plan and the reports of an export call for.
-use Rattle.std.specs.Prelude.{◌≡◌, ◌≢◌, ◌≤◌, ℕ, List, length, take, slice_get, IsUtf8, Ok, Err, ⊤}
+use Rattle.std.specs.Prelude.{◌≡◌, ◌≢◌, ◌≤◌, ℕ, List, length, take, slice_get, IsUtf8, Err, ⊤}
 use Rattle.toml.specs.Parse.{parse_document}
 use Rattle.tca_report.specs.report.Reports.{PacketReport}
 use Rattle.tca_report.specs.export.Spelling.{IsExport}
 use Rattle.tca_report.specs.export.FirstFaults.{IsFaultyExport}
 use Rattle.tca_accounts.specs.Plans.{AccountPlan}
-use Rattle.tca_accounts.specs.Documents.{plan_in}
-use Rattle.tca_accounts.specs.Bills.{bill_of}
+use Rattle.tca_accounts.specs.Documents.{IsPlanOf, plan_in}
 use Rattle.tca_accounts.specs.declared.fault.PlanFault.{PlanFault}
 use Rattle.tca_accounts.specs.declared.fault.PlanFault.TheVariants as plan_fault
-use Rattle.tca_statements.specs.Statements.{statement_text}
+use Rattle.tca_statements.specs.Statements.{statement_under}
 use Rattle.tca_audit.specs.declared.verdict.Verdict.{Verdict}
 use Rattle.tca_audit.specs.declared.verdict.Verdict.TheVariants.{Agrees, Differs}
 use Rattle.tca_audit.specs.declared.fault.AuditFault.{AuditFault}
@@ -28,25 +27,16 @@ abbrev pub IsVerdict : List ℕ → List ℕ → Verdict → Type 0
 IsVerdict text statement Agrees = statement ≡ text
 IsVerdict text statement (Differs at) = FirstDiffer text statement at
 
--- the statement of a list of reports under a plan
-abbrev pub text_under : AccountPlan → List PacketReport → List ℕ
-text_under plan reports = statement_text plan (bill_of plan reports)
-
 -- The octets spell a list of reports as a log export, and the verdict on the statement is that of the plan's statement of them.
 pub record IsAuditedUnder (plan : AccountPlan) (octets statement : List ℕ) (found : Verdict) : Type 0 where
   pub reports : List PacketReport
   pub spelled : IsExport octets reports
-  pub verdict : IsVerdict (text_under plan reports) statement found
-
--- A text is this plan.
-pub record IsPlanText (text : List ℕ) (plan : AccountPlan) : Type 0 where
-  pub utf8 : IsUtf8 text
-  pub named : plan_in (parse_document text) ≡ Ok plan
+  pub verdict : IsVerdict (statement_under plan reports) statement found
 
 -- The text is a plan, and the audit is that under this plan.
 pub record IsAudited (text octets statement : List ℕ) (found : Verdict) : Type 0 where
   pub plan : AccountPlan
-  pub named : IsPlanText text plan
+  pub named : IsPlanOf text plan
   pub audited : IsAuditedUnder plan octets statement found
 
 -- Why a text is no plan: it isn't UTF-8, or this is the first fault of its document.
@@ -64,5 +54,5 @@ IsRefusedUnder octets fault.Memory = (reports : List PacketReport) × IsExport o
 -- Why there is no verdict: the fault of the plan, or where it has none that of the export, unless memory ran out.
 abbrev pub IsRefused : List ℕ → List ℕ → AuditFault → Type 0
 IsRefused text octets (fault.Plan f) = IsFaultyPlan text f
-IsRefused text octets (fault.Export f) = ((plan : AccountPlan) × IsPlanText text plan) × IsFaultyExport octets f
+IsRefused text octets (fault.Export f) = ((plan : AccountPlan) × IsPlanOf text plan) × IsFaultyExport octets f
 IsRefused text octets fault.Memory = ⊤

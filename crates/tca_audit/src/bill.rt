@@ -2,12 +2,11 @@
 ghost use Rattle.std.specs.Prelude.{◌≡◌, ◌≤◌, IfOk, OnOk, List, [], length, map};
 ghost use Rattle.std.specs.List.{AllByRecursion};
 ghost use Rattle.std.specs.List.Sorted.{IsStrictlySortedBy};
-ghost use Rattle.tca_report.specs.report.Reports.{PacketReport, report_cmp};
+ghost use Rattle.tca_report.specs.report.Reports.{PacketReport, report_cmp, most_reports};
 ghost use Rattle.tca_log.specs.Disputes.{disputed, undisputed};
 ghost use Rattle.tca_accounts.specs.Bills.{bill_of, unassigned};
 ghost use Rattle.tca_accounts.specs.Spans.{Ascend};
 ghost use Rattle.tca_audit.specs.inside.Metering.{AreMetering, tally_so_far};
-ghost use Rattle.tca_report.specs.export.Spelling.{most_reports};
 
 use crate::account::Account;
 use crate::disputes::{disputed_identities, is_among};

@@ -5,10 +5,11 @@ ghost use Rattle.tca_report.specs.export.Spelling.{IsExport};
 ghost use Rattle.tca_report.specs.export.FirstFaults.{IsFaultyExport};
 ghost use Rattle.tca_report.specs.declared.export.ExportFault.{ExportFault};
 ghost use Rattle.tca_accounts.specs.Plans.{AccountPlan};
-ghost use Rattle.tca_statements.specs.Statements.{statement_text};
-ghost use Rattle.tca_audit.specs.Audits.{IsAudited, IsAuditedUnder, IsPlanText, IsRefused, IsRefusedUnder, text_under};
+ghost use Rattle.tca_statements.specs.Statements.{statement_text, statement_under};
+ghost use Rattle.tca_audit.specs.Audits.{IsAudited, IsAuditedUnder, IsRefused, IsRefusedUnder};
 ghost use Rattle.tca_audit.specs.declared.fault.AuditFault.TheVariants as fault;
 ghost use Rattle.tca_audit.specs.declared.verdict.Verdict.TheVariants as verdict;
+ghost use Rattle.tca_accounts.specs.Documents.{IsPlanOf};
 
 use crate::bill::bill;
 use crate::fault::AuditFault;
@@ -33,10 +34,10 @@ pub fn audit(
     ensures err { IfErr result (IsRefused plan.now export.now) }
 
     // An export with a fault is refused for it, and a right statement agrees.
-    ensures refused { (p : AccountPlan) (f : ExportFault) → IsPlanText plan.now p → IsFaultyExport export.now f
+    ensures refused { (p : AccountPlan) (f : ExportFault) → IsPlanOf plan.now p → IsFaultyExport export.now f
         → MatchResult result (λ v. ⊥) (λ e. (e ≡ fault.Export f) ⊎ (e ≡ fault.Memory)) }
-    ensures agrees { (p : AccountPlan) (reports : List PacketReport) → IsPlanText plan.now p → IsExport export.now reports
-        → statement.now ≡ text_under p reports → MatchResult result (λ v. v ≡ verdict.Agrees) (λ e. e ≡ fault.Memory) }
+    ensures agrees { (p : AccountPlan) (reports : List PacketReport) → IsPlanOf plan.now p → IsExport export.now reports
+        → statement.now ≡ statement_under p reports → MatchResult result (λ v. v ≡ verdict.Agrees) (λ e. e ≡ fault.Memory) }
 {
     match Plan::from_text(alloc, plan) {
         Ok(plan) => audit_under(alloc, &plan, export, statement),
@@ -61,7 +62,7 @@ pub fn audit_under(
     // An export with a fault is refused for it, and a right statement agrees.
     ensures refused { (f : ExportFault) → IsFaultyExport export.now f → result ≡ Err (fault.Export f) }
     ensures agrees { (reports : List PacketReport) → IsExport export.now reports
-        → statement.now ≡ text_under plan.now reports → MatchResult result (λ v. v ≡ verdict.Agrees) (λ e. e ≡ fault.Memory) }
+        → statement.now ≡ statement_under plan.now reports → MatchResult result (λ v. v ≡ verdict.Agrees) (λ e. e ≡ fault.Memory) }
 {
     let reports = match read_export(alloc, export) {
         Ok(reports) => reports,

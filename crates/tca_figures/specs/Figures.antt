@@ -5,7 +5,7 @@ use Rattle.std.specs.List.Sorted.{IsStrictlySortedBy}
 use Rattle.std.specs.Ordering.{nat_cmp}
 use Rattle.std.specs.Str.{bytes_eq}
 use Rattle.tca_report.specs.report.Reports.{time_end}
-use Rattle.tca_accounts.specs.Plans.{is_name}
+use Rattle.tca_accounts.specs.Plans.{is_name, most_accounts}
 use Rattle.tca_figures.specs.declared.figures.Figure.{Figure}
 use Rattle.tca_figures.specs.declared.figures.ColourFigures.{ColourFigures}
 use Rattle.tca_figures.specs.declared.figures.SpanFigures.{SpanFigures}
@@ -111,6 +111,6 @@ pub record IsStatement (s : Stated) : Type 0 where
   pub disputed : s.disputed < 2 ^ 64
   pub unassigned : s.unassigned < 2 ^ 64
   pub some : 0 < length s.accounts
-  pub few : length s.accounts ≤ 256
+  pub few : length s.accounts ≤ most_accounts
   pub accounts : AllByRecursion (IsAccount s.period) s.accounts
   pub apart : AreApart s.accounts

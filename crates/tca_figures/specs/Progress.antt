@@ -3,7 +3,7 @@ use Rattle.std.specs.Prelude.{◌≡◌, ◌⊎◌, ◌<◌, ◌^◌, ℕ, Bool,
 use Rattle.std.specs.List.{AllByRecursion, list_any}
 use Rattle.std.specs.Str.{bytes_eq}
 use Rattle.tca_report.specs.report.Reports.{time_end}
-use Rattle.tca_accounts.specs.Plans.{is_name}
+use Rattle.tca_accounts.specs.Plans.{is_name, most_accounts}
 use Rattle.tca_figures.specs.Figures.{AreFigures, IsSpan, Stated, StatedAccount, named, IsSummed}
 use Rattle.tca_figures.specs.Lines.{end_line, name_line, number_line, span_line, title_line, total_line}
 use Rattle.tca_figures.specs.declared.figures.ColourFigures.{ColourFigures}
@@ -40,7 +40,7 @@ pub record IsOpened (p : Progress) (line : List ℕ) (q : Progress) : Type 0 whe
   pub line_is : line ≡ name_line name
   pub is_name : is_name name ≡ true
   pub new : has_name name p.stated.accounts ≡ false
-  pub few : length p.stated.accounts < 256
+  pub few : length p.stated.accounts < most_accounts
   pub next : q ≡ opened name p
 
 -- all lines of the account are read

@@ -12,10 +12,10 @@ use Rattle.tca_join.proofs.Unions.{union_longer}
 use Rattle.tca_report.proofs.lemmas.report.Order.{report_total, report_exact}
 use Rattle.tca_accounts.specs.Plans.{AccountPlan}
 use Rattle.tca_gossip.specs.Replicas.{ReplicaView, IsReplica, append_one, chain_of, least_of, merge_clash, merged_with, or_empty}
-use Rattle.tca_gossip.specs.inside.Kept.{AreContents, IsOwnWithin, held_in, replica_of, BillingView, Bills}
+use Rattle.tca_gossip.specs.inside.Storage.{AreContents, IsOwnWithin, held_in, replica_of, BillingView, Bills}
 use Rattle.tca_gossip.proofs.Takes.{replica_append, replica_opened}
 use Rattle.tca_gossip.proofs.Sizes.{own_within}
-use Rattle.tca_gossip.proofs.Merges.{replica_merged}
+use Rattle.tca_gossip.proofs.MergedLogs.{replica_merged}
 use Rattle.tca_gossip.proofs.Plains.{held_merged}
 use Rattle.tca_gossip.proofs.Worlds.{or_join}
 

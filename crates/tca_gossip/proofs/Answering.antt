@@ -9,7 +9,7 @@ use Rattle.tca_gossip.specs.Replicas.{ReplicaView, IsReplica, chain_of, or_empty
 use Rattle.tca_gossip.specs.Runs.{RunView, AreRuns, summary_count, delta_of}
 use Rattle.tca_gossip.specs.Machines.{Message, Counts, Parts, Machine, IsWorld, IsPart, IsSound, Shows, sends, run_between}
 use Rattle.tca_gossip.proofs.Worlds.{prefix_length, length_drop, length_take, drop_front}
-use Rattle.tca_gossip.proofs.Kept.{world_sends}
+use Rattle.tca_gossip.proofs.WorldInvariants.{world_sends}
 use Rattle.tca_gossip.specs.Steps.{Ask, Answer, Sent, run_of, answer_at, AreAnswer, can_send, counts_at, Answers}
 use Rattle.tca_gossip.specs.Coupling.{MessageView, Summary, Delta, WorldView, ShowsMessage, IsCoupled, with_message, StepsTo, counts_of}
 use Rattle.tca_gossip.proofs.Places.{shows_at, replica_at, messages_more, message_at, ShowsOption}

@@ -11,7 +11,7 @@ use Rattle.tca_gossip.specs.Machines.{Message, Counts, Parts, Machine, IsWorld, 
 use Rattle.tca_gossip.proofs.Worlds.{prefix_length, length_drop, part_within, no_fork, sent_fault}
 use Rattle.tca_gossip.proofs.Sends.{gained, gained_within, absorb_chain}
 use Rattle.tca_gossip.proofs.Appends.{of_append, of_tagged, of_other, appended_name, appended_plan}
-use Rattle.tca_gossip.proofs.Kept.{world_raised, others_raised}
+use Rattle.tca_gossip.proofs.WorldInvariants.{world_raised, others_raised}
 use Rattle.tca_gossip.specs.Steps.{Deliver, Absorbed, gap_at, first_gap, new_of, new_in, gain_of, end_at, reached, parts_at, in_log, Arrives, Delivers, HasCause, IsSetOf}
 use Rattle.tca_gossip.specs.Answers.{IsCause}
 use Rattle.tca_gossip.specs.Coupling.{Delta, WorldView, IsCoupled, with_replica, StepsTo}

@@ -18,7 +18,7 @@ use Rattle.tca_join.proofs.Merge.{in_order_alike}
 use Rattle.tca_join.proofs.Firsts.{only_map}
 use Rattle.tca_accounts.specs.Plans.{AccountPlan}
 use Rattle.tca_gossip.specs.Replicas.{ReplicaView, IsReplica, or_empty, chain_of, append_one, appended, fresh_of, with_origin, taken, of, reports_in}
-use Rattle.tca_gossip.specs.inside.Kept.{AreContents, IsOwnWithin, chain_items, kept_of, held_in, replica_of, BillingView, Bills}
+use Rattle.tca_gossip.specs.inside.Storage.{AreContents, IsOwnWithin, chain_items, held_of, held_in, replica_of, BillingView, Bills}
 use Rattle.tca_gossip.proofs.Appends.{appended_name, appended_plan, appended_rises, chain_appended, log_appended, of_tagged, of_other, reports_tagged}
 use Rattle.tca_gossip.proofs.Plains.{some_chain, rises_held, get_held, chain_held, kept_set}
 use Rattle.tca_gossip.proofs.Sizes.{put_new}
@@ -28,25 +28,25 @@ use Rattle.tca_gossip.proofs.Members.{replica_appended}
 
 -- reports at the end of a chain that is kept
 module _ (es : List (ℕ × ChainView PacketReport)) (rises : Rises es) (o : ℕ) (rs : List PacketReport) where
-  more_kept : (c : ChainView PacketReport) → c.items ≡ kept_of es o ++ rs → (q : ℕ) → kept_of (with_value o c es) q ≡ kept_of es q ++ of q (with_origin o rs)
+  more_kept : (c : ChainView PacketReport) → c.items ≡ held_of es o ++ rs → (q : ℕ) → held_of (with_value o c es) q ≡ held_of es q ++ of q (with_origin o rs)
   more_kept c is q =
       kept_set es rises o c q
-      ∙ elim (q == o) as (λ b. q == o ≡ b → cond b c.items (kept_of es q) ≡ kept_of es q ++ of q (with_origin o rs)) [
+      ∙ elim (q == o) as (λ b. q == o ≡ b → cond b c.items (held_of es q) ≡ held_of es q ++ of q (with_origin o rs)) [
         | true ↦ λ at.
             let same : o ≡ q = sym (eqb-true q o at) in
-            is ∙ subst (λ z. kept_of es o ++ rs ≡ kept_of es z ++ of z (with_origin o rs)) same (ap (λ (l : List PacketReport). kept_of es o ++ l) (sym (of_tagged o rs)))
-        | false ↦ λ at. sym (append-nil (kept_of es q)) ∙ ap (λ (l : List PacketReport). kept_of es q ++ l) (sym (of_other q o rs (eqb-false q o at)))
+            is ∙ subst (λ z. held_of es o ++ rs ≡ held_of es z ++ of z (with_origin o rs)) same (ap (λ (l : List PacketReport). held_of es o ++ l) (sym (of_tagged o rs)))
+        | false ↦ λ at. sym (append-nil (held_of es q)) ∙ ap (λ (l : List PacketReport). held_of es q ++ l) (sym (of_other q o rs (eqb-false q o at)))
       ] refl
 
   -- in a chain that is there
-  pub extended_there : {A E : Type 0} (old new : ChainView PacketReport) (r : Result A E) → Some old ≡ get es o → OnOk r (new.items ≡ old.items ++ rs) → OnOk r ((q : ℕ) → kept_of (with_value o new es) q ≡ kept_of es q ++ of q (with_origin o rs))
+  pub extended_there : {A E : Type 0} (old new : ChainView PacketReport) (r : Result A E) → Some old ≡ get es o → OnOk r (new.items ≡ old.items ++ rs) → OnOk r ((q : ℕ) → held_of (with_value o new es) q ≡ held_of es q ++ of q (with_origin o rs))
   extended_there old new (Ok x) there ok = more_kept new (ok ∙ ap (λ z. chain_items z ++ rs) there)
   extended_there old new (Err e) there ok = tt
 
   -- in a new chain
-  pub extended_added : {A E : Type 0} (first c : ChainView PacketReport) (new : List (ℕ × ChainView PacketReport)) (r : Result A E) → None ≡ get es o → first ≡ chain [] false → c.items ≡ first.items ++ rs → OnOk r (new ≡ with_value o c es) → OnOk r ((q : ℕ) → kept_of new q ≡ kept_of es q ++ of q (with_origin o rs))
+  pub extended_added : {A E : Type 0} (first c : ChainView PacketReport) (new : List (ℕ × ChainView PacketReport)) (r : Result A E) → None ≡ get es o → first ≡ chain [] false → c.items ≡ first.items ++ rs → OnOk r (new ≡ with_value o c es) → OnOk r ((q : ℕ) → held_of new q ≡ held_of es q ++ of q (with_origin o rs))
   extended_added first c new (Ok x) none empty is ok = λ q.
-      ap (λ (l : List (ℕ × ChainView PacketReport)). kept_of l q) ok
+      ap (λ (l : List (ℕ × ChainView PacketReport)). held_of l q) ok
       ∙ more_kept c (is ∙ ap (λ (z : ChainView PacketReport). z.items ++ rs) empty ∙ ap (λ z. chain_items z ++ rs) none) q
   extended_added first c new (Err e) none empty is ok = tt
 
@@ -110,7 +110,7 @@ own_grows v ps rises within grows =
 
 -- chains and a log that got these are those of the replica to which these were appended
 module _ (name : ℕ) (log more : List PacketReport) (es fs : List (ℕ × ChainView PacketReport)) (billing : BillingView) (are : AreContents name log es billing) (ps : List (ℕ × PacketReport)) (rises : Rises fs)
-    (chains : (q : ℕ) → kept_of fs q ≡ kept_of es q ++ of q ps) (logs : more ≡ in_order report_cmp (log ++ reports_in ps)) where
+    (chains : (q : ℕ) → held_of fs q ≡ held_of es q ++ of q ps) (logs : more ≡ in_order report_cmp (log ++ reports_in ps)) where
   abbrev before : ReplicaView
   before = replica_of name billing.plan log es
 
@@ -137,7 +137,7 @@ module _ (name : ℕ) (log more : List PacketReport) (es fs : List (ℕ × Chain
 
 -- and where all are of the own name
 module _ (name : ℕ) (log more : List PacketReport) (es fs : List (ℕ × ChainView PacketReport)) (billing : BillingView) (are : AreContents name log es billing) (rs : List PacketReport) (rises : Rises fs)
-    (chains : (q : ℕ) → kept_of fs q ≡ kept_of es q ++ of q (with_origin name rs)) (logs : more ≡ in_order report_cmp (log ++ rs)) where
+    (chains : (q : ℕ) → held_of fs q ≡ held_of es q ++ of q (with_origin name rs)) (logs : more ≡ in_order report_cmp (log ++ rs)) where
   own_logs : more ≡ in_order report_cmp (log ++ reports_in (with_origin name rs))
   own_logs = logs ∙ ap (λ (l : List PacketReport). in_order report_cmp (log ++ l)) (sym (reports_tagged name rs))
 
@@ -151,10 +151,10 @@ module _ (name : ℕ) (log more : List PacketReport) (es fs : List (ℕ × Chain
   own_within_all all = now_within name log more es fs billing are (with_origin name rs) rises chains own_logs (subst (λ (l : List PacketReport). length l + length log ≤ length more) (sym (of_tagged name rs)) all)
 
 -- there is room in the own chain for as many as are new to the log
-pub own_room : (name : ℕ) (log : List PacketReport) (es : List (ℕ × ChainView PacketReport)) (billing : BillingView) (n new total : ℕ) → AreContents name log es billing → n ≤ new → new + length log ≡ total → total ≤ 4194304 → length (kept_of es name) + n ≤ 4194304
+pub own_room : (name : ℕ) (log : List PacketReport) (es : List (ℕ × ChainView PacketReport)) (billing : BillingView) (n new total : ℕ) → AreContents name log es billing → n ≤ new → new + length log ≡ total → total ≤ 4194304 → length (held_of es name) + n ≤ 4194304
 own_room name log es billing n new total are enough count few =
-    let own : length (kept_of es name) ≤ length log = subst (λ (l : List PacketReport). length l ≤ length log) (chain_held es name are.rises) are.within in
-    sums (length (kept_of es name)) (length log) n new total own enough count few where
+    let own : length (held_of es name) ≤ length log = subst (λ (l : List PacketReport). length l ≤ length log) (chain_held es name are.rises) are.within in
+    sums (length (held_of es name)) (length log) n new total own enough count few where
       sums : (a b n new total : ℕ) → a ≤ b → n ≤ new → new + b ≡ total → total ≤ 4194304 → a + n ≤ 4194304
       sums a b n new total p q s t = omega (arith, p, q, s, t)
 

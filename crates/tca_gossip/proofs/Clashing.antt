@@ -6,7 +6,7 @@ use Rattle.tca_join.specs.Faults.{IsJoinFault, refusal}
 use Rattle.tca_join.specs.Maps.{Rises, clash_key, full_with, get, map_full}
 use Rattle.tca_join.specs.declared.fault.JoinFault.{JoinFault}
 use Rattle.tca_join.specs.declared.fault.JoinFault.TheVariants.{Clash, Full, Memory}
-use Rattle.tca_gossip.specs.inside.Kept.{clash_in, held_in}
+use Rattle.tca_gossip.specs.inside.Storage.{clash_in, held_in}
 use Rattle.tca_gossip.proofs.Plains.{clash_held}
 
 clash_of_refusal : (x : Option ℕ) (full : Bool) → clash_in (refusal x full) ≡ x

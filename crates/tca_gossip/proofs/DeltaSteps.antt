@@ -8,7 +8,7 @@ use Rattle.tca_report.specs.report.Reports.{PacketReport}
 use Rattle.tca_join.specs.Chains.{ChainView, IsChain}
 use Rattle.tca_join.specs.Maps.{MapProper}
 use Rattle.tca_gossip.specs.Runs.{RunView, AreRuns, delta_of}
-use Rattle.tca_gossip.specs.inside.Kept.{before_others, held_in}
+use Rattle.tca_gossip.specs.inside.Storage.{before_others, held_in}
 use Rattle.tca_gossip.proofs.AbsorbSteps.{cut}
 use Rattle.tca_gossip.proofs.Deltas.{delta_runs}
 use Rattle.tca_gossip.proofs.Plains.{rises_held}

@@ -8,7 +8,7 @@ use Rattle.tca_gossip.specs.Coupling.{WorldView, IsCoupled, counts_of}
 use Rattle.tca_gossip.proofs.Worlds.{prefix_length}
 use Rattle.tca_gossip.proofs.Places.{plan_at, replica_at, shows_at}
 use Rattle.tca_gossip.proofs.Answering.{counts_are}
-use Rattle.tca_gossip.proofs.MergeSteps.{equal_counts_equal_logs}
+use Rattle.tca_gossip.proofs.MergesInWorlds.{equal_counts_equal_logs}
 
 -- a summary counts what is held
 summary_is : (m : Machine) (w : WorldView) (i : ℕ) (v : ReplicaView) → IsCoupled m w → slice_get w.replicas i ≡ Some v → (o : ℕ) → summary_count (counts_of v.chains) o ≡ m.held v.name o

@@ -15,7 +15,7 @@ use Rattle.tca_gossip.proofs.Logs.{none_has, all_has, some_has, same_test}
 use Rattle.tca_gossip.proofs.Takes.{replica_append}
 use Rattle.tca_gossip.proofs.Appends.{appended_name, appended_plan}
 use Rattle.tca_gossip.proofs.Worlds.{take_chain, take_none}
-use Rattle.tca_gossip.proofs.Kept.{world_took, others_took}
+use Rattle.tca_gossip.proofs.WorldInvariants.{world_took, others_took}
 use Rattle.tca_gossip.specs.Steps.{Take, Took, in_log, fresh_in}
 use Rattle.tca_gossip.specs.Coupling.{WorldView, IsCoupled, with_replica, StepsTo}
 use Rattle.tca_gossip.specs.Answers.{IsStopAt}

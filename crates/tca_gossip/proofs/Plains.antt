@@ -8,7 +8,7 @@ use Rattle.tca_join.specs.Maps.{get, put, Rises, with_value, join_with, merged, 
 use Rattle.tca_join.specs.laws.MapLaws.{not_there, get_put, rises_put, get_merged, rises_merged}
 use Rattle.tca_join.proofs.Firsts.{only_map}
 use Rattle.tca_gossip.specs.Replicas.{or_empty}
-use Rattle.tca_gossip.specs.inside.Kept.{chain_items, kept_of, before_others, held_in}
+use Rattle.tca_gossip.specs.inside.Storage.{chain_items, held_of, before_others, held_in}
 
 -- a chain that holds something
 abbrev pub some_chain : List PacketReport → Option (List PacketReport)
@@ -31,13 +31,13 @@ rises_held (e ∷ es) h = first e.1.items (rises_held es h.1) where
   first (r ∷ rs) rest = (above_held e.0 es h.0, rest)
 
 -- the chain of an origin
-pub get_held : (es : List (ℕ × ChainView PacketReport)) (q : ℕ) → Rises es → get (held_in es) q ≡ some_chain (kept_of es q)
+pub get_held : (es : List (ℕ × ChainView PacketReport)) (q : ℕ) → Rises es → get (held_in es) q ≡ some_chain (held_of es q)
 get_held [] q h = refl
 get_held (e ∷ es) q h = first e.1.items (get_held es q h.1) where
   none : q ≡ e.0 → get (held_in es) q ≡ None
   none is = subst (λ z. get (held_in es) z ≡ None) (sym is) (not_there (held_in es) e.0 (above_held e.0 es h.0))
 
-  first : (items : List PacketReport) → get (held_in es) q ≡ some_chain (kept_of es q) → get (before_others e.0 items (held_in es)) q ≡ some_chain (chain_items (cond (q == e.0) (Some (chain items e.1.room)) (get es q)))
+  first : (items : List PacketReport) → get (held_in es) q ≡ some_chain (held_of es q) → get (before_others e.0 items (held_in es)) q ≡ some_chain (chain_items (cond (q == e.0) (Some (chain items e.1.room)) (get es q)))
   first [] rest = elim (q == e.0) as (λ b. q == e.0 ≡ b → get (held_in es) q ≡ some_chain (chain_items (cond b (Some (chain [] e.1.room)) (get es q)))) [
     | true ↦ λ is. none (eqb-true q e.0 is)
     | false ↦ λ is. rest
@@ -51,8 +51,8 @@ some_or_empty : (l : List PacketReport) → or_empty (some_chain l) ≡ l
 some_or_empty [] = refl
 some_or_empty (r ∷ rs) = refl
 
-pub chain_held : (es : List (ℕ × ChainView PacketReport)) (q : ℕ) → Rises es → or_empty (get (held_in es) q) ≡ kept_of es q
-chain_held es q h = ap or_empty (get_held es q h) ∙ some_or_empty (kept_of es q)
+pub chain_held : (es : List (ℕ × ChainView PacketReport)) (q : ℕ) → Rises es → or_empty (get (held_in es) q) ≡ held_of es q
+chain_held es q h = ap or_empty (get_held es q h) ∙ some_or_empty (held_of es q)
 
 -- Two rising maps with the same at each key are one.
 only_chains : (a b : List (ℕ × List PacketReport)) → Rises a → Rises b → ((q : ℕ) → get a q ≡ get b q) → a ≡ b
@@ -67,37 +67,37 @@ one_more [] r = refl
 one_more (x ∷ l) r = refl
 
 module _ (es : List (ℕ × ChainView PacketReport)) (rises : Rises es) (o : ℕ) where
-  pub kept_set : (c : ChainView PacketReport) (q : ℕ) → kept_of (with_value o c es) q ≡ cond (q == o) c.items (kept_of es q)
+  pub kept_set : (c : ChainView PacketReport) (q : ℕ) → held_of (with_value o c es) q ≡ cond (q == o) c.items (held_of es q)
   kept_set c q =
       ap chain_items (get_put (λ _ w. w) o c es q rises)
-      ∙ elim (q == o) as (λ b. chain_items (cond b (join_with (λ _ w. w) (get es o) (Some c)) (get es q)) ≡ cond b c.items (kept_of es q)) [
+      ∙ elim (q == o) as (λ b. chain_items (cond b (join_with (λ _ w. w) (get es o) (Some c)) (get es q)) ≡ cond b c.items (held_of es q)) [
         | true ↦ last_items (get es o) c
         | false ↦ refl
       ]
 
   -- a report more at the end of what is kept of an origin
-  pub held_puts : (r : PacketReport) (room : Bool) → held_in (with_value o (chain (kept_of es o ++ r ∷ []) room) es) ≡ put (λ w u. w ++ u) o (r ∷ []) (held_in es)
+  pub held_puts : (r : PacketReport) (room : Bool) → held_in (with_value o (chain (held_of es o ++ r ∷ []) room) es) ≡ put (λ w u. w ++ u) o (r ∷ []) (held_in es)
   held_puts r room =
-      let c : ChainView PacketReport = chain (kept_of es o ++ r ∷ []) room in
+      let c : ChainView PacketReport = chain (held_of es o ++ r ∷ []) room in
       let more : Rises (with_value o c es) = rises_put (λ _ w. w) o c es rises in
       only_chains (held_in (with_value o c es)) (put (λ w u. w ++ u) o (r ∷ []) (held_in es)) (rises_held (with_value o c es) more) (rises_put (λ w u. w ++ u) o (r ∷ []) (held_in es) (rises_held es rises)) (λ q.
       get_held (with_value o c es) q more
       ∙ ap some_chain (kept_set c q)
-      ∙ elim (q == o) as (λ b. some_chain (cond b (kept_of es o ++ r ∷ []) (kept_of es q)) ≡ cond b (join_with (λ w u. w ++ u) (get (held_in es) o) (Some (r ∷ []))) (get (held_in es) q)) [
-        | true ↦ one_more (kept_of es o) r ∙ ap (λ z. join_with (λ w u. w ++ u) z (Some (r ∷ []))) (sym (get_held es o rises))
+      ∙ elim (q == o) as (λ b. some_chain (cond b (held_of es o ++ r ∷ []) (held_of es q)) ≡ cond b (join_with (λ w u. w ++ u) (get (held_in es) o) (Some (r ∷ []))) (get (held_in es) q)) [
+        | true ↦ one_more (held_of es o) r ∙ ap (λ z. join_with (λ w u. w ++ u) z (Some (r ∷ []))) (sym (get_held es o rises))
         | false ↦ sym (get_held es q rises)
       ]
       ∙ sym (get_put (λ w u. w ++ u) o (r ∷ []) (held_in es) q (rises_held es rises)))
 
   -- the same reports, with or without room
-  pub held_same : (room : Bool) → held_in (with_value o (chain (kept_of es o) room) es) ≡ held_in es
+  pub held_same : (room : Bool) → held_in (with_value o (chain (held_of es o) room) es) ≡ held_in es
   held_same room =
-      let c : ChainView PacketReport = chain (kept_of es o) room in
+      let c : ChainView PacketReport = chain (held_of es o) room in
       let more : Rises (with_value o c es) = rises_put (λ _ w. w) o c es rises in
       only_chains (held_in (with_value o c es)) (held_in es) (rises_held (with_value o c es) more) (rises_held es rises) (λ q.
       get_held (with_value o c es) q more
-      ∙ ap some_chain (kept_set c q ∙ elim (q == o) as (λ b. q == o ≡ b → cond b (kept_of es o) (kept_of es q) ≡ kept_of es q) [
-        | true ↦ λ is. ap (kept_of es) (sym (eqb-true q o is))
+      ∙ ap some_chain (kept_set c q ∙ elim (q == o) as (λ b. q == o ≡ b → cond b (held_of es o) (held_of es q) ≡ held_of es q) [
+        | true ↦ λ is. ap (held_of es) (sym (eqb-true q o is))
         | false ↦ λ is. refl
       ] refl)
       ∙ sym (get_held es q rises))

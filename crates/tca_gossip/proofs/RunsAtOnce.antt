@@ -12,7 +12,7 @@ use Rattle.tca_join.specs.Maps.{Rises}
 use Rattle.tca_join.proofs.Unions.{union_longer}
 use Rattle.tca_gossip.specs.Replicas.{ReplicaView, IsReplica, chain_of, appended, with_origin, of, reports_in}
 use Rattle.tca_gossip.specs.Runs.{RunView, AreRuns, first_fault, rest_of, rests}
-use Rattle.tca_gossip.specs.inside.Kept.{AreContents, IsOwnWithin, kept_of, replica_of, BillingView}
+use Rattle.tca_gossip.specs.inside.Storage.{AreContents, IsOwnWithin, held_of, replica_of, BillingView}
 use Rattle.tca_gossip.proofs.Appends.{of_append, reports_append, reports_tagged}
 use Rattle.tca_gossip.proofs.Plains.{chain_held}
 use Rattle.tca_gossip.proofs.AbsorbSteps.{none_before, none_own, rests_next}
@@ -35,9 +35,9 @@ rest_found held run own reports rest origin start less skip origin_is reports_ar
     ∙ skipped run.reports (length (held run.origin) - run.start) skip (omega (arith, ap length (own_is ∙ ap held origin_is), ap length reports_are, start_is, less_is, skip_is))
 
 -- no run was gone through
-pub kept_first : (es : List (ℕ × ChainView PacketReport)) (held : ℕ → List PacketReport) (q : ℕ) → kept_of es q ≡ kept_of es q ++ of q (rests held [])
+pub kept_first : (es : List (ℕ × ChainView PacketReport)) (held : ℕ → List PacketReport) (q : ℕ) → held_of es q ≡ held_of es q ++ of q (rests held [])
 unfolding rests of
-kept_first es held q = sym (append-nil (kept_of es q))
+kept_first es held q = sym (append-nil (held_of es q))
 
 pub list_first : (l : List PacketReport) (held : ℕ → List PacketReport) → l ≡ l ++ reports_in (rests held [])
 unfolding rests reports_in
@@ -45,55 +45,55 @@ list_first l held = sym (append-nil l)
 
 -- one run more
 module _ (es fs : List (ℕ × ChainView PacketReport)) (runs : List RunView) (i : ℕ) (r : RunView) (h : i < length runs) (is : r ≡ get_or runs i r) (are : AreRuns runs)
-    (so_far : (q : ℕ) → kept_of fs q ≡ kept_of es q ++ of q (rests (kept_of es) (take i runs))) where
-  chain_same : kept_of fs r.origin ≡ kept_of es r.origin
-  chain_same = so_far r.origin ∙ ap (λ (l : List PacketReport). kept_of es r.origin ++ l) (none_before (kept_of es) runs i r are h is) ∙ append-nil (kept_of es r.origin)
+    (so_far : (q : ℕ) → held_of fs q ≡ held_of es q ++ of q (rests (held_of es) (take i runs))) where
+  chain_same : held_of fs r.origin ≡ held_of es r.origin
+  chain_same = so_far r.origin ∙ ap (λ (l : List PacketReport). held_of es r.origin ++ l) (none_before (held_of es) runs i r are h is) ∙ append-nil (held_of es r.origin)
 
-  rest_same : rest_of (kept_of fs) r ≡ rest_of (kept_of es) r
+  rest_same : rest_of (held_of fs) r ≡ rest_of (held_of es) r
   rest_same = ap (λ (l : List PacketReport). drop (length l - r.start) r.reports) chain_same
 
-  pub kept_next : (gs : List (ℕ × ChainView PacketReport)) → ((q : ℕ) → kept_of gs q ≡ kept_of fs q ++ of q (with_origin r.origin (rest_of (kept_of fs) r))) → (q : ℕ) → kept_of gs q ≡ kept_of es q ++ of q (rests (kept_of es) (take (i + 1) runs))
+  pub kept_next : (gs : List (ℕ × ChainView PacketReport)) → ((q : ℕ) → held_of gs q ≡ held_of fs q ++ of q (with_origin r.origin (rest_of (held_of fs) r))) → (q : ℕ) → held_of gs q ≡ held_of es q ++ of q (rests (held_of es) (take (i + 1) runs))
   kept_next gs e q =
-      let before = rests (kept_of es) (take i runs) in
-      let here = with_origin r.origin (rest_of (kept_of es) r) in
+      let before = rests (held_of es) (take i runs) in
+      let here = with_origin r.origin (rest_of (held_of es) r) in
       e q
       ∙ (λ j. so_far q j ++ of q (with_origin r.origin (rest_same j)))
-      ∙ append_assoc (kept_of es q) (of q before) (of q here)
-      ∙ ap (λ (l : List PacketReport). kept_of es q ++ l) (sym (of_append q before here) ∙ ap (of q) (sym (rests_next (kept_of es) runs i r h is)))
+      ∙ append_assoc (held_of es q) (of q before) (of q here)
+      ∙ ap (λ (l : List PacketReport). held_of es q ++ l) (sym (of_append q before here) ∙ ap (of q) (sym (rests_next (held_of es) runs i r h is)))
 
-  pub list_next : (old now new : List PacketReport) → now ≡ old ++ reports_in (rests (kept_of es) (take i runs)) → new ≡ now ++ rest_of (kept_of fs) r → new ≡ old ++ reports_in (rests (kept_of es) (take (i + 1) runs))
+  pub list_next : (old now new : List PacketReport) → now ≡ old ++ reports_in (rests (held_of es) (take i runs)) → new ≡ now ++ rest_of (held_of fs) r → new ≡ old ++ reports_in (rests (held_of es) (take (i + 1) runs))
   list_next old now new before_is e =
-      let before = rests (kept_of es) (take i runs) in
-      let here = with_origin r.origin (rest_of (kept_of es) r) in
+      let before = rests (held_of es) (take i runs) in
+      let here = with_origin r.origin (rest_of (held_of es) r) in
       e
       ∙ (λ j. before_is j ++ rest_same j)
-      ∙ append_assoc old (reports_in before) (rest_of (kept_of es) r)
-      ∙ ap (λ (l : List PacketReport). old ++ l) (ap (λ (l : List PacketReport). reports_in before ++ l) (sym (reports_tagged r.origin (rest_of (kept_of es) r))) ∙ sym (reports_append before here) ∙ ap reports_in (sym (rests_next (kept_of es) runs i r h is)))
+      ∙ append_assoc old (reports_in before) (rest_of (held_of es) r)
+      ∙ ap (λ (l : List PacketReport). old ++ l) (ap (λ (l : List PacketReport). reports_in before ++ l) (sym (reports_tagged r.origin (rest_of (held_of es) r))) ∙ sym (reports_append before here) ∙ ap reports_in (sym (rests_next (held_of es) runs i r h is)))
 
 -- all runs were gone through
-pub kept_last : (es fs : List (ℕ × ChainView PacketReport)) (held : ℕ → List PacketReport) (runs : List RunView) (i : ℕ) → length runs ≤ i → ((q : ℕ) → kept_of fs q ≡ kept_of es q ++ of q (rests held (take i runs))) → (q : ℕ) → kept_of fs q ≡ kept_of es q ++ of q (rests held runs)
-kept_last es fs held runs i h so_far q = so_far q ∙ ap (λ (l : List RunView). kept_of es q ++ of q (rests held l)) (take_whole i runs h)
+pub kept_last : (es fs : List (ℕ × ChainView PacketReport)) (held : ℕ → List PacketReport) (runs : List RunView) (i : ℕ) → length runs ≤ i → ((q : ℕ) → held_of fs q ≡ held_of es q ++ of q (rests held (take i runs))) → (q : ℕ) → held_of fs q ≡ held_of es q ++ of q (rests held runs)
+kept_last es fs held runs i h so_far q = so_far q ∙ ap (λ (l : List RunView). held_of es q ++ of q (rests held l)) (take_whole i runs h)
 
 pub list_last : (old now : List PacketReport) (held : ℕ → List PacketReport) (runs : List RunView) (i : ℕ) → length runs ≤ i → now ≡ old ++ reports_in (rests held (take i runs)) → now ≡ old ++ reports_in (rests held runs)
 list_last old now held runs i h so_far = so_far ∙ ap (λ (l : List RunView). old ++ reports_in (rests held l)) (take_whole i runs h)
 
 -- chains and a log that got what runs have past the chains
 module _ (name : ℕ) (log more : List PacketReport) (es fs : List (ℕ × ChainView PacketReport)) (billing : BillingView) (are : AreContents name log es billing) (runs : List RunView) (rises : Rises fs)
-    (chains : (q : ℕ) → kept_of fs q ≡ kept_of es q ++ of q (rests (kept_of es) runs)) (logs : more ≡ in_order report_cmp (log ++ reports_in (rests (kept_of es) runs))) where
+    (chains : (q : ℕ) → held_of fs q ≡ held_of es q ++ of q (rests (held_of es) runs)) (logs : more ≡ in_order report_cmp (log ++ reports_in (rests (held_of es) runs))) where
   abbrev before : ReplicaView
   before = replica_of name billing.plan log es
 
-  held_same : kept_of es ≡ chain_of before
+  held_same : held_of es ≡ chain_of before
   held_same = λ i o. (sym (chain_held es o are.rises)) i
 
   pub runs_are : replica_of name billing.plan more fs ≡ appended before (rests (chain_of before) runs)
-  runs_are = now_is name log more es fs billing are (rests (kept_of es) runs) rises chains logs ∙ ap (λ (held : ℕ → List PacketReport). appended before (rests held runs)) held_same
+  runs_are = now_is name log more es fs billing are (rests (held_of es) runs) rises chains logs ∙ ap (λ (held : ℕ → List PacketReport). appended before (rests held runs)) held_same
 
   pub runs_replica : IsReplica (replica_of name billing.plan more fs)
-  runs_replica = now_replica name log more es fs billing are (rests (kept_of es) runs) rises chains logs
+  runs_replica = now_replica name log more es fs billing are (rests (held_of es) runs) rises chains logs
 
   pub runs_within : first_fault name (chain_of before) runs ≡ None → IsOwnWithin (replica_of name billing.plan more fs)
   runs_within none =
-      let own : of name (rests (kept_of es) runs) ≡ [] = none_own name (kept_of es) runs (ap (λ (held : ℕ → List PacketReport). first_fault name held runs) held_same ∙ none) in
-      let grows = union_longer report_cmp report_total report_exact log (reports_in (rests (kept_of es) runs)) are.replica.log_rises in
-      now_within name log more es fs billing are (rests (kept_of es) runs) rises chains logs (omega (arith, ap length own, grows, ap length logs))
+      let own : of name (rests (held_of es) runs) ≡ [] = none_own name (held_of es) runs (ap (λ (held : ℕ → List PacketReport). first_fault name held runs) held_same ∙ none) in
+      let grows = union_longer report_cmp report_total report_exact log (reports_in (rests (held_of es) runs)) are.replica.log_rises in
+      now_within name log more es fs billing are (rests (held_of es) runs) rises chains logs (omega (arith, ap length own, grows, ap length logs))

@@ -8,7 +8,7 @@ use Rattle.tca_report.specs.report.Reports.{PacketReport, report_cmp}
 use Rattle.tca_join.specs.Sets.{by_order, has, put}
 use Rattle.tca_gossip.specs.Replicas.{ReplicaView, IsReplica, append_one, appended, with_origin, chain_of, of}
 use Rattle.tca_gossip.specs.Runs.{RunView, rests, rest_of}
-use Rattle.tca_gossip.specs.inside.Kept.{IsOwnWithin}
+use Rattle.tca_gossip.specs.inside.Storage.{IsOwnWithin}
 use Rattle.tca_gossip.proofs.Appends.{chain_appended, of_append, of_other}
 
 pub put_new : (k : PacketReport) (xs : List PacketReport) → has report_cmp xs k ≡ false → length (put report_cmp k xs) ≡ suc (length xs)

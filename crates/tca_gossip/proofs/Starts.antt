@@ -5,7 +5,7 @@ use Rattle.tca_accounts.specs.Plans.{AccountPlan}
 use Rattle.tca_gossip.specs.Replicas.{ReplicaView, IsReplica, new_replica}
 use Rattle.tca_gossip.specs.Machines.{Machine, Shows, new_machine}
 use Rattle.tca_gossip.proofs.Takes.{replica_opened}
-use Rattle.tca_gossip.proofs.Kept.{world_started}
+use Rattle.tca_gossip.proofs.WorldInvariants.{world_started}
 use Rattle.tca_gossip.specs.Steps.{Step, Reply, IsStep, IsRun}
 use Rattle.tca_gossip.specs.Coupling.{WorldView, name_of, AreDistinct, IsCoupled, StepsTo, RunsTo, new_world}
 

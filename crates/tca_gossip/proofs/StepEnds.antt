@@ -26,7 +26,7 @@ use Rattle.tca_gossip.proofs.Places.{is_there, shows_at, replica_at, message_at,
 use Rattle.tca_gossip.proofs.Members.{log_is, take_step}
 use Rattle.tca_gossip.proofs.Answering.{ask_step, answer_step, counts_are}
 use Rattle.tca_gossip.proofs.Arriving.{deliver_step}
-use Rattle.tca_gossip.proofs.MergeSteps.{merge_step, merge_itself, no_clash}
+use Rattle.tca_gossip.proofs.MergesInWorlds.{merge_step, merge_itself, no_clash}
 use Rattle.tca_gossip.proofs.Finding.{replica_there}
 
 -- messages by their numbers

@@ -7,7 +7,7 @@ use Rattle.tca_join.specs.Chains.{ChainView}
 use Rattle.tca_join.specs.Maps.{Rises, with_value}
 use Rattle.tca_join.proofs.Positions.{greater_is}
 use Rattle.tca_gossip.specs.Coupling.{counts_of}
-use Rattle.tca_gossip.specs.inside.Kept.{before_others, held_in}
+use Rattle.tca_gossip.specs.inside.Storage.{before_others, held_in}
 
 -- a key above all others goes last
 put_last : (key count : ℕ) (out : List (ℕ × ℕ)) → AllByRecursion (λ p. p.0 < key) out → with_value key count out ≡ out ++ (key, count) ∷ []

@@ -1,6 +1,6 @@
 -- What the calls of a replica answer.
 use Rattle.std.specs.Prelude.{◌≡◌, ◌⊎◌, ℕ, ◌<◌, Option, None, Some, Result, Ok, Err, List, length, take, slice_get, true, false}
-use Rattle.tca_report.specs.report.Reports.{PacketReport, report_cmp}
+use Rattle.tca_report.specs.report.Reports.{PacketReport, report_cmp, most_reports}
 use Rattle.tca_join.specs.Sets.{has}
 use Rattle.tca_log.specs.declared.fault.LogFault.{LogFault}
 use Rattle.tca_log.specs.declared.fault.LogFault.TheVariants.{Full, Memory}
@@ -11,7 +11,6 @@ use Rattle.tca_gossip.specs.declared.fault.AbsorbFault.{AbsorbFault}
 use Rattle.tca_gossip.specs.declared.fault.AbsorbFault.TheVariants.{Gap, Forked, OwnAhead, Stopped as stopped_at}
 use Rattle.tca_gossip.specs.declared.fault.WorldFault.{WorldFault}
 use Rattle.tca_gossip.specs.declared.fault.WorldFault.TheVariants.{NameTwice, Memory as world_memory}
-use Rattle.tca_report.specs.export.Spelling.{most_reports}
 
 -- the number of a fault
 abbrev pub absorb_number : AbsorbFault → ℕ

@@ -7,4 +7,5 @@ pub mod Answers
 pub mod Holding
 pub mod Worlds
 pub mod WorldSteps
+pub mod WorldLaws
 pub mod inside

@@ -2,7 +2,7 @@
 use Rattle.std.specs.Prelude.{◌≡◌, ℕ, ◌+◌, ◌-◌, ◌<◌, ◌≤◌, min, max, Bool, true, false, ◌&&◌, ◌||◌, ◌⊎◌, cond, nat_lt, ◌==◌, Option, None, Some, is_some, IfSome, List, [], ◌∷◌, length, take, slice_get}
 use Rattle.std.specs.List.{list_any}
 use Rattle.std.specs.List.Sorted.{IsStrictlySortedBy}
-use Rattle.tca_report.specs.report.Reports.{PacketReport, report_cmp}
+use Rattle.tca_report.specs.report.Reports.{PacketReport, report_cmp, most_reports}
 use Rattle.tca_join.specs.Sets.{has}
 use Rattle.tca_log.specs.declared.fault.LogFault.{LogFault}
 use Rattle.tca_log.specs.declared.fault.LogFault.TheVariants.{Full as at_limit, Memory as no_memory}
@@ -10,7 +10,6 @@ use Rattle.tca_join.specs.declared.fault.JoinFault.{JoinFault}
 use Rattle.tca_join.specs.declared.fault.JoinFault.TheVariants.{Clash, Full, Memory}
 use Rattle.tca_gossip.specs.Runs.{RunView, Fault, OwnAhead, Gap, Forked, Outcome, Appended, Stopped, Refused, AreRuns, same_report, or_else, rests}
 use Rattle.tca_gossip.specs.Machines.{Message, Counts, Parts, Machine, is_name, held_prefix, at_name, took, sends, raised, joined, run_between}
-use Rattle.tca_report.specs.export.Spelling.{most_reports}
 
 pub data Step : Type 0 where
   -- the replica of this name takes reports

@@ -1,2 +1,2 @@
 -- What private functions and invariants alone cite. No public contract speaks of it.
-pub mod Kept
+pub mod Storage

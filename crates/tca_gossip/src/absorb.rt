@@ -4,9 +4,9 @@ ghost use Rattle.tca_join.specs.Chains.{differ_at, most_items};
 ghost use Rattle.tca_gossip.specs.Replicas.{appended, chain_of, with_origin};
 ghost use Rattle.tca_gossip.specs.Runs.{AreRuns, fault_of, first_fault, rest_of, rests, same_report};
 ghost use Rattle.tca_gossip.specs.Answers.{IsRefusal, IsStop, fault_view};
-ghost use Rattle.tca_gossip.specs.inside.Kept.{kept_of};
+ghost use Rattle.tca_gossip.specs.inside.Storage.{held_of};
 
-use crate::chains::kept;
+use crate::chains::held_of;
 use crate::contents::Contents;
 use crate::fault::AbsorbFault;
 use crate::run::Run;
@@ -67,11 +67,11 @@ fn fault_in(name: u32, chain: &[Report], run: &Run) -> Option<AbsorbFault>
 /// Why runs are refused: the fault of the first run that has one.
 pub(crate) fn refusal(name: u32, chains: &ByKey<Chain<Report>>, runs: &[Run]) -> Option<AbsorbFault>
     requires { AreRuns runs.now }
-    ensures fault { fault_view result ≡ first_fault name (kept_of chains.now) runs.now }
+    ensures fault { fault_view result ≡ first_fault name (held_of chains.now) runs.now }
     ensures refused { IfSome result IsRefusal }
 {
     for run in runs {
-        let chain = kept(chains, run.origin());
+        let chain = held_of(chains, run.origin());
         match fault_in(name, chain, run) {
             Some(fault) => return Some(fault),
             None => {}

@@ -7,10 +7,10 @@
 ghost use Rattle.std.specs.Prelude.{◌≡◌, ℕ, ◌+◌, ◌≤◌, ◌++◌, length, true, false, IfOk, OnErr, OnOk, None};
 ghost use Rattle.tca_gossip.specs.Replicas.{appended, chain_of, fresh_of, of, reports_in, with_origin};
 ghost use Rattle.tca_gossip.specs.Runs.{AreRuns, first_fault, rest_of, rests};
-ghost use Rattle.tca_gossip.specs.inside.Kept.{kept_of};
+ghost use Rattle.tca_gossip.specs.inside.Storage.{held_of};
 ghost use Rattle.tca_join.specs.Chains.{most_items};
 
-use crate::chains::{extend, kept};
+use crate::chains::{extend, held_of};
 use crate::contents::Contents;
 use crate::run::Run;
 use std::alloc::{AllocError, Global};
@@ -110,12 +110,12 @@ fn extend_one(
     run: &Run,
 ) -> Result<(), AllocError>
     requires { run.now.start + length run.now.reports ≤ most_items }
-    ensures kept { OnOk result ((q : ℕ) → kept_of chains.new q ≡ kept_of chains.old q ++ of q (with_origin run.now.origin (rest_of (kept_of chains.old) run.now))) }
-    ensures list { OnOk result (list.new.items ≡ list.old.items ++ rest_of (kept_of chains.old) run.now) }
+    ensures kept { OnOk result ((q : ℕ) → held_of chains.new q ≡ held_of chains.old q ++ of q (with_origin run.now.origin (rest_of (held_of chains.old) run.now))) }
+    ensures list { OnOk result (list.new.items ≡ list.old.items ++ rest_of (held_of chains.old) run.now) }
 {
     let origin = run.origin();
     let reports = run.reports();
-    let have = kept(chains, origin).len();
+    let have = held_of(chains, origin).len();
     let skip = have.saturating_sub(run.start() as usize).min(reports.len());
     let (_, rest) = reports.split_at(skip);
     extend(alloc, chains, origin, rest)?;
@@ -131,8 +131,8 @@ fn extend_all(
     runs: &[Run],
 ) -> Result<(), AllocError>
     requires { AreRuns runs.now }
-    ensures kept { OnOk result ((q : ℕ) → kept_of chains.new q ≡ kept_of chains.old q ++ of q (rests (kept_of chains.old) runs.now)) }
-    ensures list { OnOk result (list.new.items ≡ list.old.items ++ reports_in (rests (kept_of chains.old) runs.now)) }
+    ensures kept { OnOk result ((q : ℕ) → held_of chains.new q ≡ held_of chains.old q ++ of q (rests (held_of chains.old) runs.now)) }
+    ensures list { OnOk result (list.new.items ≡ list.old.items ++ reports_in (rests (held_of chains.old) runs.now)) }
 {
     for run in runs {
         extend_one(alloc, chains, list, run)?;

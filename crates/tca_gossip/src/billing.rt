@@ -6,7 +6,7 @@ ghost use Rattle.tca_report.specs.report.Reports.{PacketReport, report_cmp};
 ghost use Rattle.tca_log.specs.Disputes as disputes;
 ghost use Rattle.tca_accounts.specs.Bills.{bill_of};
 ghost use Rattle.tca_replay.specs.Books.{IsReady, Takes};
-ghost use Rattle.tca_gossip.specs.inside.Kept.{Bills, IsSettled};
+ghost use Rattle.tca_gossip.specs.inside.Storage.{Bills, IsResumed};
 
 use std::alloc::{AllocError, Global};
 use std::marker::Model;
@@ -28,7 +28,7 @@ pub(crate) struct Billing {
 }
 
 impl Model for Billing {
-    ghost use Rattle.tca_gossip.specs.inside.Kept.{BillingView};
+    ghost use Rattle.tca_gossip.specs.inside.Storage.{BillingView};
 
     ghost Value = { BillingView };
 
@@ -43,7 +43,7 @@ impl Billing {
         ensures plan { IfOk result (λ b. b.plan ≡ plan) }
         ensures kept { IfOk result (λ b. b.kept ≡ true) }
         ensures bills { IfOk result (Bills []) }
-        ensures settled { IfOk result IsSettled }
+        ensures resumed { IfOk result IsResumed }
     {
         Ok(Billing {
             book: Book::new(alloc, plan, ROWS_A_MARK)?,
@@ -66,7 +66,7 @@ impl Billing {
         ensures none { OnErr result (self.new.kept ≡ false) }
         ensures same { self.old.kept ≡ true → self.new ≡ self.old }
         ensures err { OnErr result (self.new ≡ self.old) }
-        ensures settled { IsSettled self.old → IsSettled self.new }
+        ensures resumed { IsResumed self.old → IsResumed self.new }
         ensures bills { Bills log.now self.new }
     {
         if !self.is_kept {
@@ -110,7 +110,7 @@ impl Billing {
     pub(crate) fn settle(&mut self)
         ensures plan { self.new.plan ≡ self.old.plan }
         ensures kept { self.new.kept ≡ self.old.kept }
-        ensures settled { IsSettled self.new }
+        ensures resumed { IsResumed self.new }
         ensures bills { (rs : List PacketReport) → Bills rs self.old → Bills rs self.new }
     {
         if self.is_kept {
@@ -133,7 +133,7 @@ impl Billing {
     /// The bill of the log.
     pub(crate) fn totals(&self, alloc: Global, log: &Log) -> Result<Bill, AllocError>
         requires bills { Bills log.now self.now }
-        requires settled { IsSettled self.now }
+        requires resumed { IsResumed self.now }
         ensures { IfOk result (λ bill. bill ≡ bill_of self.now.plan log.now) }
     {
         if self.is_kept {

@@ -3,7 +3,7 @@ ghost use Rattle.std.specs.Prelude.{◌≡◌, ℕ, ◌+◌, ◌<◌, ◌≤◌,
 ghost use Rattle.tca_join.specs.Chains.{chain, most_items};
 ghost use Rattle.tca_join.specs.Maps.{Rises, get, put};
 ghost use Rattle.tca_gossip.specs.Replicas.{of, with_origin};
-ghost use Rattle.tca_gossip.specs.inside.Kept.{held_in, kept_of};
+ghost use Rattle.tca_gossip.specs.inside.Storage.{held_in, held_of};
 
 use std::alloc::{AllocError, Global};
 use tca_join::{ByKey, Chain};
@@ -11,9 +11,9 @@ use tca_report::Report;
 
 // A `let _rises` or `let _limit` is a call for its clause alone: that keys ascend, or how long a chain may be.
 
-/// The reports that are kept of an origin, none where it has no chain.
-pub(crate) fn kept(chains: &ByKey<Chain<Report>>, origin: u32) -> &[Report]
-    ensures items { result.now ≡ kept_of chains.now origin }
+/// The reports that are held of an origin, none where it has no chain.
+pub(crate) fn held_of(chains: &ByKey<Chain<Report>>, origin: u32) -> &[Report]
+    ensures items { result.now ≡ held_of chains.now origin }
     ensures limit { length result.now ≤ most_items }
 {
     match chains.get(origin) {
@@ -31,9 +31,9 @@ pub(crate) fn reserve(
     chains: &mut ByKey<Chain<Report>>,
     origin: u32,
 ) -> Result<(), AllocError>
-    ensures room { OnOk result (get chains.new origin ≡ Some (chain (kept_of chains.old origin) true)) }
+    ensures room { OnOk result (get chains.new origin ≡ Some (chain (held_of chains.old origin) true)) }
     ensures held { held_in chains.new ≡ held_in chains.old }
-    ensures kept { kept_of chains.new origin ≡ kept_of chains.old origin }
+    ensures kept { held_of chains.new origin ≡ held_of chains.old origin }
     ensures rises { Rises chains.new }
 {
     let _rises = chains.keys();
@@ -47,8 +47,8 @@ pub(crate) fn reserve(
 
 /// Appends a report to the chain of an origin, into the room that was made. It takes no memory.
 pub(crate) fn push(chains: &mut ByKey<Chain<Report>>, origin: u32, report: Report)
-    requires room { get chains.old origin ≡ Some (chain (kept_of chains.old origin) true) }
-    requires few { length (kept_of chains.old origin) < most_items }
+    requires room { get chains.old origin ≡ Some (chain (held_of chains.old origin) true) }
+    requires few { length (held_of chains.old origin) < most_items }
     ensures rises { Rises chains.new }
     ensures held { held_in chains.new ≡ put (λ w u. w ++ u) origin (report ∷ []) (held_in chains.old) }
 {
@@ -77,8 +77,8 @@ pub(crate) fn extend(
     origin: u32,
     reports: &[Report],
 ) -> Result<(), AllocError>
-    requires { length (kept_of chains.old origin) + length reports.now ≤ most_items }
-    ensures { OnOk result ((q : ℕ) → kept_of chains.new q ≡ kept_of chains.old q ++ of q (with_origin origin reports.now)) }
+    requires { length (held_of chains.old origin) + length reports.now ≤ most_items }
+    ensures { OnOk result ((q : ℕ) → held_of chains.new q ≡ held_of chains.old q ++ of q (with_origin origin reports.now)) }
 {
     let _rises = chains.keys();
     if let Some(chain) = chains.get_mut(origin) {

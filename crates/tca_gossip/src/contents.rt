@@ -10,11 +10,11 @@ ghost use Rattle.tca_gossip.specs.Replicas.{IsReplica, append_one, chain_of, lea
 ghost use Rattle.tca_gossip.specs.Runs.{AreRuns, delta_of, first_fault, summary_count};
 ghost use Rattle.tca_gossip.specs.Coupling.{counts_of};
 ghost use Rattle.tca_gossip.specs.Answers.{IsRefusal, IsRefusedFor, fault_view};
-ghost use Rattle.tca_gossip.specs.inside.Kept.{IsOwnWithin, IsSettled, clash_in, replica_of};
+ghost use Rattle.tca_gossip.specs.inside.Storage.{IsOwnWithin, IsResumed, clash_in, replica_of};
 
 use crate::absorb::refusal;
 use crate::billing::Billing;
-use crate::chains::{kept, push, reserve};
+use crate::chains::{held_of, push, reserve};
 use crate::delta::delta_for;
 use crate::fault::AbsorbFault;
 use crate::run::{Delta, Run, Summary};
@@ -38,7 +38,7 @@ pub(crate) struct Contents {
 }
 
 impl Model for Contents {
-    ghost use Rattle.tca_gossip.specs.inside.Kept.{AreContents, ContentsView, replica_of};
+    ghost use Rattle.tca_gossip.specs.inside.Storage.{AreContents, ContentsView, replica_of};
 
     ghost Value = { ContentsView };
 
@@ -52,7 +52,7 @@ impl Contents {
     /// Nothing.
     pub(crate) fn new(alloc: Global, name: u32, plan: Plan) -> Result<Contents, AllocError>
         ensures replica { IfOk result (λ c. c.replica ≡ new_replica plan name) }
-        ensures settled { IfOk result (λ c. IsSettled c.billing) }
+        ensures resumed { IfOk result (λ c. IsResumed c.billing) }
         ensures kept { IfOk result (λ c. c.billing.kept ≡ true) }
     {
         Ok(Contents {
@@ -70,7 +70,7 @@ impl Contents {
         ensures limit { length result.now ≤ most_items }
     {
         let _rises = self.chains.keys();
-        kept(&self.chains, origin)
+        held_of(&self.chains, origin)
     }
 
     /// Appends a report to the chain of an origin, and adds it to log and book: all of that, or nothing.
@@ -147,7 +147,7 @@ impl Contents {
     /// Joins these contents with those of another: all, or nothing.
     pub(crate) fn merge(&mut self, other: &Contents) -> Result<(), JoinFault>
         ensures ok { OnOk result (self.new.replica ≡ merged_with self.old.replica other.now.replica) }
-        ensures settled { OnOk result (IsSettled self.new.billing) }
+        ensures resumed { OnOk result (IsResumed self.new.billing) }
         ensures compatible { OnOk result (merge_clash ⟦<Report as PartialEq>⟧.eq self.old.replica other.now.replica ≡ None) }
         ensures within { OnOk result (merge_full self.old.replica other.now.replica ≡ false) }
         ensures err { OnErr result (self.new ≡ self.old) }
@@ -206,7 +206,7 @@ impl Contents {
         ensures kept { OnOk result (self.new.billing.kept ≡ true) }
         ensures none { OnErr result (self.new.billing.kept ≡ false) }
         ensures err { OnErr result (self.new ≡ self.old) }
-        ensures settled { IsSettled self.old.billing → IsSettled self.new.billing }
+        ensures resumed { IsResumed self.old.billing → IsResumed self.new.billing }
     {
         self.billing.keep(self.alloc, &self.log)
     }
@@ -222,14 +222,14 @@ impl Contents {
     pub(crate) fn settle(&mut self)
         ensures replica { self.new.replica ≡ self.old.replica }
         ensures kept { self.new.billing.kept ≡ self.old.billing.kept }
-        ensures settled { IsSettled self.new.billing }
+        ensures resumed { IsResumed self.new.billing }
     {
         self.billing.settle();
     }
 
     /// The bill of the log.
     pub(crate) fn totals(&self) -> Result<Bill, AllocError>
-        requires { IsSettled self.now.billing }
+        requires { IsResumed self.now.billing }
         ensures { IfOk result (λ bill. bill ≡ bill_of self.now.replica.plan self.now.replica.log) }
     {
         self.billing.totals(self.alloc, &self.log)

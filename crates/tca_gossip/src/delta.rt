@@ -1,7 +1,7 @@
 //! What a replica tells another: how much it holds, and the runs that the other lacks.
 ghost use Rattle.std.specs.Prelude.{◌≡◌, IfOk};
 ghost use Rattle.tca_gossip.specs.Runs.{delta_of, summary_count};
-ghost use Rattle.tca_gossip.specs.inside.Kept.{held_in};
+ghost use Rattle.tca_gossip.specs.inside.Storage.{held_in};
 
 use crate::run::{Delta, Run, Summary};
 use std::alloc::{AllocError, Global};

@@ -32,14 +32,14 @@ pub struct Replica {
 }
 
 impl Model for Replica {
-    ghost use Rattle.tca_gossip.specs.inside.Kept.{IsSettled};
+    ghost use Rattle.tca_gossip.specs.inside.Storage.{IsResumed};
     ghost use Rattle.tca_gossip.specs.Replicas.{ReplicaView};
 
     ghost Value = { ReplicaView };
 
     ghost view = { λ r. r.contents.replica };
 
-    ghost invariant = { λ r. IsSettled r.contents.billing };
+    ghost invariant = { λ r. IsResumed r.contents.billing };
 }
 
 impl Replica {

@@ -5,10 +5,11 @@ ghost use Rattle.tca_gossip.specs.Runs.{AreRuns};
 use std::alloc::{AllocError, Global};
 use std::marker::Model;
 use tca_join::{ByKey, MaxOf};
+use tca_log::rows::LIMIT;
 use tca_report::Report;
 
-// The most reports of a chain.
-const MOST_REPORTS: u64 = 4_194_304;
+// The most reports of a chain: as many as a log may have.
+const MOST_REPORTS: u64 = LIMIT as u64;
 
 /// How long the chain of each origin is, with no key for an empty one.
 pub type Summary = ByKey<MaxOf>;

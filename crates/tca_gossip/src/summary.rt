@@ -1,7 +1,7 @@
 //! How much a replica holds.
 ghost use Rattle.std.specs.Prelude.{◌≡◌, IfOk};
 ghost use Rattle.tca_gossip.specs.Coupling.{counts_of};
-ghost use Rattle.tca_gossip.specs.inside.Kept.{held_in};
+ghost use Rattle.tca_gossip.specs.inside.Storage.{held_in};
 
 use crate::run::Summary;
 use std::alloc::{AllocError, Global};

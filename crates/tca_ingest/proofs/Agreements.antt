@@ -8,7 +8,7 @@ use Rattle.tca_join.specs.Chains.{differ_at}
 use Rattle.tca_gossip.specs.Replicas.{or_empty}
 use Rattle.tca_gossip.specs.Runs.{same_report}
 use Rattle.tca_gossip.specs.Holding.{Begins, Agree}
-use Rattle.tca_gossip.proofs.Merges.{parts}
+use Rattle.tca_gossip.proofs.MergedLogs.{parts}
 use Rattle.tca_ingest.proofs.Holdings.{equal_of}
 
 pub begins_itself : (xs : List PacketReport) → Begins xs xs

@@ -7,7 +7,7 @@ use Rattle.std.proofs.lemmas.List.Sums.{sum_by-cons}
 use Rattle.std.specs.List.{All, AllPairs, AllByRecursion}
 use Rattle.tca_ingest.specs.Entries.{EntryView, pass_of}
 use Rattle.tca_ingest.specs.Passes.{PassView, calls_of, count_of, AreAtFrom, IsFound, AreClosing}
-use Rattle.tca_ingest.proofs.Closes.{numbers, passes_apart, total, total_most}
+use Rattle.tca_ingest.proofs.Interleavings.{numbers, passes_apart, total, total_most}
 
 -- the first list is the second without some of its entries
 abbrev Within : List EntryView → List EntryView → Type 0

@@ -4,7 +4,7 @@ pub mod Holdings
 pub mod Limits
 pub mod Histories
 pub mod Pairs
-pub mod Closes
+pub mod Interleavings
 pub mod Refusals
 pub mod Finding
 pub mod Listings
@@ -14,8 +14,8 @@ pub mod Agreements
 pub mod Clashes
 pub mod Worlds
 pub mod States
-pub mod CloseSteps
+pub mod CallSearch
 pub mod Replayed
 pub mod Matches
-pub mod Closings
+pub mod ClashSearch
 pub mod Collecting

@@ -1,6 +1,6 @@
 -- What a journal lists, and when each of its entries is right.
 use Rattle.std.specs.Prelude.{◌≡◌, ℕ, cond, nat_lt, ◌==◌, Option, None, Some, Result, Ok, Err, List, [], ◌∷◌, ◌++◌, length, take, drop}
-use Rattle.tca_report.specs.report.Reports.{PacketReport, report_cmp}
+use Rattle.tca_report.specs.report.Reports.{PacketReport, report_cmp, most_reports}
 use Rattle.tca_join.specs.Sets.{in_order}
 use Rattle.tca_join.specs.Maps.{get, Rises}
 use Rattle.tca_log.specs.declared.fault.LogFault.{LogFault}
@@ -13,7 +13,6 @@ use Rattle.tca_gossip.specs.Answers.{outcome_of, cause_of}
 use Rattle.tca_gossip.specs.declared.fault.AbsorbFault.{AbsorbFault}
 use Rattle.tca_gossip.specs.declared.fault.AbsorbFault.TheVariants.{Gap, Forked, OwnAhead, Stopped}
 use Rattle.tca_ingest.specs.Entries.{EntryView, Took, Absorbed, Answered, Asked, Sent, pass_of}
-use Rattle.tca_report.specs.export.Spelling.{most_reports}
 
 -- What entries list: the reports of takes; those of them that were new at their turn; and what absorbs append, each report with its
 -- origin.

@@ -5,6 +5,6 @@ pub mod Closed
 pub mod Shares
 pub mod EntryViews
 pub mod Faults
-pub mod Closing
+pub mod CloseFaults
 pub mod Works
 pub mod JournalLaws

@@ -20,10 +20,15 @@ pub record HeldView : Type 0 where
   pub journal : List EntryView
   pub passes : ℕ
 
--- how many passes and entries there may be
+-- how many passes there may be
 abbrev pub most_passes : ℕ
 most_passes = 65536
 
+-- the parts of a replica's ledger: one for each pass, and one that stays
+abbrev pub ledger_parts : ℕ
+ledger_parts = 65537
+
+-- how many entries a journal may have
 abbrev pub most_entries : ℕ
 most_entries = 1048576
 

@@ -3,7 +3,7 @@ ghost use Rattle.std.specs.Prelude.{◌≡◌, List, IfOk, IfErr};
 ghost use Rattle.tca_ingest.specs.Entries.{EntryView};
 ghost use Rattle.tca_ingest.specs.Journals.{IsHistory};
 ghost use Rattle.tca_ingest.specs.Passes.{AreClosing};
-ghost use Rattle.tca_ingest.specs.Closing.{IsCloseFault};
+ghost use Rattle.tca_ingest.specs.CloseFaults.{IsCloseFault};
 ghost use Rattle.tca_ingest.specs.Shares.{IsReplayed};
 
 use crate::entry::Entry;

@@ -2,7 +2,7 @@
 ghost use Rattle.std.specs.Prelude.{◌≡◌, Ok, IsOk, OnOk, IfErr, Some, None};
 ghost use Rattle.tca_gossip.specs.Replicas.{least_of};
 ghost use Rattle.tca_ingest.specs.Closed.{IsClash, clash_all, clash_among, replicas_of};
-ghost use Rattle.tca_ingest.specs.Closing.{IsClashFault};
+ghost use Rattle.tca_ingest.specs.CloseFaults.{IsClashFault};
 
 use crate::close::Closed;
 use crate::fault::CloseFault;
@@ -31,6 +31,7 @@ fn clash_in(closed: &[Closed]) -> Option<u32>
         i -= 1;
         let this = &closed[i];
         let replica = &this.replica;
+        // For its clause alone: what is known of each replica.
         let _known = replica.log();
         least = lesser(clash_with(replica, &closed[i + 1..]), least);
     }

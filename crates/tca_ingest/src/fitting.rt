@@ -3,7 +3,7 @@ ghost use Rattle.std.specs.Prelude.{◌≡◌, ◌≢◌, ◌≤◌, ◌↔◌, 
 ghost use Rattle.std.specs.List.{All, AllPairs};
 ghost use Rattle.tca_ingest.specs.EntryViews.{entry_views};
 ghost use Rattle.tca_ingest.specs.Passes.{AreClosing, IsFound, IsOwned, calls_of, count_of};
-ghost use Rattle.tca_ingest.specs.Closing.{IsCloseFault};
+ghost use Rattle.tca_ingest.specs.CloseFaults.{IsCloseFault};
 
 use crate::entry::Entry;
 use crate::fault::CloseFault;

@@ -3,7 +3,7 @@ ghost use Rattle.std.specs.Prelude.{◌≡◌, ◌≢◌, ◌+◌, ◌≤◌, �
 ghost use Rattle.tca_ingest.specs.Entries.{pass_of};
 ghost use Rattle.tca_ingest.specs.EntryViews.{entry_view, entry_views};
 ghost use Rattle.tca_ingest.specs.Journals.{IsHistory, after_entry};
-ghost use Rattle.tca_ingest.specs.Shares.{Appends, IsAbsorbInto, IsTakeInto, IsReplayed, delta_since, most_entries, most_passes, new_held, statement_of, summary_of};
+ghost use Rattle.tca_ingest.specs.Shares.{Appends, IsAbsorbInto, IsTakeInto, IsReplayed, delta_since, ledger_parts, most_entries, most_passes, new_held, statement_of, summary_of};
 
 use crate::copies::{EntryCopies, ReportCopies, RunCopies};
 use crate::entry::{Entry, Receipt};
@@ -51,14 +51,14 @@ impl<L: Side> Model for Held<L> {
 
     ghost view = { λ h. record { replica = h.replica; journal = entry_views h.journal.items; passes = h.passes } };
 
-    ghost invariant = { λ h. IsHistory L.plan L.called h.replica (entry_views h.journal.items) × (h.book.total ≡ length h.journal.items) × (h.rest.parts + h.passes ≡ 65537) × (h.rest.amount ≡ 0) };
+    ghost invariant = { λ h. IsHistory L.plan L.called h.replica (entry_views h.journal.items) × (h.book.total ≡ length h.journal.items) × (h.rest.parts + h.passes ≡ ledger_parts) × (h.rest.amount ≡ 0) };
 }
 
 impl<L: Side> Held<L> {
     /// A new replica of this name and plan, with an empty journal and no passes.
     pub fn new(alloc: Global, blank: Blank, name: u32, plan: Plan) -> Result<Held<L>, AllocError>
         requires name { blank.name ≡ L.name }
-        requires parts { (blank.parts ≡ L.parts) × (L.parts ≡ 65537) }
+        requires parts { (blank.parts ≡ L.parts) × (L.parts ≡ ledger_parts) }
         requires called { name ≡ L.called }
         requires plan { plan ≡ L.plan }
         ensures { IfOk result (λ h. h ≡ new_held plan name) }

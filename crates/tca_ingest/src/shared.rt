@@ -1,7 +1,7 @@
 //! A replica that threads share.
 ghost use Rattle.std.specs.Prelude.{◌≡◌, ◌≢◌, [], IfOk, IfErr, OnErr};
 ghost use Rattle.tca_ingest.specs.EntryViews.{entry_view};
-ghost use Rattle.tca_ingest.specs.Shares.{IsAbsorb, IsDelta, IsExchange, IsNoted, IsPartOfExchange, IsStatement, IsSummaryEntry, IsTake};
+ghost use Rattle.tca_ingest.specs.Shares.{IsAbsorb, IsDelta, IsExchange, IsNoted, IsPartOfExchange, IsStatement, IsSummaryEntry, IsTake, ledger_parts};
 
 use crate::entry::{Entry, Receipt};
 use crate::fault::ShareFault;
@@ -27,7 +27,7 @@ impl<L: Side> Shared<L> {
     /// A new replica of this name and plan. `AllocError` comes where a growth was refused.
     pub fn new(alloc: Global, blank: Blank, name: u32, plan: Plan) -> Result<Shared<L>, AllocError>
         requires name { blank.name ≡ L.name }
-        requires parts { (blank.parts ≡ L.parts) × (L.parts ≡ 65537) }
+        requires parts { (blank.parts ≡ L.parts) × (L.parts ≡ ledger_parts) }
         requires called { name ≡ L.called }
         requires plan { plan ≡ L.plan }
     {

@@ -14,7 +14,7 @@ use tca_report::Input;
 
 /// What all workers of a run share.
 #[derive(Drop)]
-pub(crate) struct Setting<'a, L: Side, R, G> {
+pub(crate) struct WorkSetting<'a, L: Side, R, G> {
     pub(crate) rt: &'a R,
     pub(crate) alloc: Global,
     pub(crate) shared: &'a Shared<L>,
@@ -33,7 +33,7 @@ pub(crate) struct Ends<'a> {
 
 /// Does jobs until none is left or the run is halted, and gives the pass back. A result that can't be sent halts the run.
 pub(crate) fn do_jobs<'a, L: Side, R: Wait, G: Gate>(
-    setting: &Setting<'a, L, R, G>,
+    setting: &WorkSetting<'a, L, R, G>,
     pass: Pass<L>,
     ends: Ends<'a>,
 ) -> Pass<L> {

@@ -10,7 +10,7 @@ use crate::job::{Done, JobResult};
 use crate::pass::Pass;
 use crate::shared::Shared;
 use crate::side::Side;
-use crate::worker::{Ends, Setting, do_jobs};
+use crate::worker::{Ends, WorkSetting, do_jobs};
 use crossbeam_channel::{Receiver, Sender, unbounded};
 use std::alloc::{AllocError, Global};
 use std::sync::Wait;
@@ -112,7 +112,7 @@ pub fn work_on<L: Side + Send + Sync, R: Threads + Wait + Sync, G: Gate>(
         return Err(before_passes(alloc));
     };
     let halted = AtomicBool::new(false);
-    let setting = Setting {
+    let setting = WorkSetting {
         rt,
         alloc,
         shared,
@@ -120,12 +120,12 @@ pub fn work_on<L: Side + Send + Sync, R: Threads + Wait + Sync, G: Gate>(
         inputs,
         halted: &halted,
     };
-    worked_by(&setting, workers, passes)
+    work_all(&setting, workers, passes)
 }
 
 // The results of all jobs, and the passes that it makes, for which there is room.
-fn worked_by<'a, L: Side + Send + Sync, R: Threads + Wait + Sync, G: Gate>(
-    setting: &Setting<'a, L, R, G>,
+fn work_all<'a, L: Side + Send + Sync, R: Threads + Wait + Sync, G: Gate>(
+    setting: &WorkSetting<'a, L, R, G>,
     workers: u32,
     room: Vec<Pass<L>>,
 ) -> Result<Worked<L>, WorkRefused<L>>
@@ -142,15 +142,15 @@ fn worked_by<'a, L: Side + Send + Sync, R: Threads + Wait + Sync, G: Gate>(
     ensures missing { IfErr result (λ r. IsOfJobs (length setting.now.inputs.now) r.fault) }
 {
     let mut passes = room;
-    match done_by(setting, workers, &mut passes) {
+    match do_all(setting, workers, &mut passes) {
         Ok(done) => Ok(Worked { done, passes }),
         Err(fault) => Err(WorkRefused { fault, passes }),
     }
 }
 
 // The results of all jobs. The passes that it makes, for which there is room, are there in each case.
-fn done_by<'a, L: Side + Send + Sync, R: Threads + Wait + Sync, G: Gate>(
-    setting: &Setting<'a, L, R, G>,
+fn do_all<'a, L: Side + Send + Sync, R: Threads + Wait + Sync, G: Gate>(
+    setting: &WorkSetting<'a, L, R, G>,
     workers: u32,
     passes: &mut Vec<Pass<L>>,
 ) -> Result<Vec<Done>, WorkFault>
@@ -178,7 +178,7 @@ fn done_by<'a, L: Side + Send + Sync, R: Threads + Wait + Sync, G: Gate>(
 
 // The results of all jobs, which a worker for each pass does.
 fn results_of<'a, L: Side + Send + Sync, R: Threads + Wait + Sync, G: Gate>(
-    setting: &Setting<'a, L, R, G>,
+    setting: &WorkSetting<'a, L, R, G>,
     passes: &mut Vec<Pass<L>>,
 ) -> Result<Vec<Done>, WorkFault>
     requires { length setting.now.inputs.now < 2 ^ 32 }
@@ -275,7 +275,7 @@ fn ends_of<'a>(
 
 // Has the passes' workers do all jobs.
 fn run_all<'a, L: Side + Send + Sync, R: Threads + Wait + Sync, G: Gate>(
-    setting: &Setting<'a, L, R, G>,
+    setting: &WorkSetting<'a, L, R, G>,
     passes: &mut Vec<Pass<L>>,
     ends: Vec<Ends<'a>>,
 ) -> Result<(), WorkFault>
@@ -298,7 +298,7 @@ fn run_all<'a, L: Side + Send + Sync, R: Threads + Wait + Sync, G: Gate>(
 // Starts a worker for each pass, joins them, and gives the passes back.
 fn run_in<'s, 'a: 's, E, L: Side + Send + Sync, R: Threads + Wait + Sync, G: Gate>(
     scope: &Scope<'s, E>,
-    setting: &'s Setting<'a, L, R, G>,
+    setting: &'s WorkSetting<'a, L, R, G>,
     passes: Vec<Pass<L>>,
     ends: Vec<Ends<'a>>,
 ) -> (Result<(), WorkFault>, Vec<Pass<L>>)
@@ -318,7 +318,7 @@ fn run_in<'s, 'a: 's, E, L: Side + Send + Sync, R: Threads + Wait + Sync, G: Gat
 // stay there.
 fn start_all<'s, 'a: 's, E, L: Side + Send + Sync, R: Wait + Sync, G: Gate>(
     scope: &Scope<'s, E>,
-    setting: &'s Setting<'a, L, R, G>,
+    setting: &'s WorkSetting<'a, L, R, G>,
     passes: &mut Vec<Pass<L>>,
     ends: Vec<Ends<'a>>,
     running: &mut Vec<JoinHandle<Pass<L>>>,

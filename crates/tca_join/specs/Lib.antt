@@ -1,3 +1,4 @@
+pub mod Results
 pub mod Sets
 pub mod SetLaws
 pub mod Joins

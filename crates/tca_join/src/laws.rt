@@ -18,7 +18,7 @@ pub fn set_laws<T>()
 
 /// What the words of a chain's contracts come to, as a contract: two chains clash at the first index at which both
 /// have an item and these differ, else one begins with the other, and their join is the longer.
-pub fn chain_words<T: Eq>()
+pub fn chain_join_laws<T: Eq>()
     ensures clash { ClashIsFirst T.eq }
     ensures compatible { CompatibleIsPrefix T.eq }
     ensures takes { TakesLonger T.eq }
@@ -27,7 +27,7 @@ pub fn chain_words<T: Eq>()
 
 /// What the words of a map's contracts come to, as a contract: what is at each key says which map it is; setting
 /// changes one key; a join is made key by key; and two maps clash at the least key at which their values do.
-pub fn map_words<V>()
+pub fn map_join_laws<V>()
     ensures only { IsOnlyMap V }
     ensures sets { SetsOneKey V }
     ensures joins { JoinsKeyByKey V }

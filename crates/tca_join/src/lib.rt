@@ -27,4 +27,4 @@ pub use count::MaxOf;
 pub use fault::JoinFault;
 pub use join::{Join, join_laws};
 pub use keys::Keys;
-pub use laws::{chain_words, map_words, set_laws};
+pub use laws::{chain_join_laws, map_join_laws, set_laws};

@@ -1,9 +1,8 @@
 -- What a log refuses.
 use Rattle.std.specs.Prelude.{◌≡◌, ◌<◌, ◌≤◌, ℕ, List, length}
-use Rattle.tca_report.specs.report.Reports.{PacketReport}
+use Rattle.tca_report.specs.report.Reports.{PacketReport, most_reports}
 use Rattle.tca_log.specs.declared.fault.LogFault.{LogFault}
 use Rattle.tca_log.specs.declared.fault.LogFault.TheVariants.{Full, Memory}
-use Rattle.tca_report.specs.export.Spelling.{most_reports}
 
 -- the number of a fault
 abbrev pub fault_number : LogFault → ℕ

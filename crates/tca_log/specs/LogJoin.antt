@@ -7,9 +7,8 @@ use Rattle.tca_join.specs.Sets.{in_order}
 use Rattle.tca_join.specs.Joins.{IsJoin}
 use Rattle.tca_join.proofs.Sets.{rises_in_order}
 use Rattle.tca_join.proofs.Unions.{union_commutes, union_associates, union_again, union_longer}
-use Rattle.tca_report.specs.report.Reports.{PacketReport, report_cmp}
+use Rattle.tca_report.specs.report.Reports.{PacketReport, report_cmp, most_reports}
 use Rattle.tca_report.proofs.lemmas.report.Order.{report_total, report_exact}
-use Rattle.tca_report.specs.export.Spelling.{most_reports}
 
 -- a log's set rises strictly and has at most 4,194,304 reports
 pub record IsLogSet (rs : List PacketReport) : Type 0 where

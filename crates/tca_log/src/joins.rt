@@ -47,6 +47,7 @@ impl<A: Allocator + Copy> Join for Log<A> {
     {
         match self.union(other) {
             Ok(_) => {
+                // For its clause alone: how many reports there may be.
                 let _within = self.len();
                 Ok(())
             }

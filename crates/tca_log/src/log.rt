@@ -2,11 +2,10 @@
 ghost use Rattle.std.specs.Prelude.{◌≡◌, List, ℕ, ◌+◌, ◌<◌, ◌≤◌, false, [], length, IfOk, IfErr, OnOk, OnErr};
 ghost use Rattle.std.specs.List.Sorted.{IsStrictlySortedBy};
 ghost use Rattle.tca_join.specs.Sets.{has, in_order};
-ghost use Rattle.tca_report.specs.report.Reports.{PacketReport, report_cmp};
+ghost use Rattle.tca_report.specs.report.Reports.{PacketReport, report_cmp, most_reports};
 ghost use Rattle.tca_log.specs.Arrivals.{Arrival, One, after, after_all, all_given};
 ghost use Rattle.tca_log.specs.Disputes.{added, undisputed, disputed};
 ghost use Rattle.tca_log.specs.Faults.{IsAddRefused};
-ghost use Rattle.tca_report.specs.export.Spelling.{most_reports};
 
 use crate::answer::Added;
 use crate::by_identity::ByIdentity;

@@ -10,9 +10,9 @@ use Rattle.tca_meters.specs.Rfc4115 as excess
 
 -- its rule
 abbrev pub any_rule : AnyMeter → Rule Levels
-any_rule (SrTcm m) = single.single_rate_rule m
-any_rule (TrTcm m) = peak.peak_rate_rule m
-any_rule (Rfc4115 m) = excess.excess_rate_rule m
+any_rule (SrTcm m) = single.srtcm_rule m
+any_rule (TrTcm m) = peak.trtcm_rule m
+any_rule (Rfc4115 m) = excess.rfc4115_rule m
 
 -- both buckets are of its sizes
 abbrev pub IsWithinSizes : AnyMeter → Levels → Type 0

@@ -9,9 +9,9 @@ use Rattle.tca_meters.specs.declared.any_meter.AnyMeter.TheVariants.{SrTcm, TrTc
 use Rattle.tca_meters.specs.declared.fault.MeterFault.{MeterFault}
 use Rattle.tca_meters.specs.declared.spec.SpecFault.{SpecFault}
 use Rattle.tca_meters.specs.declared.spec.SpecFault.TheVariants.{Text, Meter}
-use Rattle.tca_meters.specs.SrTcm.{single_rate}
-use Rattle.tca_meters.specs.TrTcm.{peak_rate}
-use Rattle.tca_meters.specs.Rfc4115.{excess_rate}
+use Rattle.tca_meters.specs.SrTcm.{srtcm_of}
+use Rattle.tca_meters.specs.TrTcm.{trtcm_of}
+use Rattle.tca_meters.specs.Rfc4115.{rfc4115_of}
 
 -- one octet more at the front of the first part
 abbrev pub onto_first : ℕ → List (List ℕ) → List (List ℕ)
@@ -72,44 +72,44 @@ as_any kind (Ok meter) = Ok (kind meter)
 as_any kind (Err fault) = Err fault
 
 -- what follows the name of RFC 2697: the committed rate, the committed and the excess burst size, and the mode
-abbrev pub single_rate_in : List (List ℕ) → Option (Result AnyMeter MeterFault)
-single_rate_in (cir ∷ cbs ∷ ebs ∷ mode ∷ []) = do
+abbrev pub srtcm_in : List (List ℕ) → Option (Result AnyMeter MeterFault)
+srtcm_in (cir ∷ cbs ∷ ebs ∷ mode ∷ []) = do
   cir ← number_in cir
   cbs ← number_in cbs
   ebs ← number_in ebs
   aware ← mode_in mode
-  Some (as_any SrTcm (single_rate cir cbs ebs aware))
-single_rate_in _ = None
+  Some (as_any SrTcm (srtcm_of cir cbs ebs aware))
+srtcm_in _ = None
 
 -- what follows the name of RFC 2698: the peak rate and burst size, the committed rate and burst size, and the mode
-abbrev pub peak_rate_in : List (List ℕ) → Option (Result AnyMeter MeterFault)
-peak_rate_in (pir ∷ pbs ∷ cir ∷ cbs ∷ mode ∷ []) = do
+abbrev pub trtcm_in : List (List ℕ) → Option (Result AnyMeter MeterFault)
+trtcm_in (pir ∷ pbs ∷ cir ∷ cbs ∷ mode ∷ []) = do
   pir ← number_in pir
   pbs ← number_in pbs
   cir ← number_in cir
   cbs ← number_in cbs
   aware ← mode_in mode
-  Some (as_any TrTcm (peak_rate pir pbs cir cbs aware))
-peak_rate_in _ = None
+  Some (as_any TrTcm (trtcm_of pir pbs cir cbs aware))
+trtcm_in _ = None
 
 -- what follows the name of RFC 4115: the committed rate and burst size, the excess rate and burst size, the fit and the mode
-abbrev pub excess_rate_in : List (List ℕ) → Option (Result AnyMeter MeterFault)
-excess_rate_in (cir ∷ cbs ∷ eir ∷ ebs ∷ fit ∷ mode ∷ []) = do
+abbrev pub rfc4115_in : List (List ℕ) → Option (Result AnyMeter MeterFault)
+rfc4115_in (cir ∷ cbs ∷ eir ∷ ebs ∷ fit ∷ mode ∷ []) = do
   cir ← number_in cir
   cbs ← number_in cbs
   eir ← number_in eir
   ebs ← number_in ebs
   exact_fit ← fit_in fit
   aware ← mode_in mode
-  Some (as_any Rfc4115 (excess_rate cir cbs eir ebs exact_fit aware))
-excess_rate_in _ = None
+  Some (as_any Rfc4115 (rfc4115_of cir cbs eir ebs exact_fit aware))
+rfc4115_in _ = None
 
 -- the first part is the meter's name
 abbrev pub meter_in : List (List ℕ) → Option (Result AnyMeter MeterFault)
 meter_in (name ∷ parts) =
-    if bytes_eq name (codes "rfc2697") then single_rate_in parts
-    else (if bytes_eq name (codes "rfc2698") then peak_rate_in parts
-    else (if bytes_eq name (codes "rfc4115") then excess_rate_in parts
+    if bytes_eq name (codes "rfc2697") then srtcm_in parts
+    else (if bytes_eq name (codes "rfc2698") then trtcm_in parts
+    else (if bytes_eq name (codes "rfc4115") then rfc4115_in parts
     else None))
 meter_in [] = None
 

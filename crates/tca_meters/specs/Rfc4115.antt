@@ -11,7 +11,7 @@ use Rattle.tca_meters.specs.Levels.{full_levels, filled_apart, committed_or_exce
 use Rattle.tca_meters.specs.Packets.{Rule}
 
 -- the parameters of RFC 4115, whether a packet may take all tokens, and whether precolours count
-pub record ExcessRate : Type 0 where
+pub record Rfc4115View : Type 0 where
   pub cir : ℕ
   pub cbs : ℕ
   pub eir : ℕ
@@ -20,7 +20,7 @@ pub record ExcessRate : Type 0 where
   pub aware : Bool
 
 -- each is in range, and one burst size at least is above 0
-pub record IsExcessRate (m : ExcessRate) : Type 0 where
+pub record IsRfc4115 (m : Rfc4115View) : Type 0 where
   pub cir : m.cir ≤ most_rate
   pub cbs : m.cbs ≤ most_rate
   pub eir : m.eir ≤ most_rate
@@ -28,31 +28,31 @@ pub record IsExcessRate (m : ExcessRate) : Type 0 where
   pub burst : 0 < m.cbs + m.ebs
 
 -- a meter of these parameters, or why there is none
-abbrev pub excess_rate : ℕ → ℕ → ℕ → ℕ → Bool → Bool → Result ExcessRate MeterFault
-excess_rate cir cbs eir ebs exact_fit aware =
+abbrev pub rfc4115_of : ℕ → ℕ → ℕ → ℕ → Bool → Bool → Result Rfc4115View MeterFault
+rfc4115_of cir cbs eir ebs exact_fit aware =
     if (cbs == 0) && (ebs == 0) then Err NoBurst
     else (if in_range cir && (in_range cbs && (in_range eir && in_range ebs)) then Ok (record { cir = cir; cbs = cbs; eir = eir; ebs = ebs; exact_fit = exact_fit; aware = aware }) else Err RateRange)
 
 -- at time 0 both buckets are full
-abbrev pub opening_levels : ExcessRate → Levels
+abbrev pub opening_levels : Rfc4115View → Levels
 opening_levels m = full_levels m.cbs m.ebs
 
 -- each token of the committed rate goes to the committed bucket, and each of the excess rate to the excess bucket
-abbrev pub filled_levels : ExcessRate → ℕ → ℕ → Levels → Levels
+abbrev pub filled_levels : Rfc4115View → ℕ → ℕ → Levels → Levels
 filled_levels m from to = filled_apart (due m.cir from to) (due m.eir from to)
 
 -- a packet takes committed tokens, else excess tokens, where it fits them by the meter's test
-abbrev pub judged_packet : ExcessRate → Levels → ℕ → Colour → Colour × Levels
+abbrev pub judged_packet : Rfc4115View → Levels → ℕ → Colour → Colour × Levels
 judged_packet m = committed_or_excess m.exact_fit
 
 -- the meter as a whole (RFC 4115)
-abbrev pub excess_rate_rule : ExcessRate → Rule Levels
-excess_rate_rule m = record {
+abbrev pub rfc4115_rule : Rfc4115View → Rule Levels
+rfc4115_rule m = record {
   opening = opening_levels m;
   filled = filled_levels m;
   judged = λ s octets pre. judged_packet m s octets (counted m.aware pre);
 }
 
 -- both buckets are of the meter's sizes
-abbrev pub IsWithinSizes : ExcessRate → Levels → Type 0
+abbrev pub IsWithinSizes : Rfc4115View → Levels → Type 0
 IsWithinSizes m s = AreOfSizes s m.cbs m.ebs

@@ -13,7 +13,7 @@ use Rattle.tca_meters.specs.Levels.{full_levels, filled_apart, AreOfSizes}
 use Rattle.tca_meters.specs.Packets.{Rule}
 
 -- the parameters of RFC 2698 section 2, and whether precolours count
-pub record PeakRate : Type 0 where
+pub record TrTcmView : Type 0 where
   pub pir : ℕ
   pub pbs : ℕ
   pub cir : ℕ
@@ -21,7 +21,7 @@ pub record PeakRate : Type 0 where
   pub aware : Bool
 
 -- each is in range, both burst sizes are above 0, and the peak rate is at least the committed rate
-pub record IsPeakRate (m : PeakRate) : Type 0 where
+pub record IsTrTcm (m : TrTcmView) : Type 0 where
   pub pir : m.pir ≤ most_rate
   pub pbs : m.pbs ≤ most_rate
   pub cir : m.cir ≤ most_rate
@@ -31,18 +31,18 @@ pub record IsPeakRate (m : PeakRate) : Type 0 where
   pub peak : m.cir ≤ m.pir
 
 -- a meter of these parameters, or why there is none
-abbrev pub peak_rate : ℕ → ℕ → ℕ → ℕ → Bool → Result PeakRate MeterFault
-peak_rate pir pbs cir cbs aware =
+abbrev pub trtcm_of : ℕ → ℕ → ℕ → ℕ → Bool → Result TrTcmView MeterFault
+trtcm_of pir pbs cir cbs aware =
     if (pbs == 0) || (cbs == 0) then Err NoBurst
     else (if nat_lt pir cir then Err PeakBelowCommitted
     else (if in_range pir && (in_range pbs && (in_range cir && in_range cbs)) then Ok (record { pir = pir; pbs = pbs; cir = cir; cbs = cbs; aware = aware }) else Err RateRange))
 
 -- at time 0 both buckets are full; the bucket beside the committed one is the peak bucket
-abbrev pub opening_levels : PeakRate → Levels
+abbrev pub opening_levels : TrTcmView → Levels
 opening_levels m = full_levels m.cbs m.pbs
 
 -- each token of the committed rate goes to the committed bucket, and each of the peak rate to the peak bucket
-abbrev pub filled_levels : PeakRate → ℕ → ℕ → Levels → Levels
+abbrev pub filled_levels : TrTcmView → ℕ → ℕ → Levels → Levels
 filled_levels m from to = filled_apart (due m.cir from to) (due m.pir from to)
 
 -- a red packet and one for which there are too few peak tokens is red and spends nothing; another that is yellow, or for which there are too few committed tokens, is yellow and spends peak tokens; any other is green and spends both
@@ -53,13 +53,13 @@ judged_packet s octets pre =
     else (Green, record { committed = after_spending s.committed octets; excess = after_spending s.excess octets }))
 
 -- the meter as a whole (RFC 2698 section 3)
-abbrev pub peak_rate_rule : PeakRate → Rule Levels
-peak_rate_rule m = record {
+abbrev pub trtcm_rule : TrTcmView → Rule Levels
+trtcm_rule m = record {
   opening = opening_levels m;
   filled = filled_levels m;
   judged = λ s octets pre. judged_packet s octets (counted m.aware pre);
 }
 
 -- both buckets are of the meter's sizes
-abbrev pub IsWithinSizes : PeakRate → Levels → Type 0
+abbrev pub IsWithinSizes : TrTcmView → Levels → Type 0
 IsWithinSizes m s = AreOfSizes s m.cbs m.pbs

@@ -31,7 +31,7 @@ pub use fault::MeterFault;
 pub use levels::Levels;
 pub use meter::Meter;
 pub use rfc4115::Rfc4115;
-pub use spec::{SpecFault, meter_spec, spec_words};
+pub use spec::{SpecFault, meter_spec, spec_laws};
 pub use srtcm::SrTcm;
 pub use step::meter_packet;
 pub use termed::{InTerm, MOST_TERMS, Termed, terms_apart};

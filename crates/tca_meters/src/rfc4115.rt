@@ -1,6 +1,6 @@
 //! The meter of RFC 4115.
 ghost use Rattle.std.specs.Prelude.{◌≡◌};
-ghost use Rattle.tca_meters.specs.Rfc4115.{IsExcessRate, excess_rate};
+ghost use Rattle.tca_meters.specs.Rfc4115.{IsRfc4115, rfc4115_of};
 
 use crate::colour::Colour;
 use crate::fault::{MeterFault, in_range};
@@ -22,13 +22,13 @@ pub struct Rfc4115 {
 }
 
 impl Model for Rfc4115 {
-    ghost use Rattle.tca_meters.specs.Rfc4115.{ExcessRate, IsExcessRate};
+    ghost use Rattle.tca_meters.specs.Rfc4115.{Rfc4115View, IsRfc4115};
 
-    ghost Value = { ExcessRate };
+    ghost Value = { Rfc4115View };
 
     ghost view = { λ m. record { cir = m.cir; cbs = m.cbs; eir = m.eir; ebs = m.ebs; exact_fit = m.exact_fit; aware = m.aware } };
 
-    ghost invariant = { λ m. IsExcessRate (record { cir = m.cir; cbs = m.cbs; eir = m.eir; ebs = m.ebs; exact_fit = m.exact_fit; aware = m.aware }) };
+    ghost invariant = { λ m. IsRfc4115 (record { cir = m.cir; cbs = m.cbs; eir = m.eir; ebs = m.ebs; exact_fit = m.exact_fit; aware = m.aware }) };
 
     ghost inverse = { λ m. record { cir = m.cir; cbs = m.cbs; eir = m.eir; ebs = m.ebs; exact_fit = m.exact_fit; aware = m.aware } };
 }
@@ -46,7 +46,7 @@ impl Rfc4115 {
         exact_fit: bool,
         aware: bool,
     ) -> Result<Rfc4115, MeterFault>
-        ensures { result ≡ excess_rate cir cbs eir ebs exact_fit aware }
+        ensures { result ≡ rfc4115_of cir cbs eir ebs exact_fit aware }
     {
         if cbs == 0 && ebs == 0 {
             return Err(MeterFault::NoBurst);
@@ -67,7 +67,7 @@ impl Rfc4115 {
     /// The committed information rate, in tokens per second.
     pub fn cir(&self) -> u64
         ensures value { result ≡ self.now.cir }
-        ensures range { IsExcessRate self.now }
+        ensures range { IsRfc4115 self.now }
     {
         self.cir
     }
@@ -75,7 +75,7 @@ impl Rfc4115 {
     /// The committed burst size, in tokens.
     pub fn cbs(&self) -> u64
         ensures value { result ≡ self.now.cbs }
-        ensures range { IsExcessRate self.now }
+        ensures range { IsRfc4115 self.now }
     {
         self.cbs
     }
@@ -83,7 +83,7 @@ impl Rfc4115 {
     /// The excess information rate, in tokens per second.
     pub fn eir(&self) -> u64
         ensures value { result ≡ self.now.eir }
-        ensures range { IsExcessRate self.now }
+        ensures range { IsRfc4115 self.now }
     {
         self.eir
     }
@@ -91,7 +91,7 @@ impl Rfc4115 {
     /// The excess burst size, in tokens.
     pub fn ebs(&self) -> u64
         ensures value { result ≡ self.now.ebs }
-        ensures range { IsExcessRate self.now }
+        ensures range { IsRfc4115 self.now }
     {
         self.ebs
     }
@@ -99,7 +99,7 @@ impl Rfc4115 {
     /// Whether a packet may take all tokens of a bucket; else one has to be left.
     pub fn exact_fit(&self) -> bool
         ensures value { result ≡ self.now.exact_fit }
-        ensures range { IsExcessRate self.now }
+        ensures range { IsRfc4115 self.now }
     {
         self.exact_fit
     }
@@ -107,7 +107,7 @@ impl Rfc4115 {
     /// Whether precolours count.
     pub fn aware(&self) -> bool
         ensures value { result ≡ self.now.aware }
-        ensures range { IsExcessRate self.now }
+        ensures range { IsRfc4115 self.now }
     {
         self.aware
     }
@@ -116,10 +116,10 @@ impl Rfc4115 {
 impl Meter for Rfc4115 {
     type State = Levels;
 
-    ghost use Rattle.tca_meters.specs.Rfc4115.{excess_rate_rule, IsWithinSizes};
+    ghost use Rattle.tca_meters.specs.Rfc4115.{rfc4115_rule, IsWithinSizes};
     ghost use Rattle.tca_meters.specs.laws.Rfc4115Laws as laws;
 
-    ghost rule = { excess_rate_rule };
+    ghost rule = { rfc4115_rule };
 
     ghost within = { IsWithinSizes };
 

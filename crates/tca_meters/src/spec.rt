@@ -3,7 +3,7 @@ ghost use Rattle.std.specs.Prelude.{◌≡◌, ◌≢◌, ◌∷◌, [], MatchOp
 ghost use Rattle.std.specs.List.{list_all};
 ghost use Rattle.std.specs.Char.{is_ascii_digit};
 ghost use Rattle.tca_meters.specs.Faults.{spec_number};
-ghost use Rattle.tca_meters.specs.MeterSpecs.{parts_of, is_number, number_in, mode_in, fit_in, single_rate_in, peak_rate_in, excess_rate_in, meter_in, spec_in, PartsMakeText, OnlyParts};
+ghost use Rattle.tca_meters.specs.MeterSpecs.{parts_of, is_number, number_in, mode_in, fit_in, srtcm_in, trtcm_in, rfc4115_in, meter_in, spec_in, PartsMakeText, OnlyParts};
 
 use crate::any_meter::AnyMeter;
 use crate::fault::MeterFault;
@@ -116,8 +116,8 @@ fn four_parts(text: &str) -> Option<FourParts<'_>>
     }
 }
 
-fn single_rate(text: &str) -> Option<Result<AnyMeter, MeterFault>>
-    ensures { result ≡ single_rate_in (parts_of text.now) }
+fn srtcm_of(text: &str) -> Option<Result<AnyMeter, MeterFault>>
+    ensures { result ≡ srtcm_in (parts_of text.now) }
 {
     let parts = four_parts(text)?;
     let cir = number(parts.first)?;
@@ -127,8 +127,8 @@ fn single_rate(text: &str) -> Option<Result<AnyMeter, MeterFault>>
     Some(SrTcm::new(cir, cbs, ebs, aware).map(AnyMeter::SrTcm))
 }
 
-fn peak_rate(text: &str) -> Option<Result<AnyMeter, MeterFault>>
-    ensures { result ≡ peak_rate_in (parts_of text.now) }
+fn trtcm_of(text: &str) -> Option<Result<AnyMeter, MeterFault>>
+    ensures { result ≡ trtcm_in (parts_of text.now) }
 {
     let (pir, rest) = split_part(text)?;
     let parts = four_parts(rest)?;
@@ -140,8 +140,8 @@ fn peak_rate(text: &str) -> Option<Result<AnyMeter, MeterFault>>
     Some(TrTcm::new(pir, pbs, cir, cbs, aware).map(AnyMeter::TrTcm))
 }
 
-fn excess_rate(text: &str) -> Option<Result<AnyMeter, MeterFault>>
-    ensures { result ≡ excess_rate_in (parts_of text.now) }
+fn rfc4115_of(text: &str) -> Option<Result<AnyMeter, MeterFault>>
+    ensures { result ≡ rfc4115_in (parts_of text.now) }
 {
     let (cir, rest) = split_part(text)?;
     let (cbs, rest) = split_part(rest)?;
@@ -160,11 +160,11 @@ fn meter(text: &str) -> Option<Result<AnyMeter, MeterFault>>
 {
     let (name, rest) = split_part(text)?;
     if name == "rfc2697" {
-        single_rate(rest)
+        srtcm_of(rest)
     } else if name == "rfc2698" {
-        peak_rate(rest)
+        trtcm_of(rest)
     } else if name == "rfc4115" {
-        excess_rate(rest)
+        rfc4115_of(rest)
     } else {
         None
     }
@@ -184,7 +184,7 @@ pub fn meter_spec(text: &str) -> Result<AnyMeter, SpecFault>
 }
 
 /// The law of specs: the parts of a text make it with colons between, none has a colon, and no other such parts make it.
-pub fn spec_words()
+pub fn spec_laws()
     ensures parts { PartsMakeText }
     ensures only { OnlyParts }
 {}

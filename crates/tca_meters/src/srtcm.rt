@@ -1,6 +1,6 @@
 //! The meter of RFC 2697.
 ghost use Rattle.std.specs.Prelude.{◌≡◌};
-ghost use Rattle.tca_meters.specs.SrTcm.{IsSingleRate, single_rate};
+ghost use Rattle.tca_meters.specs.SrTcm.{IsSrTcm, srtcm_of};
 
 use crate::colour::Colour;
 use crate::fault::{MeterFault, in_range};
@@ -20,13 +20,13 @@ pub struct SrTcm {
 }
 
 impl Model for SrTcm {
-    ghost use Rattle.tca_meters.specs.SrTcm.{SingleRate, IsSingleRate};
+    ghost use Rattle.tca_meters.specs.SrTcm.{SrTcmView, IsSrTcm};
 
-    ghost Value = { SingleRate };
+    ghost Value = { SrTcmView };
 
     ghost view = { λ m. record { cir = m.cir; cbs = m.cbs; ebs = m.ebs; aware = m.aware } };
 
-    ghost invariant = { λ m. IsSingleRate (record { cir = m.cir; cbs = m.cbs; ebs = m.ebs; aware = m.aware }) };
+    ghost invariant = { λ m. IsSrTcm (record { cir = m.cir; cbs = m.cbs; ebs = m.ebs; aware = m.aware }) };
 
     ghost inverse = { λ m. record { cir = m.cir; cbs = m.cbs; ebs = m.ebs; aware = m.aware } };
 }
@@ -36,7 +36,7 @@ impl SrTcm {
     /// says whether precolours count. `NoBurst` where both sizes are 0, else `RateRange` where one of
     /// the three is above 1,000,000,000,000.
     pub fn new(cir: u64, cbs: u64, ebs: u64, aware: bool) -> Result<SrTcm, MeterFault>
-        ensures { result ≡ single_rate cir cbs ebs aware }
+        ensures { result ≡ srtcm_of cir cbs ebs aware }
     {
         if cbs == 0 && ebs == 0 {
             return Err(MeterFault::NoBurst);
@@ -55,7 +55,7 @@ impl SrTcm {
     /// The committed information rate, in tokens per second.
     pub fn cir(&self) -> u64
         ensures value { result ≡ self.now.cir }
-        ensures range { IsSingleRate self.now }
+        ensures range { IsSrTcm self.now }
     {
         self.cir
     }
@@ -63,7 +63,7 @@ impl SrTcm {
     /// The committed burst size, in tokens.
     pub fn cbs(&self) -> u64
         ensures value { result ≡ self.now.cbs }
-        ensures range { IsSingleRate self.now }
+        ensures range { IsSrTcm self.now }
     {
         self.cbs
     }
@@ -71,7 +71,7 @@ impl SrTcm {
     /// The excess burst size, in tokens.
     pub fn ebs(&self) -> u64
         ensures value { result ≡ self.now.ebs }
-        ensures range { IsSingleRate self.now }
+        ensures range { IsSrTcm self.now }
     {
         self.ebs
     }
@@ -79,7 +79,7 @@ impl SrTcm {
     /// Whether precolours count.
     pub fn aware(&self) -> bool
         ensures value { result ≡ self.now.aware }
-        ensures range { IsSingleRate self.now }
+        ensures range { IsSrTcm self.now }
     {
         self.aware
     }
@@ -88,10 +88,10 @@ impl SrTcm {
 impl Meter for SrTcm {
     type State = Levels;
 
-    ghost use Rattle.tca_meters.specs.SrTcm.{single_rate_rule, IsWithinSizes};
+    ghost use Rattle.tca_meters.specs.SrTcm.{srtcm_rule, IsWithinSizes};
     ghost use Rattle.tca_meters.specs.laws.SrTcmLaws as laws;
 
-    ghost rule = { single_rate_rule };
+    ghost rule = { srtcm_rule };
 
     ghost within = { IsWithinSizes };
 

@@ -1,6 +1,6 @@
 //! The meter of RFC 2698.
 ghost use Rattle.std.specs.Prelude.{◌≡◌};
-ghost use Rattle.tca_meters.specs.TrTcm.{IsPeakRate, peak_rate};
+ghost use Rattle.tca_meters.specs.TrTcm.{IsTrTcm, trtcm_of};
 
 use crate::colour::Colour;
 use crate::fault::{MeterFault, in_range};
@@ -21,13 +21,13 @@ pub struct TrTcm {
 }
 
 impl Model for TrTcm {
-    ghost use Rattle.tca_meters.specs.TrTcm.{PeakRate, IsPeakRate};
+    ghost use Rattle.tca_meters.specs.TrTcm.{TrTcmView, IsTrTcm};
 
-    ghost Value = { PeakRate };
+    ghost Value = { TrTcmView };
 
     ghost view = { λ m. record { pir = m.pir; pbs = m.pbs; cir = m.cir; cbs = m.cbs; aware = m.aware } };
 
-    ghost invariant = { λ m. IsPeakRate (record { pir = m.pir; pbs = m.pbs; cir = m.cir; cbs = m.cbs; aware = m.aware }) };
+    ghost invariant = { λ m. IsTrTcm (record { pir = m.pir; pbs = m.pbs; cir = m.cir; cbs = m.cbs; aware = m.aware }) };
 
     ghost inverse = { λ m. record { pir = m.pir; pbs = m.pbs; cir = m.cir; cbs = m.cbs; aware = m.aware } };
 }
@@ -38,7 +38,7 @@ impl TrTcm {
     /// peak rate is below the committed rate, else `RateRange` where one of the four is above
     /// 1,000,000,000,000.
     pub fn new(pir: u64, pbs: u64, cir: u64, cbs: u64, aware: bool) -> Result<TrTcm, MeterFault>
-        ensures { result ≡ peak_rate pir pbs cir cbs aware }
+        ensures { result ≡ trtcm_of pir pbs cir cbs aware }
     {
         if pbs == 0 || cbs == 0 {
             return Err(MeterFault::NoBurst);
@@ -61,7 +61,7 @@ impl TrTcm {
     /// The peak information rate, in tokens per second.
     pub fn pir(&self) -> u64
         ensures value { result ≡ self.now.pir }
-        ensures range { IsPeakRate self.now }
+        ensures range { IsTrTcm self.now }
     {
         self.pir
     }
@@ -69,7 +69,7 @@ impl TrTcm {
     /// The peak burst size, in tokens.
     pub fn pbs(&self) -> u64
         ensures value { result ≡ self.now.pbs }
-        ensures range { IsPeakRate self.now }
+        ensures range { IsTrTcm self.now }
     {
         self.pbs
     }
@@ -77,7 +77,7 @@ impl TrTcm {
     /// The committed information rate, in tokens per second.
     pub fn cir(&self) -> u64
         ensures value { result ≡ self.now.cir }
-        ensures range { IsPeakRate self.now }
+        ensures range { IsTrTcm self.now }
     {
         self.cir
     }
@@ -85,7 +85,7 @@ impl TrTcm {
     /// The committed burst size, in tokens.
     pub fn cbs(&self) -> u64
         ensures value { result ≡ self.now.cbs }
-        ensures range { IsPeakRate self.now }
+        ensures range { IsTrTcm self.now }
     {
         self.cbs
     }
@@ -93,7 +93,7 @@ impl TrTcm {
     /// Whether precolours count.
     pub fn aware(&self) -> bool
         ensures value { result ≡ self.now.aware }
-        ensures range { IsPeakRate self.now }
+        ensures range { IsTrTcm self.now }
     {
         self.aware
     }
@@ -102,10 +102,10 @@ impl TrTcm {
 impl Meter for TrTcm {
     type State = Levels;
 
-    ghost use Rattle.tca_meters.specs.TrTcm.{peak_rate_rule, IsWithinSizes};
+    ghost use Rattle.tca_meters.specs.TrTcm.{trtcm_rule, IsWithinSizes};
     ghost use Rattle.tca_meters.specs.laws.TrTcmLaws as laws;
 
-    ghost rule = { peak_rate_rule };
+    ghost rule = { trtcm_rule };
 
     ghost within = { IsWithinSizes };
 

@@ -2,7 +2,7 @@
 use Rattle.std.specs.Prelude.{◌≡◌, ◌≢◌, ◌⊎◌, ℕ, true, false, List, None, Ok, Err, IsUtf8}
 use Rattle.toml.specs.Parse.{parse_document}
 use Rattle.tca_accounts.specs.Plans.{AccountPlan}
-use Rattle.tca_accounts.specs.Documents.{plan_in}
+use Rattle.tca_accounts.specs.Documents.{IsPlanOf, plan_in}
 use Rattle.tca_accounts.specs.Faults.{plan_number}
 use Rattle.tca_accounts.specs.declared.fault.PlanFault.{PlanFault}
 use Rattle.tca_accounts.specs.declared.fault.PlanFault.TheVariants.{Syntax, Memory}
@@ -10,11 +10,6 @@ use Rattle.tca_report.specs.input.Inputs.{InputView}
 use Rattle.tca_program.specs.declared.fault.RunFault.{RunFault}
 use Rattle.tca_program.specs.declared.fault.Family.TheVariants as family
 use Rattle.tca_program.specs.Unions.{IsInTurn, is_family, is_write, refusal, united, wants_memory}
-
--- A text is this plan.
-pub record IsPlanOf (text : List ℕ) (plan : AccountPlan) : Type 0 where
-  pub utf8 : IsUtf8 text
-  pub named : plan_in (parse_document text) ≡ Ok plan
 
 -- a text is refused as a plan with this fault, or memory ran out
 abbrev pub RefusesPlan : List ℕ → PlanFault → Type 0

@@ -2,10 +2,9 @@
 use Rattle.std.specs.Prelude.{◌≡◌, ◌⊎◌, ◌==◌, ℕ, ◌+◌, ◌<◌, Bool, true, false, ◌||◌, ◌&&◌, List, [], ◌∷◌, ◌++◌, length, map, take, Option, Some, None, IfSome, is_some, Result, Ok, Err, IsOk, nat_lt, slice_get, if◌then◌else◌}
 use Rattle.std.specs.List.{flat_map}
 use Rattle.tca_join.specs.Sets.{in_order}
-use Rattle.tca_report.specs.report.Reports.{PacketReport, report_cmp}
-use Rattle.tca_report.specs.export.Spelling.{most_reports}
+use Rattle.tca_report.specs.report.Reports.{PacketReport, report_cmp, most_reports}
 use Rattle.tca_wire.specs.Faults.{wire_number}
-use Rattle.tca_wire.specs.Results.{◌>>=◌}
+use Rattle.tca_join.specs.Results.{◌>>=◌}
 use Rattle.tca_templates.specs.Faults.{decode_number}
 use Rattle.tca_report.specs.Faults.{export_number}
 use Rattle.tca_report.specs.input.Inputs.{CaptureSoFar, InputView, input_view, read_input}

@@ -8,7 +8,7 @@ use Rattle.tca_log.specs.Rows.Ordered.{rank, without, Ordered}
 use Rattle.tca_log.proofs.OrderedRows.Positions.{length_put, length_without}
 use Rattle.tca_accounts.specs.declared.span.Span.{Span}
 use Rattle.tca_meters.specs.declared.colour.Colour.{Colour}
-use Rattle.tca_replay.specs.declared.run.Run.{Run}
+use Rattle.tca_replay.specs.declared.run.Standing.{Standing}
 use Rattle.tca_replay.specs.declared.run.Mark.{Mark}
 use Rattle.tca_replay.specs.inside.Course.{Metering}
 use Rattle.tca_replay.specs.inside.Marks.{IsMark}
@@ -17,8 +17,8 @@ use Rattle.tca_log.proofs.OrderedRows.Ranks.{take_put, take_without}
 use Rattle.tca_replay.proofs.Kept.{stays_put, stays_less}
 
 module _ {S : Type 0} (w : Metering S) where
-  pub lane_took : (every : ℕ) (store next : Ordered PacketReport) (changed : Option PacketReport) (run : Run S) (all : List (Mark S)) (closed : List Span) (sr mr : ℕ) (r : PacketReport) → IsLane w every store changed run all closed true sr mr → next.rows ≡ put report_cmp r store.rows → IsStrictlySortedBy report_cmp store.rows → has report_cmp store.rows r ≡ false → IsLane w every next (Some (lower_of changed r)) run all closed false sr mr
-  lane_took every store next changed run all closed sr mr r l is rises new =
+  pub lane_took : (every : ℕ) (store next : Ordered PacketReport) (changed : Option PacketReport) (standing : Standing S) (all : List (Mark S)) (closed : List Span) (sr mr : ℕ) (r : PacketReport) → IsLane w every store changed standing all closed true sr mr → next.rows ≡ put report_cmp r store.rows → IsStrictlySortedBy report_cmp store.rows → has report_cmp store.rows r ≡ false → IsLane w every next (Some (lower_of changed r)) standing all closed false sr mr
+  lane_took every store next changed standing all closed sr mr r l is rises new =
       let s = stays_put changed store.rows r in
       let longer : length next.rows ≡ length store.rows + 1 = ap length is ∙ length_put report_cmp report_total r store.rows new in
       let same : rank report_cmp (lower_of changed r) next.rows ≡ rank report_cmp (lower_of changed r) (put report_cmp r store.rows) = ap (rank report_cmp (lower_of changed r)) is in
@@ -39,8 +39,8 @@ module _ {S : Type 0} (w : Metering S) where
         room_ready = λ e. absurd cc;
       }
 
-  pub lane_lost : (every : ℕ) (store next : Ordered PacketReport) (changed : Option PacketReport) (run : Run S) (all : List (Mark S)) (closed : List Span) (ready : Bool) (sr mr : ℕ) (r : PacketReport) → IsLane w every store changed run all closed ready sr mr → next.rows ≡ without report_cmp r store.rows → next.ready ≡ store.ready → IsStrictlySortedBy report_cmp store.rows → has report_cmp store.rows r ≡ true → IsLane w every next (Some (lower_of changed r)) run all closed ready sr mr
-  lane_lost every store next changed run all closed ready sr mr r l is still rises there =
+  pub lane_lost : (every : ℕ) (store next : Ordered PacketReport) (changed : Option PacketReport) (standing : Standing S) (all : List (Mark S)) (closed : List Span) (ready : Bool) (sr mr : ℕ) (r : PacketReport) → IsLane w every store changed standing all closed ready sr mr → next.rows ≡ without report_cmp r store.rows → next.ready ≡ store.ready → IsStrictlySortedBy report_cmp store.rows → has report_cmp store.rows r ≡ true → IsLane w every next (Some (lower_of changed r)) standing all closed ready sr mr
+  lane_lost every store next changed standing all closed ready sr mr r l is still rises there =
       let s = stays_less changed store.rows r rises in
       let shorter : length next.rows + 1 ≡ length store.rows = ap (λ n. n + 1) (ap length is) ∙ length_without report_cmp report_total r store.rows rises there in
       let same : rank report_cmp (lower_of changed r) next.rows ≡ rank report_cmp (lower_of changed r) (without report_cmp r store.rows) = ap (rank report_cmp (lower_of changed r)) is in

@@ -4,10 +4,10 @@ use Rattle.std.proofs.lemmas.Bool.{cases_lt}
 use Rattle.std.proofs.lemmas.List.{length-take-le}
 use Rattle.tca_report.specs.report.Reports.{PacketReport, report_cmp}
 use Rattle.tca_accounts.specs.declared.span.Span.{Span}
-use Rattle.tca_replay.specs.declared.run.Run.{Run}
+use Rattle.tca_replay.specs.declared.run.Standing.{Standing}
 use Rattle.tca_replay.specs.declared.run.Mark.{Mark}
 use Rattle.tca_replay.specs.inside.Course.{Metering, Course, course, start, one}
-use Rattle.tca_replay.specs.inside.Runs.{course_at}
+use Rattle.tca_replay.specs.inside.Standings.{course_at}
 use Rattle.tca_replay.specs.inside.Marks.{IsMark, AreMarks}
 use Rattle.tca_log.specs.Rows.Ordered.{rank, Ordered}
 use Rattle.tca_log.proofs.OrderedRows.Ranks.{rank-le}
@@ -68,14 +68,14 @@ module _ {S : Type 0} (w : Metering S) where
       omega (arith, grown, ap (λ (c : Course S). length c.closed) whole, mark_closed (take a rows) closed m is, mark_closed (take b rows) closed n js)
 
   -- the marks that are left, and the spans that had ended by the last of them
-  pub record IsRewound (every at : ℕ) (rows : List PacketReport) (run : Run S) (closed : List Span) (all : List (Mark S)) : Type 0 where
-    pub stands : course_at run closed ≡ course w (start w) (take (every * at) rows)
+  pub record IsRewound (every at : ℕ) (rows : List PacketReport) (standing : Standing S) (closed : List Span) (all : List (Mark S)) : Type 0 where
+    pub stands : course_at standing closed ≡ course w (start w) (take (every * at) rows)
     pub marks : AreMarks w every rows closed all
 
-  pub rewound : (every at : ℕ) (rows : List PacketReport) (run : Run S) (closed ended : List Span) (all : List (Mark S)) → at ≤ length all → ((j : ℕ) (d : Mark S) → j < at → IsMark w (take (every * (j + 1)) rows) closed (get_or all j d))
-      → ((d : Mark S) → 0 < at → (run ≡ (get_or all (at - 1) d).run) × (ended ≡ take (get_or all (at - 1) d).closed closed)) → (at ≡ 0 → course_at run ended ≡ start w) → Mark S → IsRewound every at rows run ended (take at all)
-  rewound every at rows run closed ended all inside each last first d =
-      elim (cases_lt 0 at) as (λ _. IsRewound every at rows run ended (take at all)) [
+  pub rewound : (every at : ℕ) (rows : List PacketReport) (standing : Standing S) (closed ended : List Span) (all : List (Mark S)) → at ≤ length all → ((j : ℕ) (d : Mark S) → j < at → IsMark w (take (every * (j + 1)) rows) closed (get_or all j d))
+      → ((d : Mark S) → 0 < at → (standing ≡ (get_or all (at - 1) d).standing) × (ended ≡ take (get_or all (at - 1) d).closed closed)) → (at ≡ 0 → course_at standing ended ≡ start w) → Mark S → IsRewound every at rows standing ended (take at all)
+  rewound every at rows standing closed ended all inside each last first d =
+      elim (cases_lt 0 at) as (λ _. IsRewound every at rows standing ended (take at all)) [
         | inl some ↦
             let m = get_or all (at - 1) d in
             let end : at - 1 + 1 ≡ at = omega arith in
@@ -91,7 +91,7 @@ module _ {S : Type 0} (w : Metering S) where
                     let factor : every * (j + 1) ≤ every * at = mul-le-mul_left every (omega arith) in
                     let rise = marks_rise (every * (j + 1)) (every * at) rows closed (get_or all j e) m factor one_mark mark in
                     let shorter : take (get_or all j e).closed ended ≡ take (get_or all j e).closed closed = ap (take (get_or all j e).closed) found.1 ∙ take_within (get_or all j e).closed m.closed closed rise in
-                    subst (IsMark w (take (every * (j + 1)) rows) ended) (sym (get_within at j e all below)) (record { course = ap (course_at (get_or all j e).run) shorter ∙ one_mark.course; shared = omega (arith, length_ended, rise) });
+                    subst (IsMark w (take (every * (j + 1)) rows) ended) (sym (get_within at j e all below)) (record { course = ap (course_at (get_or all j e).standing) shorter ∙ one_mark.course; shared = omega (arith, length_ended, rise) });
               };
             }
         | inr none ↦
@@ -103,25 +103,25 @@ module _ {S : Type 0} (w : Metering S) where
             }
       ]
 
-  pub lane_reach : (every : ℕ) (store : Ordered PacketReport) (r : PacketReport) (run : Run S) (all : List (Mark S)) (closed : List Span) (ready : Bool) (sr mr before len : ℕ) → IsLane w every store (Some r) run all closed ready sr mr → before ≡ rank report_cmp r store.rows → len ≡ length all → before ≤ every * (len + 1)
-  lane_reach every store r run all closed ready sr mr before len l is length_is = rw (is, length_is) l.reach
+  pub lane_reach : (every : ℕ) (store : Ordered PacketReport) (r : PacketReport) (standing : Standing S) (all : List (Mark S)) (closed : List Span) (ready : Bool) (sr mr before len : ℕ) → IsLane w every store (Some r) standing all closed ready sr mr → before ≡ rank report_cmp r store.rows → len ≡ length all → before ≤ every * (len + 1)
+  lane_reach every store r standing all closed ready sr mr before len l is length_is = rw (is, length_is) l.reach
 
   pub lane_back : (every before len at : ℕ) (rows : List PacketReport) (r : PacketReport) (all : List (Mark S)) → before ≡ rank report_cmp r rows → len ≡ length all → every * at ≤ before → before ≤ every * at + every → at ≤ len → IsBack every (rank report_cmp r rows) (length all) at
   lane_back every before len at rows r all is length_is low near inside = record { before = omega (arith, is, low); near = omega (arith, is, near); inside = omega (arith, length_is, inside) }
 
-  pub lane_rewound : (every : ℕ) (store : Ordered PacketReport) (r : PacketReport) (run : Run S) (all : List (Mark S)) (closed : List Span) (ready : Bool) (sr mr at : ℕ) (next : Run S) (ended : List Span) → IsLane w every store (Some r) run all closed ready sr mr → IsBack every (rank report_cmp r store.rows) (length all) at
-      → ((d : Mark S) → 0 < at → (next ≡ (get_or all (at - 1) d).run) × (ended ≡ take (get_or all (at - 1) d).closed closed)) → (at ≡ 0 → course_at next ended ≡ start w) → IsRewound every at store.rows next ended (take at all)
-  lane_rewound every store r run all closed ready sr mr at next ended l b last first =
+  pub lane_rewound : (every : ℕ) (store : Ordered PacketReport) (r : PacketReport) (standing : Standing S) (all : List (Mark S)) (closed : List Span) (ready : Bool) (sr mr at : ℕ) (next : Standing S) (ended : List Span) → IsLane w every store (Some r) standing all closed ready sr mr → IsBack every (rank report_cmp r store.rows) (length all) at
+      → ((d : Mark S) → 0 < at → (next ≡ (get_or all (at - 1) d).standing) × (ended ≡ take (get_or all (at - 1) d).closed closed)) → (at ≡ 0 → course_at next ended ≡ start w) → IsRewound every at store.rows next ended (take at all)
+  lane_rewound every store r standing all closed ready sr mr at next ended l b last first =
       rewound every at store.rows next closed ended all b.inside (λ j d h.
       let factor : every * (j + 1) ≤ every * at = mul-le-mul_left every (omega arith) in
-      l.marks j d (omega (arith, b.inside)) (omega (arith, factor, b.before))) last first (record { run = next; closed = 0 })
+      l.marks j d (omega (arith, b.inside)) (omega (arith, factor, b.before))) last first (record { standing = next; closed = 0 })
 
   pub from_inside : (every at len : ℕ) (rows : List PacketReport) (r : PacketReport) → IsBack every (rank report_cmp r rows) len at → every * at ≤ length rows
   from_inside every at len rows r b = omega (arith, b.before, rank-le report_cmp report_total r rows)
 
-  pub lane_again : (every : ℕ) (store : Ordered PacketReport) (r : PacketReport) (run next : Run S) (all news : List (Mark S)) (closed ended : List Span) (ready : Bool) (sr mr tr nr : ℕ) → IsLane w every store (Some r) run all closed ready sr mr → course_at next ended ≡ course w (start w) store.rows → AreMarks w every store.rows ended news → length store.rows < every * (length news + 1) → sr ≤ tr → mr ≤ nr
+  pub lane_again : (every : ℕ) (store : Ordered PacketReport) (r : PacketReport) (standing next : Standing S) (all news : List (Mark S)) (closed ended : List Span) (ready : Bool) (sr mr tr nr : ℕ) → IsLane w every store (Some r) standing all closed ready sr mr → course_at next ended ≡ course w (start w) store.rows → AreMarks w every store.rows ended news → length store.rows < every * (length news + 1) → sr ≤ tr → mr ≤ nr
       → IsLane w every store None next news ended ready tr nr
-  lane_again every store r run next all news closed ended ready sr mr tr nr l stands marks reach more_spans more_marks = record {
+  lane_again every store r standing next all news closed ended ready sr mr tr nr l stands marks reach more_spans more_marks = record {
     period = l.period;
     some = l.some;
     small = l.small;

@@ -14,7 +14,7 @@ use Rattle.tca_report.specs.report.Reports.{PacketReport, report_cmp}
 use Rattle.tca_report.proofs.lemmas.report.Order.{report_total}
 use Rattle.tca_log.proofs.OrderedRows.Parts.{below_since, rises_front}
 use Rattle.tca_accounts.specs.declared.span.Span.{Span}
-use Rattle.tca_replay.specs.declared.run.Run.{Run}
+use Rattle.tca_replay.specs.declared.run.Standing.{Standing}
 use Rattle.tca_replay.specs.declared.run.Mark.{Mark}
 use Rattle.tca_accounts.specs.Bills.{coloured_by}
 use Rattle.tca_accounts.specs.Sums.{packet_of}
@@ -22,7 +22,7 @@ use Rattle.tca_accounts.specs.Metering.{CanAdd, closed_by}
 use Rattle.tca_accounts.proofs.Bills.{coloured_length, few_of}
 use Rattle.tca_replay.specs.inside.Course.{Metering, Course, course, start, one}
 use Rattle.tca_replay.proofs.Course.{StandsAt, stands}
-use Rattle.tca_replay.specs.inside.Runs.{course_at}
+use Rattle.tca_replay.specs.inside.Standings.{course_at}
 use Rattle.tca_replay.specs.inside.Marks.{IsMark, AreMarks}
 
 -- where a list is cut before an element
@@ -99,18 +99,18 @@ module _ {S : Type 0} (w : Metering S) where
   course_time x c (y ∷ xs) h k = course_time x (one w c y) xs k.0 k.1
 
   -- of fewer rows than the limit each colour has room for one packet more
-  pub few_at : (run : Run S) (closed : List Span) (xs : List PacketReport) → 0 < w.period → IsStrictlySortedBy report_cmp xs → course_at run closed ≡ course w (start w) xs → length xs < 4194304 → CanAdd run.metered.total run.current
-  few_at run closed xs h rises is few =
+  pub few_at : (standing : Standing S) (closed : List Span) (xs : List PacketReport) → 0 < w.period → IsStrictlySortedBy report_cmp xs → course_at standing closed ≡ course w (start w) xs → length xs < 4194304 → CanAdd standing.metered.total standing.current
+  few_at standing closed xs h rises is few =
       let pairs = coloured_by w.rule w.other xs in
-      let k : StandsAt w pairs [] (course_at run closed) = subst (StandsAt w pairs []) (sym is) (stands w xs h rises) in
-      few_of w.rule w.other w.period pairs run.metered closed run.current [] (omega (arith, coloured_length w.rule (packet_of w.other) w.rule.opening 0 xs)) k
+      let k : StandsAt w pairs [] (course_at standing closed) = subst (StandsAt w pairs []) (sym is) (stands w xs h rises) in
+      few_of w.rule w.other w.period pairs standing.metered closed standing.current [] (omega (arith, coloured_length w.rule (packet_of w.other) w.rule.opening 0 xs)) k
 
   -- what comes before a row rises
   pub front_rises : (n : ℕ) (rows : List PacketReport) (x : PacketReport) (rest : List PacketReport) → IsStrictlySortedBy report_cmp rows → drop n rows ≡ x ∷ rest → IsStrictlySortedBy report_cmp (take n rows)
   front_rises n rows x rest rises cut = rises_front report_cmp report_total (take n rows) (x ∷ rest) (subst (IsStrictlySortedBy report_cmp) (sym (cut_whole n rows x rest cut)) rises)
 
-  pub time_at : (run : Run S) (closed : List Span) (n : ℕ) (rows : List PacketReport) (x : PacketReport) (rest : List PacketReport) → course_at run closed ≡ course w (start w) (take n rows) → IsStrictlySortedBy report_cmp rows → drop n rows ≡ x ∷ rest → run.metered.time ≤ x.time
-  time_at run closed n rows x rest is rises cut =
+  pub time_at : (standing : Standing S) (closed : List Span) (n : ℕ) (rows : List PacketReport) (x : PacketReport) (rest : List PacketReport) → course_at standing closed ≡ course w (start w) (take n rows) → IsStrictlySortedBy report_cmp rows → drop n rows ≡ x ∷ rest → standing.metered.time ≤ x.time
+  time_at standing closed n rows x rest is rises cut =
       let whole : IsStrictlySortedBy report_cmp (take n rows ++ (x ∷ rest)) = subst (IsStrictlySortedBy report_cmp) (sym (cut_whole n rows x rest cut)) rises in
       let lower = below_since report_cmp report_total x x (take n rows) rest whole (ap is_lt (tied_itself report_total x)) in
       subst (λ (c : Course S). c.metered.time ≤ x.time) (sym is) (course_time x (start w) (take n rows) (omega arith) (all_earlier x (take n rows) lower))
@@ -130,21 +130,21 @@ module _ {S : Type 0} (w : Metering S) where
   pub marks_stay : (every : ℕ) (rows : List PacketReport) (span : Option Span) (i : ℕ) (closed : List Span) (marks : List (Mark S)) → AreMarks w every rows closed marks → AreMarks w every rows (closed_by span i closed) marks
   marks_stay every rows span i closed marks a = record {
     each = λ j d h. let one = a.each j d h in let same = take_closed span i (get_or marks j d).closed closed one.shared in
-        record { course = ap (course_at (get_or marks j d).run) same.0 ∙ one.course; shared = same.1 };
+        record { course = ap (course_at (get_or marks j d).standing) same.0 ∙ one.course; shared = same.1 };
   }
 
   -- one mark more
-  pub marks_more : (every n : ℕ) (rows : List PacketReport) (closed : List Span) (marks : List (Mark S)) (run : Run S) (ended : ℕ) → AreMarks w every rows closed marks → course_at run closed ≡ course w (start w) (take n rows) → n ≡ every * (length marks + 1) → ended ≡ length closed
-      → AreMarks w every rows closed (marks ++ record { run = run; closed = ended } ∷ [])
-  marks_more every n rows closed marks run ended a is at all = record {
-    each = λ j d h. elim (cases_lt j (length marks)) as (λ _. IsMark w (take (every * (j + 1)) rows) closed (get_or (marks ++ record { run = run; closed = ended } ∷ []) j d)) [
-      | inl below ↦ rw (get_or-append marks (record { run = run; closed = ended } ∷ []) d j below) (a.each j d below)
+  pub marks_more : (every n : ℕ) (rows : List PacketReport) (closed : List Span) (marks : List (Mark S)) (standing : Standing S) (ended : ℕ) → AreMarks w every rows closed marks → course_at standing closed ≡ course w (start w) (take n rows) → n ≡ every * (length marks + 1) → ended ≡ length closed
+      → AreMarks w every rows closed (marks ++ record { standing = standing; closed = ended } ∷ [])
+  marks_more every n rows closed marks standing ended a is at all = record {
+    each = λ j d h. elim (cases_lt j (length marks)) as (λ _. IsMark w (take (every * (j + 1)) rows) closed (get_or (marks ++ record { standing = standing; closed = ended } ∷ []) j d)) [
+      | inl below ↦ rw (get_or-append marks (record { standing = standing; closed = ended } ∷ []) d j below) (a.each j d below)
       | inr above ↦
-          let last : j ≡ length marks = omega (arith, length-append marks (record { run = run; closed = ended } ∷ [])) in
+          let last : j ≡ length marks = omega (arith, length-append marks (record { standing = standing; closed = ended } ∷ [])) in
           let same : every * (j + 1) ≡ n = ap (λ m. every * (m + 1)) last ∙ sym at in
           let all_closed : take ended closed ≡ closed = take_all ended closed (omega arith) in
-          let mark : IsMark w (take n rows) closed (record { run = run; closed = ended }) = record { course = ap (course_at run) all_closed ∙ is; shared = omega arith } in
-          rw (same, last, get_or_end marks (record { run = run; closed = ended }) d) mark
+          let mark : IsMark w (take n rows) closed (record { standing = standing; closed = ended }) = record { course = ap (course_at standing) all_closed ∙ is; shared = omega arith } in
+          rw (same, last, get_or_end marks (record { standing = standing; closed = ended }) d) mark
     ];
   }
     where
@@ -160,21 +160,21 @@ module _ {S : Type 0} (w : Metering S) where
   ]
 
   -- what one row does to all that is kept
-  pub record IsStep (every n : ℕ) (rows : List PacketReport) (run : Run S) (closed : List Span) (all : List (Mark S)) : Type 0 where
+  pub record IsStep (every n : ℕ) (rows : List PacketReport) (standing : Standing S) (closed : List Span) (all : List (Mark S)) : Type 0 where
     pub inside : n ≤ length rows
-    pub stands : course_at run closed ≡ course w (start w) (take n rows)
+    pub stands : course_at standing closed ≡ course w (start w) (take n rows)
     pub marks : AreMarks w every rows closed all
     pub ended : length closed ≤ n
 
-  pub step_more : (every n : ℕ) (rows : List PacketReport) (x : PacketReport) (rest : List PacketReport) (run next : Run S) (closed ended : List Span) (marks : List (Mark S)) → drop n rows ≡ x ∷ rest → course_at run closed ≡ course w (start w) (take n rows) → AreMarks w every rows closed marks → length closed ≤ n
-      → course_at next ended ≡ one w (course_at run closed) x → IsStep every (n + 1) rows next ended marks
-  step_more every n rows x rest run next closed ended marks cut is a few step =
-      let now : ended ≡ closed_by run.current (x.time / w.period) closed = ap (λ (c : Course S). c.closed) step in
+  pub step_more : (every n : ℕ) (rows : List PacketReport) (x : PacketReport) (rest : List PacketReport) (standing next : Standing S) (closed ended : List Span) (marks : List (Mark S)) → drop n rows ≡ x ∷ rest → course_at standing closed ≡ course w (start w) (take n rows) → AreMarks w every rows closed marks → length closed ≤ n
+      → course_at next ended ≡ one w (course_at standing closed) x → IsStep every (n + 1) rows next ended marks
+  step_more every n rows x rest standing next closed ended marks cut is a few step =
+      let now : ended ≡ closed_by standing.current (x.time / w.period) closed = ap (λ (c : Course S). c.closed) step in
       record {
         inside = omega (arith, cut_inside n rows x rest cut);
-        stands = step ∙ step_at (course_at run closed) n rows x rest is cut;
-        marks = subst (λ (cs : List Span). AreMarks w every rows cs marks) (sym now) (marks_stay every rows run.current (x.time / w.period) closed marks a);
-        ended = omega (arith, ap length now, closed_more run.current (x.time / w.period) closed);
+        stands = step ∙ step_at (course_at standing closed) n rows x rest is cut;
+        marks = subst (λ (cs : List Span). AreMarks w every rows cs marks) (sym now) (marks_stay every rows standing.current (x.time / w.period) closed marks a);
+        ended = omega (arith, ap length now, closed_more standing.current (x.time / w.period) closed);
       }
 
   closed_from : (c : Course S) (xs : List PacketReport) → length (course w c xs).closed ≤ length c.closed + length xs
@@ -183,11 +183,11 @@ module _ {S : Type 0} (w : Metering S) where
   closed_from c (x ∷ xs) = omega (arith, closed_from (one w c x) xs, closed_more c.current (x.time / w.period) c.closed)
 
   -- no more spans ended than there were rows
-  pub few_closed : (run : Run S) (closed : List Span) (n : ℕ) (rows : List PacketReport) → course_at run closed ≡ course w (start w) (take n rows) → n ≤ length rows → length closed ≤ n
-  few_closed run closed n rows is h = omega (arith, ap (λ (c : Course S). length c.closed) is, closed_from (start w) (take n rows), length-take-le n rows h)
+  pub few_closed : (standing : Standing S) (closed : List Span) (n : ℕ) (rows : List PacketReport) → course_at standing closed ≡ course w (start w) (take n rows) → n ≤ length rows → length closed ≤ n
+  few_closed standing closed n rows is h = omega (arith, ap (λ (c : Course S). length c.closed) is, closed_from (start w) (take n rows), length-take-le n rows h)
 
-  pub course_all : (run : Run S) (closed : List Span) (n : ℕ) (rows : List PacketReport) → course_at run closed ≡ course w (start w) (take n rows) → length rows ≤ n → course_at run closed ≡ course w (start w) rows
-  course_all run closed n rows is h = is ∙ ap (course w (start w)) (take_all n rows h)
+  pub course_all : (standing : Standing S) (closed : List Span) (n : ℕ) (rows : List PacketReport) → course_at standing closed ≡ course w (start w) (take n rows) → length rows ≤ n → course_at standing closed ≡ course w (start w) rows
+  course_all standing closed n rows is h = is ∙ ap (course w (start w)) (take_all n rows h)
 
 pub next_due : (every n : ℕ) → every * (n + 1) + every ≡ every * (n + 1 + 1)
 next_due every n = omega arith

@@ -11,17 +11,17 @@ use Rattle.tca_accounts.specs.Plans.{AccountPlan, PlannedAccount}
 use Rattle.tca_accounts.specs.Bills.{coloured_by, coloured_in, reports_of, tally_of, bill_of}
 use Rattle.tca_accounts.specs.declared.tally.Tally.{Tally}
 use Rattle.tca_replay.specs.Lanes.{LaneView, lane_resumed}
-use Rattle.tca_replay.specs.Books.{BookView, Fits, AreLanes, AreEmpty, AreSettled, lane_tally}
+use Rattle.tca_replay.specs.Books.{BookView, Fits, AreLanes, AreEmpty, AreResumed, lane_tally}
 use Rattle.tca_accounts.proofs.Bills.{same_maps}
 use Rattle.tca_replay.proofs.Loops.{all_at}
 
-pub settled_all : (lanes : List (LaneView TermedMeter)) → AreSettled (map lane_resumed lanes)
-settled_all [] = tt
-settled_all (l ∷ lanes) = (refl, settled_all lanes)
+pub resumed_all : (lanes : List (LaneView TermedMeter)) → AreResumed (map lane_resumed lanes)
+resumed_all [] = tt
+resumed_all (l ∷ lanes) = (refl, resumed_all lanes)
 
-pub empty_settled : (lanes : List (LaneView TermedMeter)) → AreEmpty lanes → AreSettled lanes
-empty_settled [] a = tt
-empty_settled (l ∷ lanes) a = (a.0.1, empty_settled lanes a.1)
+pub empty_resumed : (lanes : List (LaneView TermedMeter)) → AreEmpty lanes → AreResumed lanes
+empty_resumed [] a = tt
+empty_resumed (l ∷ lanes) a = (a.0.1, empty_resumed lanes a.1)
 
 pub fits_nothing : (plan : AccountPlan) (k : ℕ) (lanes : List (LaneView TermedMeter)) → AreEmpty lanes → Fits [] (record { plan = plan; k = k; lanes = lanes; reports = 0; disputed = 0; unassigned = 0 })
 unfolding undisputed disputed in_order

@@ -3,7 +3,7 @@ use Rattle.std.specs.Prelude.{◌≡◌, ℕ, zero, suc, ◌+◌, ◌-◌, ◌<�
 use Rattle.std.specs.List.{AllByRecursion}
 use Rattle.std.specs.List.Sorted.{IsStrictlySortedBy}
 use Rattle.tca_join.specs.Sets.{put, has}
-use Rattle.tca_report.specs.report.Reports.{PacketReport, report_cmp}
+use Rattle.tca_report.specs.report.Reports.{PacketReport, report_cmp, most_reports}
 use Rattle.tca_meters.specs.Termed.{TermedMeter, termed_rule}
 use Rattle.tca_meters.specs.declared.colour.Colour.{Colour}
 use Rattle.tca_log.specs.Disputes.{added, disputed}
@@ -12,9 +12,8 @@ use Rattle.tca_log.specs.declared.answer.Added.TheVariants.{Fresh, Repeat, NewDi
 use Rattle.tca_accounts.specs.Plans.{AccountPlan, PlannedAccount, account_of}
 use Rattle.tca_accounts.specs.Bills.{coloured_by, is_number, reports_of, unassigned, tally_of}
 use Rattle.tca_accounts.specs.declared.tally.Tally.{Tally}
-use Rattle.tca_replay.specs.Lanes.{LaneView, lane_put, lane_less, lane_ready, lane_resumed}
+use Rattle.tca_replay.specs.Lanes.{LaneView, lane_put, lane_less, lane_ready, lane_resumed, most_rows_a_mark}
 use Rattle.tca_log.specs.Next.{reports_after, disputed_after, count_after}
-use Rattle.tca_report.specs.export.Spelling.{most_reports}
 use Rattle.tca_log.specs.Rows.Ordered.{most_rows}
 
 -- What callers see of a book: a plan, how many rows there are from a mark to the next, a lane for each account, and the counts
@@ -132,8 +131,8 @@ abbrev pub lane_tally : LaneView TermedMeter → Tally
 lane_tally l = tally_of l.period (coloured_by (termed_rule l.meter) l.other l.rows)
 
 -- each lane was resumed since its rows changed
-abbrev pub AreSettled : List (LaneView TermedMeter) → Type 0
-AreSettled lanes = AllByRecursion (λ l. l.changed ≡ None) lanes
+abbrev pub AreResumed : List (LaneView TermedMeter) → Type 0
+AreResumed lanes = AllByRecursion (λ l. l.changed ≡ None) lanes
 
 -- no lane has a row, and none was changed
 abbrev pub AreEmpty : List (LaneView TermedMeter) → Type 0
@@ -160,7 +159,7 @@ CanLeave plan lanes r = (n : ℕ) (l : LaneView TermedMeter) → n < length lane
 pub record IsBook (plan : AccountPlan) (k : ℕ) (lanes : List (LaneView TermedMeter)) : Type 0 where
   pub lanes_are : AreLanes plan k lanes
   pub some : 0 < k
-  pub small : k ≤ 65536
+  pub small : k ≤ most_rows_a_mark
 
 -- the lanes have the reports of their accounts among these, but for the later ones, and so many have no account
 pub record AreFilled (plan : AccountPlan) (k : ℕ) (all later : List PacketReport) (number : ℕ) (lanes : List (LaneView TermedMeter)) : Type 0 where

@@ -6,11 +6,15 @@ use Rattle.tca_join.specs.Sets.{put}
 use Rattle.tca_log.specs.Rows.Ordered.{rank, without, Ordered}
 use Rattle.tca_accounts.specs.declared.span.Span.{Span}
 use Rattle.tca_meters.specs.declared.colour.Colour.{Colour}
-use Rattle.tca_replay.specs.declared.run.Run.{Run}
+use Rattle.tca_replay.specs.declared.run.Standing.{Standing}
 use Rattle.tca_replay.specs.declared.run.Mark.{Mark}
 use Rattle.tca_replay.specs.inside.Course.{Metering, course, start}
-use Rattle.tca_replay.specs.inside.Runs.{course_at}
+use Rattle.tca_replay.specs.inside.Standings.{course_at}
 use Rattle.tca_replay.specs.inside.Marks.{IsMark}
+
+-- the most rows from a mark to the next
+abbrev pub most_rows_a_mark : ℕ
+most_rows_a_mark = 65536
 
 -- What callers see of a lane: the meter, the colour of a code point that has none of its own, the length of a period, how many
 -- rows there are from a mark to the next, the rows, the least row at which one came or went since they were metered, and
@@ -56,15 +60,15 @@ abbrev pub kept : Option PacketReport → List PacketReport → ℕ
 kept None rows = length rows
 kept (Some r) rows = rank report_cmp r rows
 
--- What a lane keeps. The marks before the least change are right, and where nothing changed so is the run; there is room for
+-- What a lane keeps. The marks before the least change are right, and where nothing changed so is the standing; there is room for
 -- the spans and the marks of all rows, and where it is ready of one more.
-pub record IsLane {S : Type 0} (w : Metering S) (every : ℕ) (store : Ordered PacketReport) (changed : Option PacketReport) (run : Run S) (all : List (Mark S)) (closed : List Span) (ready : Bool) (span_room mark_room : ℕ) : Type 0 where
+pub record IsLane {S : Type 0} (w : Metering S) (every : ℕ) (store : Ordered PacketReport) (changed : Option PacketReport) (standing : Standing S) (all : List (Mark S)) (closed : List Span) (ready : Bool) (span_room mark_room : ℕ) : Type 0 where
   pub period : 0 < w.period
   pub some : 0 < every
-  pub small : every ≤ 65536
+  pub small : every ≤ most_rows_a_mark
   pub marks : (j : ℕ) (d : Mark S) → j < length all → every * (j + 1) ≤ kept changed store.rows → IsMark w (take (every * (j + 1)) store.rows) closed (get_or all j d)
   pub reach : kept changed store.rows ≤ every * (length all + 1)
-  pub stands : IfNone changed (course_at run closed ≡ course w (start w) store.rows)
+  pub stands : IfNone changed (course_at standing closed ≡ course w (start w) store.rows)
   pub spans : length store.rows ≤ span_room
   pub room : (n : ℕ) → every * n ≤ length store.rows → n ≤ mark_room
   pub store_ready : ready ≡ true → store.ready ≡ true

@@ -1,4 +1,4 @@
 -- What private functions and invariants alone cite. No public contract speaks of it.
 pub mod Course
 pub mod Marks
-pub mod Runs
+pub mod Standings

@@ -7,8 +7,8 @@ ghost use Rattle.tca_log.specs.Disputes as disputes;
 ghost use Rattle.tca_accounts.specs.Bills.{bill_of};
 ghost use Rattle.tca_log.specs.declared.answer.Added.TheVariants.{Fresh, NewDispute};
 ghost use Rattle.tca_accounts.specs.Plans.{account_of};
-ghost use Rattle.tca_replay.specs.Lanes.{lane_put, lane_less, lane_ready, lane_resumed};
-ghost use Rattle.tca_replay.specs.Books.{all_steps, fewest_steps, row_count, book_after, book_ready, book_settled, most_steps, lane_tally, lanes_at, one_if, CanEnter, CanLeave, AreEmpty, AreFilled, AreLanes, AreSettled, Fits, IsReady, Takes};
+ghost use Rattle.tca_replay.specs.Lanes.{lane_put, lane_less, lane_ready, lane_resumed, most_rows_a_mark};
+ghost use Rattle.tca_replay.specs.Books.{all_steps, fewest_steps, row_count, book_after, book_ready, book_settled, most_steps, lane_tally, lanes_at, one_if, CanEnter, CanLeave, AreEmpty, AreFilled, AreLanes, AreResumed, Fits, IsReady, Takes};
 
 use crate::lane::{Lane, Replayed};
 use std::alloc::{AllocError, Allocator, Global};
@@ -47,12 +47,12 @@ impl<A: Allocator + Copy> Book<A> {
     /// A book without reports, whose lanes have a mark after each `k` rows. `AllocError` comes where a growth was refused.
     pub fn new(alloc: A, plan: Plan, k: u32) -> Result<Book<A>, AllocError>
         requires some_rows { 0 < k }
-        requires few_rows { k ≤ 65536 }
+        requires few_rows { k ≤ most_rows_a_mark }
         ensures plan { IfOk result (λ b. b.plan ≡ plan) }
         ensures marks { IfOk result (λ b. b.k ≡ k) }
         ensures lanes { IfOk result (λ b. AreLanes plan k b.lanes) }
         ensures fits { IfOk result (λ b. Fits [] b) }
-        ensures settled { IfOk result (λ b. AreSettled b.lanes) }
+        ensures resumed { IfOk result (λ b. AreResumed b.lanes) }
     {
         let lanes = lanes_of(alloc, &plan, k)?;
         Ok(Book {
@@ -123,7 +123,7 @@ impl<A: Allocator + Copy> Book<A> {
     /// Resumes each lane, and answers how many rows were metered in all. It takes no memory.
     pub fn settle(&mut self) -> Replayed
         ensures book { self.new ≡ book_settled self.old }
-        ensures settled { AreSettled self.new.lanes }
+        ensures resumed { AreResumed self.new.lanes }
         ensures fits { (rs : List PacketReport) → Fits rs self.old → Fits rs self.new }
         ensures steps { result.steps ≤ most_steps self.old.lanes }
         ensures all { min (fewest_steps self.old.lanes) (2 ^ 64 - 1) ≤ result.steps }
@@ -140,7 +140,7 @@ impl<A: Allocator + Copy> Book<A> {
         ensures plan { self.new.plan ≡ self.old.plan }
         ensures marks { self.new.k ≡ self.old.k }
         ensures fits { OnOk result (Fits log.now self.new) }
-        ensures settled { OnOk result (AreSettled self.new.lanes) }
+        ensures resumed { OnOk result (AreResumed self.new.lanes) }
         ensures steps { IfOk result (λ r. r.steps ≤ all_steps self.new.lanes) }
         ensures all { IfOk result (λ r. min (row_count self.new.lanes) (2 ^ 64 - 1) ≤ r.steps) }
         ensures err { OnErr result (self.new ≡ self.old) }
@@ -156,7 +156,7 @@ impl<A: Allocator + Copy> Book<A> {
 
     /// The bill of the set that the book fits, once it is settled. `AllocError` comes where a growth was refused.
     pub fn totals(&self, alloc: Global) -> Result<Bill, AllocError>
-        requires { AreSettled self.now.lanes }
+        requires { AreResumed self.now.lanes }
         ensures { IfOk result (λ bill. (rs : List PacketReport) → Fits rs self.now → bill ≡ bill_of self.now.plan rs) }
     {
         Ok(Bill {
@@ -175,7 +175,7 @@ fn lanes_of<A: Allocator + Copy>(
     k: u32,
 ) -> Result<Vec<Lane<Termed, A>, A>, AllocError>
     requires some_rows { 0 < k }
-    requires few_rows { k ≤ 65536 }
+    requires few_rows { k ≤ most_rows_a_mark }
     ensures lanes { IfOk result (λ lanes. AreLanes plan.now k lanes.items) }
     ensures empty { IfOk result (λ lanes. AreEmpty lanes.items) }
 {
@@ -206,7 +206,7 @@ fn tallies<A: Allocator + Copy>(
     alloc: Global,
     lanes: &[Lane<Termed, A>],
 ) -> Result<Vec<Tally>, AllocError>
-    requires { AreSettled lanes.now }
+    requires { AreResumed lanes.now }
     ensures { IfOk result (λ list. list.items ≡ map lane_tally lanes.now) }
 {
     let mut list = Vec::new(alloc);
@@ -300,7 +300,7 @@ fn lanes_with<A: Allocator + Copy>(
     log: &Log,
 ) -> Result<(Vec<Lane<Termed, A>, A>, u32), AllocError>
     requires some_rows { 0 < k }
-    requires few_rows { k ≤ 65536 }
+    requires few_rows { k ≤ most_rows_a_mark }
     ensures { IfOk result (λ p. AreFilled plan.now k (disputes.undisputed log.now) [] p.1 p.0.items) }
 {
     let mut lanes = lanes_of(alloc, plan, k)?;

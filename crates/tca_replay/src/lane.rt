@@ -3,15 +3,15 @@ ghost use Rattle.std.specs.Prelude.{◌≡◌, ℕ, true, false, ◌+◌, ◌-�
 ghost use Rattle.tca_report.specs.report.Reports.{report_cmp, time_end};
 ghost use Rattle.tca_join.specs.Sets.{has, put};
 ghost use Rattle.tca_log.specs.Rows.Ordered.{without, rank, most_rows};
-ghost use Rattle.tca_replay.specs.Lanes.{lane_put, lane_less, lane_ready, lane_resumed, lower_of};
+ghost use Rattle.tca_replay.specs.Lanes.{lane_put, lane_less, lane_ready, lane_resumed, lower_of, most_rows_a_mark};
 ghost use Rattle.tca_replay.specs.inside.Course.{start};
 ghost use Rattle.tca_accounts.specs.Bills.{coloured_by, tally_of};
 ghost use Rattle.tca_accounts.specs.Metering.{with_last};
-ghost use Rattle.tca_replay.specs.inside.Runs.{course_at, metering};
+ghost use Rattle.tca_replay.specs.inside.Standings.{course_at, metering};
 ghost use Rattle.tca_replay.specs.declared.run.Mark.{Mark};
 ghost use Rattle.tca_replay.specs.declared.run.Terms.{Terms};
 
-use crate::run::{Mark, Run, Terms, begin, replay};
+use crate::run::{Mark, Standing, Terms, begin, replay};
 use std::alloc::{AllocError, Allocator, Global};
 use std::marker::Model;
 use tca_accounts::{Span, Spans, Tally};
@@ -38,7 +38,7 @@ pub struct Lane<M: Meter, A: Allocator + Copy = Global> {
     rows: Rows<Report, A>,
     marks: Vec<Mark<M::State>, A>,
     closed: Vec<Span, A>,
-    run: Run<M::State>,
+    standing: Standing<M::State>,
     changed: Option<Report>,
     ready: bool,
 }
@@ -46,13 +46,13 @@ pub struct Lane<M: Meter, A: Allocator + Copy = Global> {
 impl<M: Meter, A: Allocator + Copy> Model for Lane<M, A> {
     ghost use Rattle.std.specs.Prelude.{vec_capacity};
     ghost use Rattle.tca_replay.specs.Lanes.{LaneView, IsLane, kept, row_of};
-    ghost use Rattle.tca_replay.specs.inside.Runs.{metering};
+    ghost use Rattle.tca_replay.specs.inside.Standings.{metering};
 
     ghost Value = { LaneView M };
 
     ghost view = { λ l. record { meter = l.meter; other = l.terms.other; period = l.terms.period; k = l.every; rows = l.rows.rows; changed = row_of l.changed l.rows.rows; ready = l.ready } };
 
-    ghost invariant = { λ l. IsLane (metering (M.rule l.meter) l.terms) l.every l.rows l.changed l.run l.marks.items l.closed.items l.ready (vec_capacity l.closed) (vec_capacity l.marks) };
+    ghost invariant = { λ l. IsLane (metering (M.rule l.meter) l.terms) l.every l.rows l.changed l.standing l.marks.items l.closed.items l.ready (vec_capacity l.closed) (vec_capacity l.marks) };
 }
 
 impl<M: Meter, A: Allocator + Copy> Lane<M, A> {
@@ -62,10 +62,10 @@ impl<M: Meter, A: Allocator + Copy> Lane<M, A> {
         requires some_time { 0 < period }
         requires time { period < time_end }
         requires some_rows { 0 < k }
-        requires few_rows { k ≤ 65536 }
+        requires few_rows { k ≤ most_rows_a_mark }
         ensures { result ≡ record { meter = meter; other = other; period = period; k = k; rows = []; changed = None; ready = false } }
     {
-        let run = begin(&meter);
+        let standing = begin(&meter);
         Lane {
             meter,
             terms: Terms { other, period },
@@ -73,7 +73,7 @@ impl<M: Meter, A: Allocator + Copy> Lane<M, A> {
             rows: Rows::new(alloc),
             marks: Vec::new(alloc),
             closed: Vec::new(alloc),
-            run,
+            standing,
             changed: None,
             ready: false,
         }
@@ -121,10 +121,11 @@ impl<M: Meter, A: Allocator + Copy> Lane<M, A> {
         requires { self.now.changed ≡ None }
         ensures { IfOk result (λ t. t ≡ tally_of self.now.period (coloured_by (M.rule self.now.meter) self.now.other self.now.rows)) }
     {
+        // For its clause alone: the rows ascend, and how many there may be.
         let _all = self.rows.len();
-        let spans = all_spans(alloc, &self.closed, self.run.current)?;
+        let spans = all_spans(alloc, &self.closed, self.standing.current)?;
         Ok(Tally {
-            total: self.run.metered.total,
+            total: self.standing.metered.total,
             spans: Spans::ascending(spans),
         })
     }
@@ -136,6 +137,7 @@ impl<M: Meter, A: Allocator + Copy> Lane<M, A> {
         requires few { length self.old.rows < most_rows }
         ensures { self.new ≡ lane_put self.old report }
     {
+        // For its clause alone: the rows ascend, and how many there may be.
         let _all = self.rows.len();
         self.rows.put(report);
         lower(&mut self.changed, &report);
@@ -147,6 +149,7 @@ impl<M: Meter, A: Allocator + Copy> Lane<M, A> {
         requires { has report_cmp self.old.rows report.now ≡ true }
         ensures { self.new ≡ lane_less self.old report.now }
     {
+        // For its clause alone: the rows ascend, and how many there may be.
         let _all = self.rows.len();
         self.rows.withdraw(report);
         lower(&mut self.changed, report);
@@ -167,14 +170,14 @@ impl<M: Meter, A: Allocator + Copy> Lane<M, A> {
         let kept = self.rows.rank(&report);
         let at = mark_before(kept, self.every, self.marks.len());
         let from = self.every * at;
-        let run = rewind(&self.meter, at, &mut self.marks, &mut self.closed);
-        self.run = replay(
+        let standing = rewind(&self.meter, at, &mut self.marks, &mut self.closed);
+        self.standing = replay(
             &self.meter,
             self.terms,
             self.every,
             &self.rows,
             from,
-            run,
+            standing,
             &mut self.marks,
             &mut self.closed,
         );
@@ -211,7 +214,7 @@ fn reserve_marks<S, A: Allocator>(
     count: usize,
 ) -> Result<(), AllocError>
     requires some { 0 < every }
-    requires small { every ≤ 65536 }
+    requires small { every ≤ most_rows_a_mark }
     ensures items { marks.new.items ≡ marks.old.items }
     ensures capacity { vec_capacity marks.old ≤ vec_capacity marks.new }
     ensures room { OnOk result ((n : ℕ) → every * n ≤ count → n ≤ vec_capacity marks.new) }
@@ -254,11 +257,11 @@ fn rewind<M: Meter, A: Allocator>(
     at: usize,
     marks: &mut Vec<Mark<M::State>, A>,
     closed: &mut Vec<Span, A>,
-) -> Run<M::State>
+) -> Standing<M::State>
     requires { at ≤ vec_len marks.old }
     ensures marks { marks.new.items ≡ take at marks.old.items }
     ensures len { vec_len marks.new ≡ at }
-    ensures run { (d : Mark M.State) → 0 < at → (result ≡ (get_or marks.old.items (at - 1) d).run) × (closed.new.items ≡ take (get_or marks.old.items (at - 1) d).closed closed.old.items) }
+    ensures standing { (d : Mark M.State) → 0 < at → (result ≡ (get_or marks.old.items (at - 1) d).standing) × (closed.new.items ≡ take (get_or marks.old.items (at - 1) d).closed closed.old.items) }
     ensures start { at ≡ 0 → (t : Terms) → course_at result closed.new.items ≡ start (metering (M.rule meter.now) t) }
     ensures room { (vec_capacity marks.new ≡ vec_capacity marks.old) × (vec_capacity closed.new ≡ vec_capacity closed.old) }
 {
@@ -269,7 +272,7 @@ fn rewind<M: Meter, A: Allocator>(
     }
     let mark = marks[at - 1];
     closed.truncate(mark.closed);
-    mark.run
+    mark.standing
 }
 
 // Keeps the lower of a report and the one before, if there is one.

@@ -5,9 +5,10 @@ ghost use Rattle.tca_accounts.specs.Sums.{with_packet};
 ghost use Rattle.tca_meters.specs.declared.colour.Colour.{Colour};
 ghost use Rattle.tca_report.specs.report.Reports.{most_octets};
 ghost use Rattle.tca_replay.specs.declared.run.Terms.{Terms};
+ghost use Rattle.tca_replay.specs.Lanes.{most_rows_a_mark};
 ghost use Rattle.tca_replay.specs.inside.Course.{one, course, start};
 ghost use Rattle.tca_replay.specs.inside.Marks.{AreMarks};
-ghost use Rattle.tca_replay.specs.inside.Runs.{course_at, metering};
+ghost use Rattle.tca_replay.specs.inside.Standings.{course_at, metering};
 
 use std::alloc::Allocator;
 use tca_accounts::{Metered, Period, Span, Sums, meter_next, no_reports};
@@ -17,7 +18,7 @@ use tca_report::Report;
 
 /// Where the metering of a list stands, but for the spans that ended.
 #[derive(Clone, Copy)]
-pub(crate) struct Run<S> {
+pub(crate) struct Standing<S> {
     pub(crate) metered: Metered<S>,
     pub(crate) current: Option<Span>,
 }
@@ -25,7 +26,7 @@ pub(crate) struct Run<S> {
 /// What is kept of a place in the rows: where the metering stood, and how many spans had ended.
 #[derive(Clone, Copy)]
 pub(crate) struct Mark<S> {
-    pub(crate) run: Run<S>,
+    pub(crate) standing: Standing<S>,
     pub(crate) closed: usize,
 }
 
@@ -37,10 +38,10 @@ pub(crate) struct Terms {
 }
 
 /// Where metering starts.
-pub(crate) fn begin<M: Meter>(meter: &M) -> Run<M::State>
+pub(crate) fn begin<M: Meter>(meter: &M) -> Standing<M::State>
     ensures { (t : Terms) → course_at result [] ≡ start (metering (M.rule meter.now) t) }
 {
-    Run {
+    Standing {
         metered: no_reports(meter),
         current: None,
     }
@@ -50,23 +51,23 @@ pub(crate) fn begin<M: Meter>(meter: &M) -> Run<M::State>
 fn step<M: Meter, A: Allocator>(
     meter: &M,
     terms: Terms,
-    run: &mut Run<M::State>,
+    standing: &mut Standing<M::State>,
     report: &Report,
     period: &mut Period,
     closed: &mut Vec<Span, A>,
 )
-    requires order { run.old.metered.time ≤ report.now.time }
+    requires order { standing.old.metered.time ≤ report.now.time }
     requires period { period.old ≡ terms.period }
     requires room { vec_len closed.old < vec_capacity closed.old }
-    requires few { CanAdd run.old.metered.total run.old.current }
-    ensures course { course_at run.new closed.new.items ≡ one (metering (M.rule meter.now) terms) (course_at run.old closed.old.items) report.now }
+    requires few { CanAdd standing.old.metered.total standing.old.current }
+    ensures course { course_at standing.new closed.new.items ≡ one (metering (M.rule meter.now) terms) (course_at standing.old closed.old.items) report.now }
     ensures capacity { vec_capacity closed.old ≤ vec_capacity closed.new }
     ensures period { period.new ≡ terms.period }
 {
-    let colour = meter_next(meter, terms.other, &mut run.metered, report);
+    let colour = meter_next(meter, terms.other, &mut standing.metered, report);
     let content = report.content();
     let index = period.index_of(content.time);
-    count_in(&mut run.current, closed, index, colour, content.octets);
+    count_in(&mut standing.current, closed, index, colour, content.octets);
 }
 
 // Counts a packet in the span of a period. Where that of another one went on, it has ended.
@@ -103,15 +104,15 @@ pub(crate) fn replay<M: Meter, A: Allocator + Copy>(
     every: usize,
     rows: &Rows<Report, A>,
     from: usize,
-    run: Run<M::State>,
+    standing: Standing<M::State>,
     marks: &mut Vec<Mark<M::State>, A>,
     closed: &mut Vec<Span, A>,
-) -> Run<M::State>
+) -> Standing<M::State>
     requires period { 0 < terms.period }
-    requires every { (0 < every) × (every ≤ 65536) }
+    requires every { (0 < every) × (every ≤ most_rows_a_mark) }
     requires from { from ≡ every * vec_len marks.old }
     requires inside { from ≤ length rows.now.rows }
-    requires course { course_at run closed.old.items ≡ course (metering (M.rule meter.now) terms) (start (metering (M.rule meter.now) terms)) (take from rows.now.rows) }
+    requires course { course_at standing closed.old.items ≡ course (metering (M.rule meter.now) terms) (start (metering (M.rule meter.now) terms)) (take from rows.now.rows) }
     requires marks { AreMarks (metering (M.rule meter.now) terms) every rows.now.rows closed.old.items marks.old.items }
     requires spans { length rows.now.rows ≤ vec_capacity closed.old }
     requires room { (n : ℕ) → every * n ≤ length rows.now.rows → n ≤ vec_capacity marks.old }
@@ -121,21 +122,22 @@ pub(crate) fn replay<M: Meter, A: Allocator + Copy>(
     ensures spans { vec_capacity closed.old ≤ vec_capacity closed.new }
     ensures room { vec_capacity marks.old ≤ vec_capacity marks.new }
 {
+    // For its clause alone: the rows ascend, and how many there may be.
     let _all = rows.len();
-    let mut run = run;
+    let mut standing = standing;
     let mut period = Period::new(terms.period);
     let mut count = from;
     let mut due = from + every;
     for report in rows.iter_from(from) {
-        step(meter, terms, &mut run, report, &mut period, closed);
+        step(meter, terms, &mut standing, report, &mut period, closed);
         count += 1;
         if count == due {
             let _ = marks.push(Mark {
-                run,
+                standing,
                 closed: closed.len(),
             });
             due += every;
         }
     }
-    run
+    standing
 }

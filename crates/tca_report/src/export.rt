@@ -1,4 +1,4 @@
-//! The log export: its limit, its faults and its law.
+//! The log export: its faults and its law.
 ghost use Rattle.std.specs.Prelude.{◌≡◌, List, ℕ};
 ghost use Rattle.tca_report.specs.export.Spelling.{IsExport};
 ghost use Rattle.tca_report.specs.Faults.{export_number};
@@ -10,9 +10,6 @@ mod writing;
 pub use reading::read_export;
 use thiserror::Error;
 pub use writing::write_export;
-
-// How many reports one export may have.
-pub(crate) const MOST_REPORTS: u32 = 4_194_304;
 
 /// A version of the log export.
 #[derive(Clone, Copy)]

@@ -1,7 +1,7 @@
 //! Inputs: log exports and captures.
 ghost use Rattle.std.specs.Prelude.{◌≡◌, ◌≢◌, ◌<◌, ◌≤◌, List, ℕ, Ok, Err, IfErr, IsErrOf, IsTrue, length, false, true};
 ghost use Rattle.std.specs.List.{AllByRecursion};
-ghost use Rattle.tca_wire.specs.Results.{Gives};
+ghost use Rattle.tca_join.specs.Results.{Gives};
 ghost use Rattle.tca_report.specs.Faults.{input_number};
 ghost use Rattle.tca_report.specs.report.Reports.{PacketReport};
 ghost use Rattle.tca_report.specs.export.Spelling.{IsExport};
@@ -175,7 +175,7 @@ pub fn gather(alloc: Global, octets: &[u8], session: u32) -> Result<Gathered, In
 /// The law of inputs: what is read of an input from the left is what it is, the octets of a log export, or messages one after the
 /// other, each of which is what RFC 7011 says of it in the session of those before it. Where it is neither, the fault is the one before
 /// which all is right.
-pub fn input_words()
+pub fn input_laws()
     ensures found { (input : InputView) (after : CaptureSoFar) → AllByRecursion (λ (b : ℕ). b < 256) input.octets → read_input input ≡ Ok after → IsInput input after }
     ensures only { (input : InputView) (after : CaptureSoFar) → IsInput input after → read_input input ≡ Ok after }
     ensures fault { (input : InputView) (f : InputFault) → (is_export input.octets ≡ true → AllByRecursion (λ (b : ℕ). b < 256) input.octets) → read_input input ≡ Err f → IsFirstFault input f }

@@ -20,5 +20,5 @@ mod report;
 
 pub use device::{Host, Read, ReadFault, Write, WriteFault, put_all, read_octets};
 pub use export::{ExportFault, read_export, spelling_is_unique, write_export};
-pub use input::{Gathered, Input, InputFault, NotReport, Notes, extract, gather, input_words};
+pub use input::{Gathered, Input, InputFault, NotReport, Notes, extract, gather, input_laws};
 pub use report::{Content, Identity, Report, TIME_END, order_is_total};

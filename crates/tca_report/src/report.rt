@@ -97,6 +97,9 @@ pub(crate) const MOST_OCTETS: u32 = 65_575;
 // The highest code point (RFC 2474).
 pub(crate) const MOST_DSCP: u8 = 63;
 
+// The most reports of a log, and so of an export.
+pub(crate) const MOST_REPORTS: u32 = 4_194_304;
+
 /// A report of one packet. Reports are ordered by time, domain, session, place, octets, code point and
 /// interface, each ascending.
 #[derive(Clone, Copy, Debug, PartialEq, Eq, PartialOrd, Ord)]

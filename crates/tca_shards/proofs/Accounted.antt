@@ -9,8 +9,7 @@ use Rattle.std.proofs.lemmas.Cmp.{nat_cmp_total}
 use Rattle.std.proofs.lemmas.List.Sums.{sum_by-cons}
 use Rattle.tca_join.specs.Sets.{in_order, put}
 use Rattle.tca_join.proofs.Sets.{rises_in_order}
-use Rattle.tca_report.specs.report.Reports.{InRange, PacketReport, most_octets}
-use Rattle.tca_report.specs.export.Spelling.{most_reports}
+use Rattle.tca_report.specs.report.Reports.{InRange, PacketReport, most_octets, most_reports}
 use Rattle.tca_meters.specs.Colours.{colour_number}
 use Rattle.tca_meters.specs.declared.colour.Colour.{Colour}
 use Rattle.tca_meters.specs.declared.colour.Colour.TheVariants.{Green, Yellow, Red}

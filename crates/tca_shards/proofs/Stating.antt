@@ -6,9 +6,8 @@ use Rattle.std.specs.Str.{bytes_eq}
 use Rattle.std.proofs.lemmas.Bool.{false≢true}
 use Rattle.std.proofs.lemmas.List.{append-nil, append_assoc}
 use Rattle.std.proofs.lemmas.Map.Keys.{IsDistinct-cons}
-use Rattle.tca_report.specs.report.Reports.{InRange, PacketReport}
+use Rattle.tca_report.specs.report.Reports.{InRange, PacketReport, most_reports}
 use Rattle.tca_report.specs.report.Identities.{identity_of}
-use Rattle.tca_report.specs.export.Spelling.{most_reports}
 use Rattle.tca_log.specs.Disputes.{contents, undisputed}
 use Rattle.tca_log.proofs.Repeats.{disputed_few}
 use Rattle.tca_meters.specs.Packets.{Packet, Rule, coloured}

@@ -3,8 +3,7 @@ use Rattle.std.specs.Prelude.{◌≤◌, ℕ, List, [], ◌∷◌, length, map, 
 use Rattle.std.specs.List.{AllByRecursion, zip}
 use Rattle.std.specs.List.Sorted.{IsStrictlySortedBy}
 use Rattle.tca_join.specs.SetLaws.{union}
-use Rattle.tca_report.specs.report.Reports.{InRange, PacketReport, report_cmp}
-use Rattle.tca_report.specs.export.Spelling.{most_reports}
+use Rattle.tca_report.specs.report.Reports.{InRange, PacketReport, report_cmp, most_reports}
 use Rattle.tca_accounts.specs.Plans.{AccountPlan, IsPlan, PlannedAccount}
 use Rattle.tca_accounts.specs.Sums.{ColourSums}
 use Rattle.tca_accounts.specs.Bills.{bill_of}

@@ -1,7 +1,7 @@
 -- The reports of a message are of its domain.
 use Rattle.std.proofs.Common.{◌≡◌, ℕ, ◌+◌, Bool, true, false, cond, List, [], ◌∷◌, Result, Ok, Err, refl, ap, ◌∙◌}
 use Rattle.std.specs.Prelude.{◌==◌, IfOk, ok_or, nat_lt, nat_le, ◌&&◌, not, Option, Some, None}
-use Rattle.tca_wire.specs.Results.{◌>>=◌}
+use Rattle.tca_join.specs.Results.{◌>>=◌}
 use Rattle.tca_templates.specs.declared.source.Source.{Source}
 use Rattle.tca_templates.specs.Records.{PlacedView}
 use Rattle.tca_templates.specs.Sessions.{ArePlaced}

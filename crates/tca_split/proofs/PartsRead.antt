@@ -4,7 +4,7 @@ use Rattle.std.specs.Prelude.{◌==◌, nat_le}
 use Rattle.std.specs.List.{concat, AllByRecursion}
 use Rattle.std.proofs.lemmas.Bool.Decides.{nat_tests}
 use Rattle.std.proofs.lemmas.List.Elements.{filter-append}
-use Rattle.tca_wire.specs.Results.{◌>>=◌}
+use Rattle.tca_join.specs.Results.{◌>>=◌}
 use Rattle.tca_wire.specs.Messages.{version_at}
 use Rattle.tca_wire.specs.Frames.{IsFrame, Framing, Holds, Failed, frames_of}
 use Rattle.tca_wire.specs.declared.message.Header.{Header}

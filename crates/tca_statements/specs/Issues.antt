@@ -12,8 +12,7 @@ use Rattle.tca_accounts.specs.declared.tally.Tally.{Tally}
 use Rattle.tca_statements.specs.declared.amount.Amount.{Amount}
 use Rattle.tca_statements.specs.declared.fault.IssueFault.{IssueFault}
 use Rattle.tca_statements.specs.declared.fault.IssueFault.TheVariants.{NoAccount, Period}
-use Rattle.tca_report.specs.report.Reports.{most_octets, time_end}
-use Rattle.tca_report.specs.export.Spelling.{most_reports}
+use Rattle.tca_report.specs.report.Reports.{most_octets, time_end, most_reports}
 
 -- no octets
 abbrev pub nothing : Amount

@@ -2,6 +2,8 @@
 use Rattle.std.specs.Prelude.{ℕ, List, ◌++◌, codes, slice_index}
 use Rattle.std.specs.List.{flat_map, zip}
 use Rattle.std.specs.Fmt.{decimal}
+use Rattle.tca_report.specs.report.Reports.{PacketReport}
+use Rattle.tca_accounts.specs.Bills.{bill_of}
 use Rattle.tca_accounts.specs.Plans.{AccountPlan}
 use Rattle.tca_accounts.specs.Sums.{ColourSums}
 use Rattle.tca_accounts.specs.declared.bill.Bill.{Bill}
@@ -48,3 +50,7 @@ unfoldable pub statement_text : AccountPlan → Bill → List ℕ
 statement_text plan bill =
     opening_lines plan.period bill
     ++ (flat_map (λ a. account_lines a.0.name a.1) (zip plan.accounts bill.accounts) ++ codes "end\n")
+
+-- the statement of a set of reports under a plan
+abbrev pub statement_under : AccountPlan → List PacketReport → List ℕ
+statement_under plan rs = statement_text plan (bill_of plan rs)

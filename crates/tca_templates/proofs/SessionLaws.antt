@@ -5,7 +5,7 @@ use Rattle.std.specs.Prelude.{IfOk}
 use Rattle.std.specs.Option.{is_none}
 use Rattle.tca_wire.proofs.Walking.{gives_ok}
 use Rattle.std.proofs.lemmas.Bool.Decides.{nat_tests}
-use Rattle.tca_wire.specs.Results.{Gives, ◌>>=◌}
+use Rattle.tca_join.specs.Results.{Gives, ◌>>=◌}
 use Rattle.tca_wire.specs.Walks.{walk}
 use Rattle.tca_templates.specs.declared.source.Source.{Source}
 use Rattle.tca_wire.specs.declared.message.SetSpan.{SetSpan}

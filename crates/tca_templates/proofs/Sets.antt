@@ -5,7 +5,7 @@ use Rattle.std.proofs.lemmas.Bool.Decides.{nat_tests}
 use Rattle.std.specs.Prelude.{◌||◌}
 use Rattle.std.specs.List.{list_any}
 use Rattle.std.proofs.lemmas.List.{length-drop, nil_from_length}
-use Rattle.tca_wire.specs.Results.{◌>>=◌}
+use Rattle.tca_join.specs.Results.{◌>>=◌}
 use Rattle.tca_wire.proofs.Tiles.{blank_set}
 use Rattle.tca_wire.specs.Walks.{walk}
 use Rattle.tca_templates.specs.declared.source.Source.{Source}

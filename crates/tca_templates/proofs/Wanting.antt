@@ -2,7 +2,7 @@
 use Rattle.std.proofs.Common.{◌≡◌, ℕ, zero, suc, ◌+◌, ◌<◌, List, [], ◌∷◌, ◌++◌, length, take, drop, get_or, Option, Some, None, Result, Ok, Err, refl, sym, ap, ap₂, subst, ◌∙◌, arith}
 use Rattle.std.specs.Prelude.{is_some, false}
 use Rattle.tca_wire.specs.Walks.{Front, Next}
-use Rattle.tca_wire.specs.Results.{◌>>=◌}
+use Rattle.tca_join.specs.Results.{◌>>=◌}
 use Rattle.tca_templates.specs.declared.source.Source.{Source}
 use Rattle.tca_wire.specs.declared.message.SetSpan.{SetSpan}
 use Rattle.tca_wire.proofs.Tiles.{blank_set}

@@ -1,6 +1,6 @@
 -- The records of a message, and the templates after it.
 use Rattle.std.specs.Prelude.{ℕ, ◌+◌, ◌==◌, nat_lt, true, false, if◌then◌else◌, List, [], ◌∷◌, take, drop, Option, Some, None, Result, Ok, Err}
-use Rattle.tca_wire.specs.Results.{◌>>=◌}
+use Rattle.tca_join.specs.Results.{◌>>=◌}
 use Rattle.tca_wire.specs.Walks.{walk}
 use Rattle.tca_templates.specs.declared.source.Source.{Source}
 use Rattle.tca_wire.specs.declared.message.SetSpan.{SetSpan}

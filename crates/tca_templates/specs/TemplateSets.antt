@@ -1,7 +1,7 @@
 -- The grammar of template sets (RFC 7011, sections 3.2 and 3.4): template records one after the other, and padding.
 use Rattle.std.specs.Prelude.{◌≡◌, ◌⊎◌, ⊤, ℕ, ◌+◌, ◌≤◌, ◌<◌, Bool, true, false, List, [], ◌∷◌, ◌++◌, length, drop, Some, None, Result, Ok}
 use Rattle.byteorder.specs.Endian.{big_number}
-use Rattle.tca_wire.specs.Results.{◌>>=◌}
+use Rattle.tca_join.specs.Results.{◌>>=◌}
 use Rattle.tca_templates.specs.declared.template.FieldSpec.{FieldSpec}
 use Rattle.tca_templates.specs.declared.fault.DecodeFault.{DecodeFault}
 use Rattle.tca_templates.specs.Templates.{Templates, shortest_of}

@@ -1,7 +1,7 @@
 //! A session, which reads messages.
 ghost use Rattle.std.specs.Prelude.{◌≡◌, ◌≢◌, ◌<◌, ◌≤◌, ◌^◌, length, OnOk, OnErr, IfOk, IfErr, Ok, Err, map, true};
 ghost use Rattle.std.specs.List.{list_any};
-ghost use Rattle.tca_wire.specs.Results.{Gives};
+ghost use Rattle.tca_join.specs.Results.{Gives};
 ghost use Rattle.tca_templates.specs.Templates.{listed};
 ghost use Rattle.tca_templates.specs.Records.{source_of};
 ghost use Rattle.tca_templates.specs.Reading.{read_of, ReadMessage};

@@ -6,24 +6,9 @@ ghost use Rattle.tca_templates.specs.Records.{fields_on};
 ghost use Rattle.tca_templates.specs.Chosen.{times, sizes, code_points, interfaces, sections, is_field_of, chosen_of};
 ghost use Rattle.tca_templates.specs.inside.Layouts.{spot_in, spot_if, choice_of, spots_of, spots_with, layout_of};
 
+use crate::elements::{CODE_POINTS, INTERFACES, SECTIONS, SIZES, TIMES};
 use crate::record::measure;
 use crate::template::{FieldSpec, VARIABLE};
-
-// The elements that tell a packet's time, the first choice first: in milliseconds, microseconds, nanoseconds, seconds
-// (RFC 5477).
-const TIMES: [u16; 4] = [323, 324, 325, 322];
-
-// Those that tell how many octets it has: ipTotalLength, totalLengthIPv4, octetDeltaCount.
-const SIZES: [u16; 3] = [224, 190, 1];
-
-// Those that tell its code point: ipDiffServCodePoint, ipClassOfService.
-const CODE_POINTS: [u16; 2] = [195, 5];
-
-// The one that tells its interface: ingressInterface.
-const INTERFACES: [u16; 1] = [10];
-
-// The one that has its first octets, from the IP header on: ipHeaderPacketSection.
-const SECTIONS: [u16; 1] = [313];
 
 // Which elements are chosen of a template.
 #[derive(Clone, Copy)]

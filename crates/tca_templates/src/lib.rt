@@ -13,13 +13,15 @@
 //! - `template`, `specifiers`, `store`: what a template says, the records that define and withdraw templates, and
 //!   the sets of these; `slots`: the templates that are known; `ids`: those of a domain and kind; `iter`: all of them in
 //!   order;
-//! - `layout`: which fields of a template are chosen, and where they stand in a record;
+//! - `elements`: the elements that tell about a packet, and which are chosen; `layout`: which fields of a template are chosen, and where
+//!   they stand in a record;
 //! - `source`: whose records a message has;
 //! - `record`, `outcome`: the records of data sets, in the message's octets and as values of their own;
 //! - `fault`: what can be wrong.
 #![tactic(auto)]
 
 mod decoder;
+pub mod elements;
 mod fault;
 mod ids;
 mod iter;
@@ -37,5 +39,5 @@ pub use decoder::{Decoder, Handed};
 pub use fault::DecodeFault;
 pub use iter::TemplatesIter;
 pub use outcome::{FieldValue, Outcome, PlacedFields};
-pub use reading::{reading_words, session_words};
+pub use reading::{reading_laws, session_laws};
 pub use record::{Record, TakesRecords};

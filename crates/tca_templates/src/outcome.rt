@@ -1,7 +1,7 @@
 //! The records of a message as values of their own.
 ghost use Rattle.std.specs.Prelude.{◌≡◌, [], length, map, true, OnOk, OnErr, IfOk, IsOk, Err};
 ghost use Rattle.std.specs.List.{list_any};
-ghost use Rattle.tca_wire.specs.Results.{Gives};
+ghost use Rattle.tca_join.specs.Results.{Gives};
 ghost use Rattle.tca_templates.specs.Reading.{read_of};
 ghost use Rattle.tca_templates.specs.Fields.{templates_of, is_read};
 ghost use Rattle.tca_templates.specs.Outcomes.{outcome_view};

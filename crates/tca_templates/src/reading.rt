@@ -142,7 +142,7 @@ pub(crate) fn read_sets<T: TakesRecords>(
 /// The law of readings: what is read set by set from the left is what the message is in its session by RFC 7011, and
 /// where it is no message of that session, the one fault before which all is right. So it is where no template that is
 /// known gives its records no octet.
-pub fn reading_words()
+pub fn reading_laws()
     ensures found { (ts : Templates) (source : Source) (octets : List ℕ) (ss : List SetSpan) (given : ReadMessage) → HaveOctets ts
         → read_of ts source octets ss ≡ Ok given → IsReading ts source octets ss given }
     ensures only { (ts : Templates) (source : Source) (octets : List ℕ) (ss : List SetSpan) (given : ReadMessage) → IsReading ts source octets ss given
@@ -156,7 +156,7 @@ pub fn reading_words()
 /// The law of sessions: what a session knows is a finite map from observation domain and ID to a template, within its limits, and
 /// every message that is read leaves it one. A definition sets its key, which keeps its place where it is known and else goes last,
 /// and withdrawals remove theirs. Record `i` of a message, from 0, has the place of the message's sequence number and `i`.
-pub fn session_words()
+pub fn session_laws()
     ensures opens { IsSession [] }
     ensures stays { (ts : Templates) (source : Source) (octets : List ℕ) (ss : List SetSpan) (given : ReadMessage) → IsSession ts
         → IsReading ts source octets ss given → IsSession given.templates }

@@ -1,7 +1,7 @@
 //! The sets that change which templates are known.
 ghost use Rattle.std.specs.Prelude.{◌≡◌, ◌≢◌, ◌<◌, ◌≤◌, ◌+◌, ◌^◌, length, IfOk, IfErr, Err};
 ghost use Rattle.std.specs.Result.{IsOk};
-ghost use Rattle.tca_wire.specs.Results.{Gives};
+ghost use Rattle.tca_join.specs.Results.{Gives};
 ghost use Rattle.tca_wire.specs.Walks.{Next, Bad, walk};
 ghost use Rattle.tca_templates.specs.Specifiers.{changed, template_front};
 ghost use Rattle.tca_templates.specs.Wants.{IsWanted};

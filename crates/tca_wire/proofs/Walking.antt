@@ -3,7 +3,7 @@ use Rattle.std.proofs.Common.{◌≡◌, ℕ, zero, suc, ◌+◌, ◌<◌, List,
 use Rattle.std.specs.Prelude.{◌≢◌, IfOk, IfErr}
 use Rattle.std.proofs.lemmas.List.{length-drop}
 use Rattle.tca_wire.specs.Walks.{Front, Ends, Bad, Next, by_front, walk_for, walk, Advances}
-use Rattle.tca_wire.specs.Results.{Gives}
+use Rattle.tca_join.specs.Results.{Gives}
 
 module _ {S F : Type 0} (front : S → ℕ → List ℕ → Front S F) (advances : Advances front) where
   -- more pieces than there are octets change nothing

@@ -1,4 +1,3 @@
-pub mod Results
 pub mod Walks
 pub mod Messages
 pub mod Frames

@@ -25,4 +25,4 @@ mod split;
 pub use fault::WireFault;
 pub use framer::{Framed, Framer, Lent, Messages, framing_is_unique, pieces_join};
 pub use message::{Header, Message, SetSpan};
-pub use split::{message_words, split_message};
+pub use split::{message_laws, split_message};

@@ -1,6 +1,6 @@
 //! Reading one message.
 ghost use Rattle.std.specs.Prelude.{List, ℕ, Ok, Err, IfOk, IfErr, IsOk, IsErrOf, ◌≡◌, ◌≢◌, ◌<◌, ◌≤◌, ◌+◌, ◌^◌, length, take};
-ghost use Rattle.tca_wire.specs.Results.{Gives};
+ghost use Rattle.tca_join.specs.Results.{Gives};
 ghost use Rattle.tca_wire.specs.Walks.{walk};
 ghost use Rattle.tca_wire.specs.Messages.{length_at, judged, judged_length, judged_header, set_front, sets_of, message_of, HasSet, IsMessage};
 ghost use Rattle.tca_wire.specs.FirstFaults.{IsFirstFault};
@@ -168,7 +168,7 @@ pub fn split_message(alloc: Global, octets: &[u8]) -> Result<Message<'_>, WireFa
 
 /// The law of messages: what is found from the left is what the grammar of RFC 7011, section 3, has, and where it has none,
 /// the one fault before which all is right.
-pub fn message_words()
+pub fn message_laws()
     ensures found { (octets : List ℕ) (h : Header) (ss : List SetSpan) → message_of octets ≡ Ok (h, ss) → IsMessage octets h ss }
     ensures only { (octets : List ℕ) (h : Header) (ss : List SetSpan) → IsMessage octets h ss → message_of octets ≡ Ok (h, ss) }
     ensures fault { (octets : List ℕ) (f : WireFault) → message_of octets ≡ Err f → IsFirstFault octets f }

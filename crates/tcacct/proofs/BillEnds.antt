@@ -16,8 +16,8 @@ use Rattle.tca_program.proofs.Refusing.{refused_as}
 use Rattle.tcacct.specs.Billed.{IsBillCutOff, IsBillDone, IsPlainCutOff}
 use Rattle.tcacct.specs.declared.bill.Prepared.{Prepared}
 use Rattle.tcacct.specs.inside.Outputs.{IsPut, IsPutInPart, IsUnput}
-use Rattle.tcacct.specs.Billed.{statement_under}
-use Rattle.tca_program.specs.Planned.{IsPlanOf}
+use Rattle.tca_statements.specs.Statements.{statement_under}
+use Rattle.tca_accounts.specs.Documents.{IsPlanOf}
 
 -- what was prepared is the statement of its reports under the plan of a text
 abbrev pub IsStated : List ℕ → Prepared → Type 0

@@ -4,8 +4,7 @@ use Rattle.tca_report.specs.report.Reports.{PacketReport}
 use Rattle.tca_report.specs.export.Spelling.{export}
 use Rattle.tca_report.specs.declared.input.Notes.{Notes}
 use Rattle.tca_accounts.specs.Plans.{AccountPlan}
-use Rattle.tca_statements.specs.Statements.{statement_text}
-use Rattle.tca_accounts.specs.Bills.{bill_of}
+use Rattle.tca_statements.specs.Statements.{statement_under}
 use Rattle.tca_report.specs.input.Inputs.{InputView}
 use Rattle.tca_program.specs.declared.fault.RunFault.{RunFault}
 use Rattle.tca_program.specs.Devices.{Device}
@@ -13,11 +12,7 @@ use Rattle.tca_program.specs.Outcomes.{AreCutOff, IsCommandRefused, Outlets, Rec
 use Rattle.tca_program.specs.Unions.{IsUnion, united}
 use Rattle.tca_program.specs.Planned.{IsPlannedRefused}
 use Rattle.tca_program.specs.Noted.{AreNotes}
-use Rattle.tca_program.specs.Planned.{IsPlanOf}
-
--- the statement of a set of reports under a plan
-abbrev pub statement_under : AccountPlan → List PacketReport → List ℕ
-statement_under p rs = statement_text p (bill_of p rs)
+use Rattle.tca_accounts.specs.Documents.{IsPlanOf}
 
 -- The text is a plan, and each input a log export or a capture; where it was asked the export of the union of them all was written,
 -- and then the statement of that union under the plan; and these are the inputs' notes.

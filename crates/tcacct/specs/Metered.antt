@@ -1,6 +1,6 @@
 -- What the command `meter` prints, and what it is refused for.
 use Rattle.std.specs.Prelude.{◌≡◌, ℕ, false, List, Result, Ok, Err, IsOk, None}
-use Rattle.tca_wire.specs.Results.{◌>>=◌}
+use Rattle.tca_join.specs.Results.{◌>>=◌}
 use Rattle.tca_report.specs.report.Reports.{PacketReport}
 use Rattle.tca_meters.specs.declared.colour.Colour.TheVariants.{Green}
 use Rattle.tca_meters.specs.declared.spec.SpecFault.{SpecFault}

@@ -35,7 +35,7 @@ use Rattle.tca_program.specs.Devices.{Device}
 use Rattle.tca_program.specs.Outcomes.{IsCommandRefused, outlets}
 use Rattle.tca_program.specs.Noted.{AreNotes}
 use Rattle.tca_program.specs.Unions.{HoldReports, input_refusal, memory_refusal, refusal}
-use Rattle.tca_program.specs.Planned.{IsPlanOf}
+use Rattle.tca_accounts.specs.Documents.{IsPlanOf}
 
 -- how many replicas, workers of each and inputs there may be
 pub record IsWithinLimits (replicas workers inputs : ℕ) : Type 0 where

@@ -4,7 +4,7 @@ ghost use Rattle.tca_audit.specs.Audits.{IsAudited, IsAuditedUnder};
 ghost use Rattle.tcacct.specs.Audited.{IsAuditDone, IsAuditRefused, IsAuditUnmade, IsPlanUnread, IsUnmadeUnder, is_agreement};
 ghost use Rattle.tca_program.specs.Devices.{device};
 ghost use Rattle.tcacct.specs.Texts.{audit_text};
-ghost use Rattle.tca_audit.specs.Audits.{IsPlanText};
+ghost use Rattle.tca_accounts.specs.Documents.{IsPlanOf};
 
 use crate::texts::audit_line;
 use std::alloc::{AllocError, Global};
@@ -15,7 +15,7 @@ use tca_report::Write;
 
 // The plan of a text.
 fn plan_of(alloc: Global, text: &[u8]) -> Result<Plan, RunFault>
-    ensures named { IfOk result (IsPlanText text.now) }
+    ensures named { IfOk result (IsPlanOf text.now) }
     ensures refused { IfErr result (IsPlanUnread text.now) }
 {
     match Plan::from_text(alloc, text) {

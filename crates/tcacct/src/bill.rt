@@ -1,8 +1,7 @@
 //! The command `bill` by one thread, and how what a bill prepared goes out.
 ghost use Rattle.std.specs.Prelude.{◌≡◌, ◌<◌, ◌≤◌, ◌^◌, IfOk, IfErr, None, Some, false, length};
 ghost use Rattle.std.specs.List.Sorted.{IsStrictlySortedBy};
-ghost use Rattle.tca_report.specs.report.Reports.{report_cmp};
-ghost use Rattle.tca_report.specs.export.Spelling.{most_reports};
+ghost use Rattle.tca_report.specs.report.Reports.{most_reports, report_cmp};
 ghost use Rattle.tca_accounts.specs.Plans.{AccountPlan};
 ghost use Rattle.tca_program.specs.Planned.{IsPlannedRefused};
 ghost use Rattle.tcacct.specs.Billed.{IsBillDone, IsBillRefused};
@@ -11,8 +10,8 @@ ghost use Rattle.tca_program.specs.Devices.{after, before, device};
 ghost use Rattle.tca_program.specs.Noted.{IsUniting};
 ghost use Rattle.tca_program.specs.Outcomes.{outlets};
 ghost use Rattle.tca_program.specs.Unions.{is_write, views_of};
-ghost use Rattle.tcacct.specs.Billed.{statement_under};
-ghost use Rattle.tca_program.specs.Planned.{IsPlanOf};
+ghost use Rattle.tca_statements.specs.Statements.{statement_under};
+ghost use Rattle.tca_accounts.specs.Documents.{IsPlanOf};
 
 use std::alloc::{AllocError, Global};
 use tca_accounts::{Plan, bill_all};

@@ -1,8 +1,7 @@
 //! The command `combine`.
 ghost use Rattle.std.specs.Prelude.{◌≡◌, ◌<◌, ◌≤◌, ◌^◌, Ok, OnOk, IfOk, IfErr, length, string_bytes};
 ghost use Rattle.std.specs.List.Sorted.{IsStrictlySortedBy};
-ghost use Rattle.tca_report.specs.report.Reports.{report_cmp};
-ghost use Rattle.tca_report.specs.export.Spelling.{most_reports};
+ghost use Rattle.tca_report.specs.report.Reports.{report_cmp, most_reports};
 ghost use Rattle.tcacct.specs.Combined.{IsCombineDone, IsCombineRefused};
 ghost use Rattle.tca_program.specs.Devices.{device};
 ghost use Rattle.tcacct.specs.Texts.{combine_text};

@@ -1,8 +1,7 @@
 //! The command `meter`.
 ghost use Rattle.std.specs.Prelude.{◌≡◌, ◌<◌, ◌≤◌, ◌^◌, Ok, OnOk, IfOk, IfErr, length, string_bytes};
 ghost use Rattle.std.specs.List.Sorted.{IsStrictlySortedBy};
-ghost use Rattle.tca_report.specs.report.Reports.{report_cmp};
-ghost use Rattle.tca_report.specs.export.Spelling.{most_reports};
+ghost use Rattle.tca_report.specs.report.Reports.{report_cmp, most_reports};
 ghost use Rattle.tca_meters.specs.declared.colour.Colour.TheVariants.{Green};
 ghost use Rattle.tca_meters.specs.Packets.{colours};
 ghost use Rattle.tca_accounts.specs.Sums.{packet_of, sums_of};

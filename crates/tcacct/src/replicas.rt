@@ -3,7 +3,7 @@ ghost use Rattle.std.specs.List.{All, range_with_len};
 ghost use Rattle.std.specs.Prelude.{◌≡◌, ◌≤◌, ◌<◌, ◌+◌, IfOk, IfErr, OnOk, length, map};
 ghost use Rattle.tca_ingest.specs.Closed.{replicas_of};
 ghost use Rattle.tca_ingest.specs.Passes.{AreClosing};
-ghost use Rattle.tca_ingest.specs.Shares.{IsReplayed};
+ghost use Rattle.tca_ingest.specs.Shares.{IsReplayed, ledger_parts};
 ghost use Rattle.tcacct.specs.inside.Absorbs.{Absorbs, AreAgreed, AreJoined, HasAbsorbed, HasRightJournal, closed_with, names_of, with_lacking};
 ghost use Rattle.tcacct.specs.Replicated.{AreRead, AreReplicasRefused, IsReadingRefused, IsExchangeRefused, IsWithinLimits, share_of};
 ghost use Rattle.tca_program.specs.Unions.{views_of};
@@ -99,7 +99,7 @@ fn read_and_close<'a, L: Side + Send + Sync, R: Threads + Wait + Sync, G: Gate>(
     places: &mut Vec<Option<Answer<'a>>>,
 ) -> Result<Closed, RunFault>
     requires name { blank.name ≡ L.name }
-    requires parts { (blank.parts ≡ L.parts) × (L.parts ≡ 65537) }
+    requires parts { (blank.parts ≡ L.parts) × (L.parts ≡ ledger_parts) }
     requires called { name ≡ L.called }
     requires plan { plan ≡ L.plan }
     requires above { 1 ≤ name }
@@ -229,7 +229,7 @@ pub(crate) fn run_replicas<'a, L: Side + Send + Sync, R: Threads + Wait + Sync, 
     mine: Plan,
 ) -> Result<(Vec<Closed>, Readings), RunFault>
     requires name { blank.name ≡ L.name }
-    requires parts { (blank.parts ≡ L.parts) × (L.parts ≡ 65537) }
+    requires parts { (blank.parts ≡ L.parts) × (L.parts ≡ ledger_parts) }
     requires called { 1 ≡ L.called }
     requires plan { mine ≡ L.plan }
     requires same { plan.now ≡ mine }

@@ -3,16 +3,15 @@ ghost use Rattle.std.specs.Prelude.{◌≡◌, ◌≢◌, ◌≤◌, ◌↔◌, 
 ghost use Rattle.std.specs.List.{flat_map};
 ghost use Rattle.std.specs.List.Sorted.{IsStrictlySortedBy};
 ghost use Rattle.tca_accounts.specs.Plans.{AccountPlan};
-ghost use Rattle.tca_report.specs.report.Reports.{report_cmp};
-ghost use Rattle.tca_report.specs.export.Spelling.{most_reports};
+ghost use Rattle.tca_report.specs.report.Reports.{report_cmp, most_reports};
 ghost use Rattle.tcacct.specs.Billed.{IsBillDone};
 ghost use Rattle.tca_program.specs.Devices.{after, before, device};
 ghost use Rattle.tca_program.specs.Noted.{AreNotes};
 ghost use Rattle.tcacct.specs.Replicated.{IsReplicatedRefused, IsReplicatedUnmade, IsExchangeRefused, IsWithinLimits};
 ghost use Rattle.tca_program.specs.Unions.{IsUnion, memory_refusal, refusal, views_of, union_of};
 ghost use Rattle.tca_program.specs.declared.fault.Family.TheVariants as family;
-ghost use Rattle.tcacct.specs.Billed.{statement_under};
-ghost use Rattle.tca_program.specs.Planned.{IsPlanOf};
+ghost use Rattle.tca_statements.specs.Statements.{statement_under};
+ghost use Rattle.tca_accounts.specs.Documents.{IsPlanOf};
 
 use crate::answers::{chain_all, union_of};
 use crate::bill::{Prepared, put_alone, put_exported};

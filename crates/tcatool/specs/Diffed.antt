@@ -2,7 +2,7 @@
 use Rattle.std.specs.Prelude.{◌≡◌, ◌⊎◌, ◌==◌, ◌++◌, ℕ, true, false, ◌&&◌, not, List, [], ◌∷◌, length, filter, map, codes, Option, Some, None, Result, Ok, IsOk, if◌then◌else◌}
 use Rattle.std.specs.Fmt.{decimal}
 use Rattle.tca_join.specs.Sets.{has, in_order}
-use Rattle.tca_wire.specs.Results.{◌>>=◌}
+use Rattle.tca_join.specs.Results.{◌>>=◌}
 use Rattle.tca_report.specs.report.Reports.{PacketReport, report_cmp}
 use Rattle.tca_report.specs.input.Inputs.{InputView, read_input}
 use Rattle.tca_program.specs.declared.fault.RunFault.{RunFault}

@@ -19,7 +19,7 @@ use Rattle.tcatool.specs.Csv.{csv_line, csv_text}
 use Rattle.tcatool.specs.ReportLines.{report_fields}
 use Rattle.tcatool.specs.declared.item.Item.{Item}
 use Rattle.tcatool.specs.declared.item.Share.{Share}
-use Rattle.tca_program.specs.Planned.{IsPlanOf}
+use Rattle.tca_accounts.specs.Documents.{IsPlanOf}
 
 -- whether a report of a set is one that no other disputes
 abbrev pub is_settled : List PacketReport → PacketReport → Bool

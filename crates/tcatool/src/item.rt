@@ -1,8 +1,7 @@
 //! The items of a set of reports: a report each, whether it is settled, and which account counts it.
 ghost use Rattle.std.specs.Prelude.{◌≡◌, ◌≤◌, [], ◌∷◌, IfOk, length, map};
 ghost use Rattle.std.specs.List.Sorted.{IsStrictlySortedBy};
-ghost use Rattle.tca_report.specs.report.Reports.{report_cmp};
-ghost use Rattle.tca_report.specs.export.Spelling.{most_reports};
+ghost use Rattle.tca_report.specs.report.Reports.{report_cmp, most_reports};
 ghost use Rattle.tcatool.specs.Listed.{colour_name, item_alone, share_fields, state_name};
 ghost use Rattle.tcatool.specs.inside.Settling.{is_next};
 

@@ -2,8 +2,7 @@
 ghost use Rattle.std.specs.Prelude.{◌≡◌, ◌≤◌, ℕ, Some, IfOk, None, length, map, slice_get};
 ghost use Rattle.std.specs.List.{AllByRecursion};
 ghost use Rattle.std.specs.List.Sorted.{IsStrictlySortedBy};
-ghost use Rattle.tca_report.specs.report.Reports.{report_cmp};
-ghost use Rattle.tca_report.specs.export.Spelling.{most_reports};
+ghost use Rattle.tca_report.specs.report.Reports.{report_cmp, most_reports};
 ghost use Rattle.tca_meters.specs.Termed.{termed_rule};
 ghost use Rattle.tca_accounts.specs.Bills.{coloured_in};
 ghost use Rattle.tca_accounts.specs.Metering.{HasRoom, metered_none, owned};

@@ -7,7 +7,7 @@ use Rattle.std.specs.Borrow.{Bor}
 use Rattle.toml.specs.Data.{Data, Items}
 use Rattle.toml.specs.View.{items_view, view}
 use Rattle.toml.specs.declared.value.Value.{Value}
-use Rattle.tca_wire.specs.Results.{◌>>=◌}
+use Rattle.tca_join.specs.Results.{◌>>=◌}
 use Rattle.tca_meters.specs.declared.any_meter.AnyMeter.{AnyMeter}
 use Rattle.tca_accounts.specs.Plans.{AccountPlan, PlannedAccount, all_differ, all_pairs, are_distinct, most_pairs, owns, same_pair}
 use Rattle.tca_accounts.specs.Documents.{account_in, accounts_from, only_if, pairs_of, plan_with}

@@ -325,7 +325,7 @@ fn some_packet(seed: u64, slow: &Slow) -> (u64, u32, Colour) {
 }
 
 /// RFC 2697 has no second rate.
-fn single_rate(slow: &Slow) -> Result<AnyMeter, MeterFault> {
+fn srtcm_of(slow: &Slow) -> Result<AnyMeter, MeterFault> {
     let meter = SrTcm::new(slow.cir, slow.cbs, slow.second_size, slow.aware)?;
     Ok(meter.into())
 }
@@ -345,7 +345,7 @@ fn two_fits(slow: &Slow, exact_fit: bool) -> Result<AnyMeter, MeterFault> {
 /// The meter that has the parameters of a slow one.
 fn meter_of(slow: &Slow) -> Result<AnyMeter, MeterFault> {
     match slow.kind {
-        Kind::Rfc2697 => single_rate(slow),
+        Kind::Rfc2697 => srtcm_of(slow),
         Kind::Rfc2698 => two_rates(slow),
         Kind::Rfc4115 { exact_fit } => two_fits(slow, exact_fit),
     }

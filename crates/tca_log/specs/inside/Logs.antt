@@ -4,7 +4,7 @@ use Rattle.std.specs.List.{AllByRecursion}
 use Rattle.std.specs.List.Sorted.{IsStrictlySortedBy}
 use Rattle.std.specs.declared.cmp.Ordering.{Ordering}
 use Rattle.tca_join.specs.Sets.{has, put}
-use Rattle.tca_report.specs.report.Reports.{PacketReport, report_cmp}
+use Rattle.tca_report.specs.report.Reports.{PacketReport, report_cmp, most_reports}
 use Rattle.tca_report.specs.report.Identities.{identity_of, identity_cmp}
 use Rattle.tca_report.specs.declared.report.Identity.{Identity}
 use Rattle.tca_log.specs.declared.answer.Added.{Added}
@@ -12,7 +12,6 @@ use Rattle.tca_log.specs.declared.answer.Added.TheVariants.{Fresh, NewDispute, M
 use Rattle.tca_log.specs.declared.by_identity.ByIdentity.{ByIdentity}
 use Rattle.tca_log.specs.Rows.Ordered.{tied, Ordered}
 use Rattle.tca_log.specs.Disputes.{by_identity_cmp, contents, disputed}
-use Rattle.tca_report.specs.export.Spelling.{most_reports}
 
 -- domain and session of an identity as one number
 abbrev pub origin_of : Identity → ℕ

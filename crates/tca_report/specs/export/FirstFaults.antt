@@ -3,8 +3,8 @@ use Rattle.std.specs.Prelude.{◌≡◌, ◌≢◌, ℕ, ◌<◌, ◌≤◌, ◌
 use Rattle.std.specs.List.{flat_map, AllByRecursion}
 use Rattle.std.specs.List.Sorted.{IsStrictlySortedBy}
 use Rattle.std.specs.Int.{w16, to_be_bytes}
-use Rattle.tca_report.specs.report.Reports.{PacketReport, InRange, report_cmp}
-use Rattle.tca_report.specs.export.Spelling.{record_octets, records_size, session_end, magic, header_octets, most_reports, HaveSessions}
+use Rattle.tca_report.specs.report.Reports.{PacketReport, InRange, report_cmp, most_reports}
+use Rattle.tca_report.specs.export.Spelling.{record_octets, records_size, session_end, magic, header_octets, HaveSessions}
 use Rattle.tca_report.specs.declared.export.Format.{Format}
 use Rattle.tca_report.specs.declared.export.ExportFault.{ExportFault}
 use Rattle.tca_report.specs.declared.export.ExportFault.TheVariants.{Magic, Version, Count, Cut, Range, Order}

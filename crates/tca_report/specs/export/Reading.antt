@@ -2,8 +2,8 @@
 use Rattle.std.specs.Prelude.{ℕ, zero, suc, ◌+◌, List, [], ◌∷◌, length, take, drop, slice_index, Option, Some, None, Result, Ok, Err, Bool, true, not, ◌&&◌, nat_lt, ◌==◌, if◌then◌else◌}
 use Rattle.std.specs.Int.{w16, w32, w64, from_be_bytes}
 use Rattle.std.specs.Ordering.{is_lt}
-use Rattle.tca_report.specs.report.Reports.{PacketReport, report_cmp, in_range}
-use Rattle.tca_report.specs.export.Spelling.{most_reports, records_size}
+use Rattle.tca_report.specs.report.Reports.{PacketReport, report_cmp, in_range, most_reports}
+use Rattle.tca_report.specs.export.Spelling.{records_size}
 use Rattle.tca_report.specs.declared.export.Format.{Format}
 use Rattle.tca_report.specs.declared.export.Format.TheVariants.{Version1, Version2}
 use Rattle.tca_report.specs.declared.export.ExportFault.{ExportFault}

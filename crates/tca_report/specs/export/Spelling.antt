@@ -3,13 +3,9 @@ use Rattle.std.specs.Prelude.{◌≡◌, ℕ, ◌+◌, ◌*◌, ◌^◌, ◌<◌
 use Rattle.std.specs.List.{flat_map, AllByRecursion}
 use Rattle.std.specs.List.Sorted.{IsStrictlySortedBy}
 use Rattle.std.specs.Int.{w16, w32, w64, to_be_bytes}
-use Rattle.tca_report.specs.report.Reports.{PacketReport, InRange, report_cmp}
+use Rattle.tca_report.specs.report.Reports.{PacketReport, InRange, most_reports, report_cmp}
 use Rattle.tca_report.specs.declared.export.Format.{Format}
 use Rattle.tca_report.specs.declared.export.Format.TheVariants.{Version1, Version2}
-
--- how many reports one export may have
-abbrev pub most_reports : ℕ
-most_reports = 4194304
 
 -- the number of a version
 abbrev pub version_of : Format → ℕ

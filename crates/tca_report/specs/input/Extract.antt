@@ -1,7 +1,7 @@
 -- Which fields of a data record make a report.
 use Rattle.std.specs.Prelude.{ℕ, ◌+◌, ◌-◌, ◌*◌, ◌/◌, ◌%◌, ◌==◌, nat_lt, nat_le, Bool, not, ◌&&◌, if◌then◌else◌, List, [], ◌∷◌, length, drop, slice_index, Option, Some, None, ok_or, option_and_then, option_map, unwrap_or, Result, Ok, Err}
 use Rattle.std.specs.Option.{option_or}
-use Rattle.tca_wire.specs.Results.{◌>>=◌}
+use Rattle.tca_join.specs.Results.{◌>>=◌}
 use Rattle.byteorder.specs.Endian.{big_number}
 use Rattle.tca_report.specs.report.Reports.{PacketReport, reported, time_end, most_octets, most_dscp}
 use Rattle.tca_templates.specs.Records.{FieldView, PlacedView}

@@ -2,7 +2,7 @@
 -- RFC 5655).
 use Rattle.std.specs.Prelude.{ℕ, ◌+◌, ◌==◌, Bool, ◌&&◌, if◌then◌else◌, nat_le, List, [], ◌∷◌, ◌++◌, length, take, map, Option, Some, None, Result, Ok, Err}
 use Rattle.std.specs.List.{concat}
-use Rattle.tca_wire.specs.Results.{◌>>=◌}
+use Rattle.tca_join.specs.Results.{◌>>=◌}
 use Rattle.tca_wire.specs.Messages.{message_of}
 use Rattle.tca_wire.specs.Frames.{Framing, Holds, Failed, frames_of}
 use Rattle.tca_wire.specs.declared.message.Header.{Header}

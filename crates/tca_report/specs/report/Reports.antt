@@ -27,6 +27,10 @@ most_octets = 65575
 abbrev pub most_dscp : ℕ
 most_dscp = 63
 
+-- the most reports of a log, and so of an export
+abbrev pub most_reports : ℕ
+most_reports = 4194304
+
 -- times are below 2^48 ms; a packet has 1 to 65,575 octets and a code point of six bits
 pub record InRange (r : PacketReport) : Type 0 where
   pub time : r.time < time_end

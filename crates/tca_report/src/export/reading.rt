@@ -1,16 +1,16 @@
 //! Reading a log export.
 ghost use Rattle.std.specs.Prelude.{◌≡◌, ◌≢◌, ◌<◌, ◌≤◌, ◌+◌, List, [], Ok, Err, None, Option, OnOk, IfOk, IfErr, IsErrOf, IsOkAnd, MatchResult, length, take, drop, vec_len, vec_capacity};
 ghost use Rattle.std.specs.Int.{w32, w64, from_be_bytes};
-ghost use Rattle.tca_wire.specs.Results.{Gives};
-ghost use Rattle.tca_report.specs.report.Reports.{PacketReport, reported, ranged};
-ghost use Rattle.tca_report.specs.export.Spelling.{IsExport, most_reports, session_size, record_size, records_size};
+ghost use Rattle.tca_join.specs.Results.{Gives};
+ghost use Rattle.tca_report.specs.report.Reports.{PacketReport, reported, ranged, most_reports};
+ghost use Rattle.tca_report.specs.export.Spelling.{IsExport, session_size, record_size, records_size};
 ghost use Rattle.tca_report.specs.export.FirstFaults.{IsFaultyExport};
 ghost use Rattle.tca_report.specs.export.Reading.{above, format_of, header_of, reading, session_at, record_at, records_at};
 ghost use Rattle.tca_report.specs.declared.export.ExportFault.{ExportFault};
 ghost use Rattle.tca_report.specs.declared.export.ExportFault.TheVariants.{Memory};
 
-use crate::export::{ExportFault, Format, MOST_REPORTS};
-use crate::report::{Content, Identity, Report};
+use crate::export::{ExportFault, Format};
+use crate::report::{Content, Identity, MOST_REPORTS, Report};
 use std::alloc::Global;
 
 // The number of the first four octets, and the octets after them.

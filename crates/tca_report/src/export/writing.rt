@@ -4,8 +4,8 @@ ghost use Rattle.std.specs.Io.KnownBytes.{Appends};
 ghost use Rattle.std.specs.List.Sorted.{IsStrictlySortedBy};
 ghost use Rattle.arrayvec.specs.ArrayVec.{array_vec_len};
 ghost use Rattle.tca_report.specs.device.Devices.{CountsFailure};
-ghost use Rattle.tca_report.specs.export.Spelling.{export, header_octets, most_reports, record_octets};
-ghost use Rattle.tca_report.specs.report.Reports.{report_cmp};
+ghost use Rattle.tca_report.specs.export.Spelling.{export, header_octets, record_octets};
+ghost use Rattle.tca_report.specs.report.Reports.{report_cmp, most_reports};
 ghost use Rattle.tca_report.specs.declared.export.Format.TheVariants.{Version2};
 
 use crate::device::{Write, WriteFault, put_all};
@@ -22,7 +22,7 @@ type Buffer = ArrayVec<u8, BUFFER>;
 
 // Appends to a buffer with room.
 fn append(octets: &[u8], buffer: &mut Buffer)
-    requires { array_vec_len buffer.old + length octets.now ≤ 118794 }
+    requires { array_vec_len buffer.old + length octets.now ≤ BUFFER }
     ensures { buffer.new.items ≡ buffer.old.items ++ octets.now }
 {
     buffer.try_extend_from_slice(octets).unwrap();
@@ -38,9 +38,9 @@ fn with_header(count: u32) -> Buffer
     buffer
 }
 
-// Appends the 29 octets of a report.
+// Appends the octets of a report.
 fn append_record(report: &Report, buffer: &mut Buffer)
-    requires { array_vec_len buffer.old + 29 ≤ 118794 }
+    requires { array_vec_len buffer.old + RECORD_SIZE ≤ BUFFER }
     ensures { buffer.new.items ≡ buffer.old.items ++ record_octets Version2 report.now }
 {
     let identity = report.identity();
@@ -76,7 +76,7 @@ fn put_after<W: Write>(written: u64, octets: &[u8], out: &mut W) -> Result<u64, 
 // Where the buffer has no room for one more record, writes what it has and empties it.
 fn make_room<W: Write>(written: u64, buffer: &mut Buffer, out: &mut W) -> Result<u64, WriteFault>
     requires { written + array_vec_len buffer.old < 2 ^ 64 }
-    ensures room { OnOk result (array_vec_len buffer.new + 29 ≤ 118794) }
+    ensures room { OnOk result (array_vec_len buffer.new + RECORD_SIZE ≤ BUFFER) }
     ensures more { IfOk result (λ n. written ≤ n) }
     ensures total { IfOk result (λ n. n ≤ written + length buffer.old.items) }
     ensures sent { IfOk result (λ n. Appends (W.written out.old) (W.written out.new)

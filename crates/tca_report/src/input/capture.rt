@@ -1,7 +1,7 @@
 //! Captures: messages one after the other, as a file of RFC 5655 has them.
 ghost use Rattle.std.specs.Prelude.{◌≡◌, ◌≢◌, ◌<◌, ◌≤◌, ◌+◌, ◌^◌, ◌++◌, ◌∷◌, [], List, ℕ, length, IfOk, IfErr, IsErrOf, Err, take};
 ghost use Rattle.std.specs.List.{AllByRecursion, concat};
-ghost use Rattle.tca_wire.specs.Results.{Gives};
+ghost use Rattle.tca_join.specs.Results.{Gives};
 ghost use Rattle.tca_wire.specs.Messages.{length_at};
 ghost use Rattle.tca_wire.specs.Frames.{IsFrame, Framing, Holds};
 ghost use Rattle.tca_report.specs.input.Inputs.{CaptureSoFar, capture_with, capture_after, counts_of, capture_of};

@@ -6,13 +6,14 @@ ghost use Rattle.tca_templates.specs.Outcomes.{placed_view};
 ghost use Rattle.tca_report.specs.input.Extract.{unsigned, date_time_milliseconds, date_time_microseconds, date_time_nanoseconds, date_time_seconds, since_1970, time_value, size_value, code_point_value, time_in, header_in, section_in, octets_in, code_point_in, interface_in, judged, extract_of};
 ghost use Rattle.tca_report.specs.Faults.{reason_number};
 
-use crate::input::fields::{
-    DataRecord, IP_CLASS_OF_SERVICE, OBSERVATION_TIME_MICROSECONDS, OBSERVATION_TIME_MILLISECONDS,
-    OBSERVATION_TIME_NANOSECONDS, TOTAL_LENGTH_IPV4,
-};
+use crate::input::fields::DataRecord;
 use crate::report::{Content, Identity, MOST_DSCP, MOST_OCTETS, Report, TIME_END};
 use byteorder::{BigEndian, ByteOrder};
 use tca_templates::PlacedFields;
+use tca_templates::elements::{
+    IP_CLASS_OF_SERVICE, OBSERVATION_TIME_MICROSECONDS, OBSERVATION_TIME_MILLISECONDS,
+    OBSERVATION_TIME_NANOSECONDS, TOTAL_LENGTH_IPV4,
+};
 use thiserror::Error;
 
 /// Why a data record is no report.
@@ -73,7 +74,7 @@ fn read_number(value: &[u8]) -> u64
 }
 
 // A number of one octet to so many.
-fn pick_unsigned(most: usize, value: &[u8]) -> Result<u64, NotReport>
+fn read_unsigned(most: usize, value: &[u8]) -> Result<u64, NotReport>
     requires { most ≤ 8 }
     ensures value { result ≡ unsigned most value.now }
     ensures small { most ≤ 4 → IfOk result (λ n. n < 2 ^ 32) }
@@ -96,7 +97,7 @@ fn after_1970(seconds: u32, fraction: u32) -> Option<u64>
 }
 
 // The milliseconds of a dateTimeMilliseconds (RFC 7011, section 6.1.8).
-fn pick_milliseconds(value: &[u8]) -> Result<Option<u64>, NotReport>
+fn read_milliseconds(value: &[u8]) -> Result<Option<u64>, NotReport>
     ensures { result ≡ date_time_milliseconds value.now }
 {
     if value.len() != 8 {
@@ -106,7 +107,7 @@ fn pick_milliseconds(value: &[u8]) -> Result<Option<u64>, NotReport>
 }
 
 // The milliseconds of a dateTimeMicroseconds (section 6.1.9), None before 1970.
-fn pick_microseconds(value: &[u8]) -> Result<Option<u64>, NotReport>
+fn read_microseconds(value: &[u8]) -> Result<Option<u64>, NotReport>
     ensures { result ≡ date_time_microseconds value.now }
 {
     if value.len() != 8 {
@@ -117,7 +118,7 @@ fn pick_microseconds(value: &[u8]) -> Result<Option<u64>, NotReport>
 }
 
 // The milliseconds of a dateTimeNanoseconds (section 6.1.10), None before 1970.
-fn pick_nanoseconds(value: &[u8]) -> Result<Option<u64>, NotReport>
+fn read_nanoseconds(value: &[u8]) -> Result<Option<u64>, NotReport>
     ensures { result ≡ date_time_nanoseconds value.now }
 {
     if value.len() != 8 {
@@ -128,7 +129,7 @@ fn pick_nanoseconds(value: &[u8]) -> Result<Option<u64>, NotReport>
 }
 
 // The milliseconds of a dateTimeSeconds (section 6.1.7).
-fn pick_seconds(value: &[u8]) -> Result<Option<u64>, NotReport>
+fn read_seconds(value: &[u8]) -> Result<Option<u64>, NotReport>
     ensures { result ≡ date_time_seconds value.now }
 {
     if value.len() != 4 {
@@ -142,10 +143,10 @@ fn read_time(element: u16, value: &[u8]) -> Result<Option<u64>, NotReport>
     ensures { result ≡ time_value element value.now }
 {
     match element {
-        OBSERVATION_TIME_MILLISECONDS => pick_milliseconds(value),
-        OBSERVATION_TIME_MICROSECONDS => pick_microseconds(value),
-        OBSERVATION_TIME_NANOSECONDS => pick_nanoseconds(value),
-        _ => pick_seconds(value),
+        OBSERVATION_TIME_MILLISECONDS => read_milliseconds(value),
+        OBSERVATION_TIME_MICROSECONDS => read_microseconds(value),
+        OBSERVATION_TIME_NANOSECONDS => read_nanoseconds(value),
+        _ => read_seconds(value),
     }
 }
 
@@ -192,9 +193,9 @@ fn read_size(element: u16, value: &[u8]) -> Result<u64, NotReport>
     ensures { result ≡ size_value element value.now }
 {
     if element == TOTAL_LENGTH_IPV4 {
-        return pick_unsigned(2, value);
+        return read_unsigned(2, value);
     }
-    pick_unsigned(8, value)
+    read_unsigned(8, value)
 }
 
 // The octets of the packet: of an element, or else of the section.
@@ -218,9 +219,9 @@ fn read_code_point(element: u16, value: &[u8]) -> Result<u64, NotReport>
     ensures { result ≡ code_point_value element value.now }
 {
     if element == IP_CLASS_OF_SERVICE {
-        return Ok(pick_unsigned(1, value)? / 4);
+        return Ok(read_unsigned(1, value)? / 4);
     }
-    pick_unsigned(1, value)
+    read_unsigned(1, value)
 }
 
 // The code point: of an element, or else of the section, or else 0.
@@ -243,7 +244,7 @@ fn pick_interface<R: DataRecord>(placed: &R) -> Result<u64, NotReport>
 {
     match placed.interface() {
         None => Ok(0),
-        Some((_, value)) => pick_unsigned(4, value),
+        Some((_, value)) => read_unsigned(4, value),
     }
 }
 

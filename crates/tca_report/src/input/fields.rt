@@ -1,4 +1,4 @@
-//! The fields of a data record, and the elements of IANA's registry that are looked for among them.
+//! The fields of a data record that tell about a packet.
 ghost use Rattle.std.specs.Prelude.{◌≡◌, ◌==◌, ◌&&◌, map};
 ghost use Rattle.std.specs.Option.{option_map, is_none};
 ghost use Rattle.tca_templates.specs.Outcomes.{value_view, placed_view};
@@ -7,54 +7,8 @@ ghost use Rattle.tca_report.specs.input.Extract.{identity_in};
 ghost use Rattle.tca_templates.specs.Chosen.{times, sizes, code_points, interfaces, sections, first, choice};
 
 use crate::report::Identity;
+use tca_templates::elements::{CODE_POINTS, INTERFACES, SECTIONS, SIZES, TIMES};
 use tca_templates::{FieldValue, PlacedFields, Record};
-
-// octetDeltaCount: octets since the last report, which are those of the packet where a record reports one packet.
-pub(crate) const OCTET_DELTA_COUNT: u16 = 1;
-
-// ipClassOfService: the type of service or the traffic class.
-pub(crate) const IP_CLASS_OF_SERVICE: u16 = 5;
-
-// ingressInterface.
-pub(crate) const INGRESS_INTERFACE: u16 = 10;
-
-// totalLengthIPv4.
-pub(crate) const TOTAL_LENGTH_IPV4: u16 = 190;
-
-// ipDiffServCodePoint.
-pub(crate) const IP_DIFF_SERV_CODE_POINT: u16 = 195;
-
-// ipTotalLength.
-pub(crate) const IP_TOTAL_LENGTH: u16 = 224;
-
-// ipHeaderPacketSection: the first octets of the packet, from its IP header on (RFC 5477).
-pub(crate) const IP_HEADER_PACKET_SECTION: u16 = 313;
-
-// observationTimeSeconds (RFC 5477).
-pub(crate) const OBSERVATION_TIME_SECONDS: u16 = 322;
-
-// observationTimeMilliseconds (RFC 5477).
-pub(crate) const OBSERVATION_TIME_MILLISECONDS: u16 = 323;
-
-// observationTimeMicroseconds (RFC 5477).
-pub(crate) const OBSERVATION_TIME_MICROSECONDS: u16 = 324;
-
-// observationTimeNanoseconds (RFC 5477).
-pub(crate) const OBSERVATION_TIME_NANOSECONDS: u16 = 325;
-
-// The elements that tell the time, the first choice first.
-const TIMES: [u16; 4] = [
-    OBSERVATION_TIME_MILLISECONDS,
-    OBSERVATION_TIME_MICROSECONDS,
-    OBSERVATION_TIME_NANOSECONDS,
-    OBSERVATION_TIME_SECONDS,
-];
-
-// Those that tell the octets of the packet.
-const SIZES: [u16; 3] = [IP_TOTAL_LENGTH, TOTAL_LENGTH_IPV4, OCTET_DELTA_COUNT];
-
-// Those that tell the code point.
-const CODE_POINTS: [u16; 2] = [IP_DIFF_SERV_CODE_POINT, IP_CLASS_OF_SERVICE];
 
 // A data record, in the octets of its message or with values of its own: of each kind of thing that is told the
 // element that is chosen and the octets of its first field.
@@ -155,11 +109,11 @@ impl DataRecord for PlacedFields {
     }
 
     fn interface(&self) -> Option<(u16, &[u8])> {
-        choose(&self.fields, &[INGRESS_INTERFACE])
+        choose(&self.fields, &INTERFACES)
     }
 
     fn section(&self) -> Option<(u16, &[u8])> {
-        choose(&self.fields, &[IP_HEADER_PACKET_SECTION])
+        choose(&self.fields, &SECTIONS)
     }
 }
 

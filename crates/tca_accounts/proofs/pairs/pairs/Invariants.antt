@@ -1,6 +1,6 @@
 use Rattle.std.proofs.Common.{◌≡◌, ◌++◌, Ok, drop}
 use Rattle.toml.specs.View.{items_view}
-use Rattle.tca_wire.specs.Results.{◌>>=◌}
+use Rattle.tca_join.specs.Results.{◌>>=◌}
 use Rattle.tca_accounts.specs.Documents.{pairs_of}
 use Rattle.tca_accounts.proofs.pairs.pairs.Given as goal
 

@@ -2,7 +2,7 @@ use Rattle.std.proofs.lemmas.Grind.{common_steps}
 use Rattle.std.proofs.Common.{◌≡◌, ◌∙◌, ◌++◌, Ok, arith, rules, ap, sym, length, List, drop, ◌+◌}
 use Rattle.std.proofs.lemmas.List.{length_push}
 use Rattle.toml.specs.View.{items_view, view}
-use Rattle.tca_wire.specs.Results.{◌>>=◌}
+use Rattle.tca_join.specs.Results.{◌>>=◌}
 use Rattle.tca_accounts.specs.Plans.{PlannedAccount}
 use Rattle.tca_accounts.specs.Documents.{account_in, accounts_from}
 use Rattle.tca_accounts.proofs.AccountsOfValues.{list_step}

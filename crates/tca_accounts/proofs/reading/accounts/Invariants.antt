@@ -1,6 +1,6 @@
 use Rattle.std.proofs.Common.{◌≡◌, ◌++◌, Ok, drop, length}
 use Rattle.toml.specs.View.{items_view}
-use Rattle.tca_wire.specs.Results.{◌>>=◌}
+use Rattle.tca_join.specs.Results.{◌>>=◌}
 use Rattle.tca_accounts.specs.Documents.{accounts_from}
 use Rattle.tca_accounts.proofs.reading.accounts.Given as goal
 

@@ -1,7 +1,7 @@
 use Rattle.std.proofs.Common.{◌≡◌, ◌<◌, ◌++◌, Ok, drop, take}
 use Rattle.toml.specs.View.{items_view}
 use Rattle.tca_report.specs.report.Reports.{time_end}
-use Rattle.tca_wire.specs.Results.{◌>>=◌}
+use Rattle.tca_join.specs.Results.{◌>>=◌}
 use Rattle.tca_accounts.specs.Documents.{terms_from}
 use Rattle.tca_accounts.proofs.terms.read_terms.Given as goal
 

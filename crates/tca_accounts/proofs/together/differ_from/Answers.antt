@@ -2,7 +2,7 @@ use Rattle.std.proofs.Common.{◌∙◌, ◌&&◌, arith, ap, sym, drop, ◌+◌
 use Rattle.std.specs.List.{list_any}
 use Rattle.std.proofs.lemmas.Result.{err_from_is_err_and}
 use Rattle.toml.specs.View.{items_view, view}
-use Rattle.tca_wire.specs.Results.{◌>>=◌}
+use Rattle.tca_join.specs.Results.{◌>>=◌}
 use Rattle.tca_accounts.specs.Plans.{same_pair}
 use Rattle.tca_accounts.specs.Documents.{pair_in, pairs_of}
 use Rattle.tca_accounts.specs.inside.Readings.{differ_before, of_accounts, of_pairs}

@@ -1,6 +1,6 @@
 use Rattle.std.proofs.Common.{◌≡◌, ◌&&◌, drop}
 use Rattle.toml.specs.View.{items_view}
-use Rattle.tca_wire.specs.Results.{◌>>=◌}
+use Rattle.tca_join.specs.Results.{◌>>=◌}
 use Rattle.tca_accounts.specs.Documents.{pairs_of}
 use Rattle.tca_accounts.specs.inside.Readings.{differ_before, differ_from, of_accounts}
 use Rattle.tca_accounts.proofs.together.differ_from.Given as goal

@@ -8,8 +8,8 @@ use Rattle.tca_report.specs.declared.export.ExportFault.TheVariants as export
 use Rattle.tca_report.proofs.lemmas.export.FirstFaults.{never_memory, same_export}
 use Rattle.tca_accounts.specs.Plans.{PlannedAccount}
 use Rattle.tca_accounts.specs.Bills.{bill_of, coloured_in, reports_of, tally_of}
-use Rattle.tca_statements.specs.Statements.{statement_text}
-use Rattle.tca_audit.specs.Audits.{IsVerdict, text_under}
+use Rattle.tca_statements.specs.Statements.{statement_text, statement_under}
+use Rattle.tca_audit.specs.Audits.{IsVerdict}
 use Rattle.tca_audit.specs.declared.verdict.Verdict.{Verdict}
 use Rattle.tca_audit.specs.declared.verdict.Verdict.TheVariants as verdict
 use Rattle.tca_accounts.specs.declared.bill.Bill.{Bill}
@@ -55,6 +55,6 @@ pub returns-clause-agrees : goal.returns-clause-agrees
 returns-clause-agrees c = λ reports spelled same.
     let plan = c.args.plan.now in
     let read : c.deref.result.now ≡ reports = c.deref.ensures.value ∙ c.in-Ok.ensures.only reports spelled in
-    let due : c.deref-2.result.now ≡ text_under plan reports =
+    let due : c.deref-2.result.now ≡ statement_under plan reports =
     c.deref-2.ensures.value ∙ c.in_ok-text.ensures ∙ ap (statement_text plan) (c.in_ok-bill.ensures ∙ ap (bill_of plan) read) in
     agrees_with c.deref-2.result.now c.args.statement.now c.compared.result c.compared.ensures (same ∙ sym due)

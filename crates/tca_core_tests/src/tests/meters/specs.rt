@@ -37,7 +37,7 @@ fn texts_name_meters_of_one_rate(rt: HostRuntime) {
     let aware = SrTcm::new(0, 0, 1, true);
     assert!(rt; names("rfc2697:1000:2000:3000:blind", blind));
     assert!(rt; names("rfc2697:0:0:0000000000001:aware", aware));
-    spec_words();
+    spec_laws();
 }
 
 #[test]

@@ -21,10 +21,10 @@ pub(super) struct Counting {
 impl Meter for Counting {
     type State = Levels;
 
-    ghost use Rattle.tca_meters.specs.SrTcm.{single_rate_rule, IsWithinSizes};
+    ghost use Rattle.tca_meters.specs.SrTcm.{srtcm_rule, IsWithinSizes};
     ghost use Rattle.tca_meters.specs.laws.SrTcmLaws as laws;
 
-    ghost rule = { λ m. single_rate_rule m.meter };
+    ghost rule = { λ m. srtcm_rule m.meter };
 
     ghost within = { λ m. IsWithinSizes m.meter };
 
@@ -80,20 +80,20 @@ fn steps(alloc: Global, lane: &mut Lane<Counting>, offers: &Arc<AtomicU64, Globa
     Some(steps)
 }
 
-fn single_rate() -> Option<SrTcm> {
+fn srtcm_of() -> Option<SrTcm> {
     SrTcm::new(1000, 2000, 1000, false).ok()
 }
 
 // The tally of a fresh lane with the rows of this one.
 fn single_rate_tally(alloc: Global, lane: &Lane<Counting>) -> Option<Tally> {
-    let Some(meter) = single_rate() else {
+    let Some(meter) = srtcm_of() else {
         return None;
     };
     fresh_tally(alloc, meter, lane.rows()).ok()
 }
 
 pub(super) fn new_counting(offers: &Arc<AtomicU64, Global>) -> Option<Counting> {
-    let Some(meter) = single_rate() else {
+    let Some(meter) = srtcm_of() else {
         return None;
     };
     let Ok(offers) = Arc::try_clone(offers) else {

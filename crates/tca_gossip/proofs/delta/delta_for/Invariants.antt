@@ -1,6 +1,6 @@
 use Rattle.std.proofs.Common.{◌≡◌, ◌++◌, drop}
 use Rattle.tca_gossip.specs.Runs.{delta_of, summary_count}
-use Rattle.tca_gossip.specs.inside.Kept.{held_in}
+use Rattle.tca_gossip.specs.inside.Storage.{held_in}
 use Rattle.tca_gossip.proofs.delta.delta_for.Given as goal
 
 abbrev pub invariant-loop-entry : goal.invariant-loop-entry

@@ -1,6 +1,6 @@
 use Rattle.tca_report.proofs.lemmas.report.Order.{report_eq}
 use Rattle.tca_gossip.proofs.Exact.{alike_report, exact_report}
-use Rattle.tca_gossip.proofs.Merging.{clashes, joins, may, merge_above, merge_again, merge_associates, merge_commutes, merge_least, stays}
+use Rattle.tca_gossip.proofs.MergeBounds.{clashes, joins, may, merge_above, merge_again, merge_associates, merge_commutes, merge_least, stays}
 use Rattle.tca_gossip.proofs.laws.merge_laws.Goals as goal
 
 pub returns : goal.returns

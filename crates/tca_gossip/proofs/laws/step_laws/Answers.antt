@@ -4,7 +4,7 @@ use Rattle.tca_gossip.proofs.Places.{shows_at, replica_at}
 use Rattle.tca_gossip.proofs.Members.{take_step}
 use Rattle.tca_gossip.proofs.Answering.{ask_step, answer_step, counts_are}
 use Rattle.tca_gossip.proofs.Arriving.{deliver_step}
-use Rattle.tca_gossip.proofs.MergeSteps.{merge_step, merge_itself, no_clash}
+use Rattle.tca_gossip.proofs.MergesInWorlds.{merge_step, merge_itself, no_clash}
 use Rattle.tca_gossip.proofs.Starts.{coupled_opened, run_more}
 use Rattle.tca_gossip.specs.Coupling.{counts_of}
 use Rattle.tca_gossip.proofs.laws.step_laws.Goals as goal

@@ -1,6 +1,6 @@
 use Rattle.std.proofs.Common.{◌≡◌, take}
 use Rattle.tca_gossip.specs.Coupling.{counts_of}
-use Rattle.tca_gossip.specs.inside.Kept.{held_in}
+use Rattle.tca_gossip.specs.inside.Storage.{held_in}
 use Rattle.tca_gossip.proofs.summary.summary_of.Given as goal
 
 abbrev pub invariant-loop-entry : goal.invariant-loop-entry

@@ -4,7 +4,7 @@ use Rattle.std.specs.List.{AllByRecursion}
 use Rattle.tca_gossip.specs.Replicas.{IsReplica}
 use Rattle.tca_ingest.specs.Closed.{ClosedView, IsClash, clash_all, clash_among, replicas_of}
 use Rattle.tca_ingest.proofs.Clashes.{clash_is}
-use Rattle.tca_ingest.proofs.Closings.{all_more, all_none, known_more, known_none, to_end}
+use Rattle.tca_ingest.proofs.ClashSearch.{all_more, all_none, known_more, known_none, to_end}
 use Rattle.tca_ingest.proofs.closed.clash_in.Goals as goal
 
 pub loop-i-init : goal.loop-i-init

@@ -2,7 +2,7 @@ use Rattle.std.proofs.Common.{◌≡◌, ◌-◌, ◌∙◌, length, arith}
 use Rattle.tca_join.specs.Chains.{differ_at}
 use Rattle.tca_join.specs.Maps.{clash_key}
 use Rattle.tca_gossip.specs.Runs.{same_report}
-use Rattle.tca_ingest.proofs.Closings.{among_more, among_none}
+use Rattle.tca_ingest.proofs.ClashSearch.{among_more, among_none}
 use Rattle.tca_ingest.proofs.closed.clash_with.Goals as goal
 
 pub loop-i-init : goal.loop-i-init

@@ -2,7 +2,7 @@ use Rattle.std.proofs.Common.{◌≡◌, true, false, [], sym, ◌∙◌, subst}
 use Rattle.std.proofs.lemmas.List.{take_all}
 use Rattle.tca_ingest.specs.EntryViews.{entry_views}
 use Rattle.tca_ingest.specs.Passes.{AllOwned, IsDiffering}
-use Rattle.tca_ingest.proofs.CloseSteps.{differing_at, owned_more}
+use Rattle.tca_ingest.proofs.CallSearch.{differing_at, owned_more}
 use Rattle.tca_ingest.proofs.Matches.{views_length}
 use Rattle.tca_ingest.proofs.Refusals.{closing_owned}
 use Rattle.tca_ingest.proofs.fitting.first_differing.Goals as goal

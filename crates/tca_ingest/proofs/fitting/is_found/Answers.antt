@@ -2,7 +2,7 @@ use Rattle.std.proofs.lemmas.Grind.{common_steps}
 use Rattle.std.proofs.Common.{◌≡◌, ◌<◌, ◌≤◌, Some, length, get_or, slice_get, sym, ap, ◌∙◌, subst, arith}
 use Rattle.std.proofs.lemmas.List.{get_or_default}
 use Rattle.tca_ingest.specs.EntryViews.{entry_view, entry_views}
-use Rattle.tca_ingest.proofs.CloseSteps.{found_more, next_more}
+use Rattle.tca_ingest.proofs.CallSearch.{found_more, next_more}
 use Rattle.tca_ingest.proofs.Matches.{found_at, view_at, views_length}
 use Rattle.tca_ingest.proofs.fitting.is_found.Goals as goal
 

@@ -1,4 +1,4 @@
-use Rattle.tca_ingest.proofs.Closes.{closing_interleaves}
+use Rattle.tca_ingest.proofs.Interleavings.{closing_interleaves}
 use Rattle.tca_ingest.proofs.Statements.{answer_has, delta_has, summary_has}
 use Rattle.tca_ingest.proofs.Refusals.{closing_owned, missing_refuses, differing_refuses}
 use Rattle.tca_ingest.proofs.Finding.{found_closing}

@@ -6,9 +6,9 @@ use Rattle.std.specs.Int.{w16, w32, from_be_bytes, to_be_bytes}
 use Rattle.std.proofs.lemmas.Bool.Decides.{nat_tests}
 use Rattle.std.proofs.lemmas.List.{take-append-drop, take-append-le, length-take, length-drop}
 use Rattle.std.proofs.lemmas.Nat.{from_be_bytes-to_be_bytes_2, from_be_bytes-to_be_bytes_4}
-use Rattle.tca_wire.specs.Results.{Gives}
-use Rattle.tca_report.specs.report.Reports.{PacketReport, in_range}
-use Rattle.tca_report.specs.export.Spelling.{version_of, records_size, record_octets, header_octets, magic, most_reports, IsExport}
+use Rattle.tca_join.specs.Results.{Gives}
+use Rattle.tca_report.specs.report.Reports.{PacketReport, in_range, most_reports}
+use Rattle.tca_report.specs.export.Spelling.{version_of, records_size, record_octets, header_octets, magic, IsExport}
 use Rattle.tca_report.specs.export.Reading.{above, records_at, has_magic, format_of, counted, header_of, after_header, reading}
 use Rattle.tca_report.specs.export.FirstFaults.{HasReport, IsFaultyExport, CutLetters, OtherLetters, CutHeader, OtherVersion, ManyReports, CutReports, MoreOctets, OutOfRange, NotAbove}
 use Rattle.tca_report.specs.declared.export.Format.{Format}

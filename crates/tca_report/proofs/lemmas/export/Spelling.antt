@@ -7,13 +7,13 @@ use Rattle.std.proofs.lemmas.Bool.Decides.{nat_tests}
 use Rattle.std.proofs.lemmas.List.{take-append-drop, length-take, length-drop, drop-drop}
 use Rattle.std.proofs.lemmas.List.Concat.{flat_map-cons}
 use Rattle.std.proofs.lemmas.Nat.{be_bytes_2, from_be_bytes-to_be_bytes_4}
-use Rattle.tca_wire.specs.Results.{Gives}
+use Rattle.tca_join.specs.Results.{Gives}
 use Rattle.tca_report.specs.declared.export.Format.{Format}
 use Rattle.tca_report.specs.declared.export.Format.TheVariants.{Version1, Version2}
 use Rattle.tca_report.specs.declared.export.ExportFault.{ExportFault}
 use Rattle.tca_report.specs.declared.export.ExportFault.TheVariants.{Magic, Version, Count, Cut, Range, Order, Memory}
-use Rattle.tca_report.specs.report.Reports.{PacketReport}
-use Rattle.tca_report.specs.export.Spelling.{version_of, record_size, records_size, record_octets, header_octets, spelling, export, magic, most_reports, IsExportable, HaveSessions, IsExport}
+use Rattle.tca_report.specs.report.Reports.{PacketReport, most_reports}
+use Rattle.tca_report.specs.export.Spelling.{version_of, record_size, records_size, record_octets, header_octets, spelling, export, magic, IsExportable, HaveSessions, IsExport}
 use Rattle.tca_report.specs.export.Reading.{records_at, has_magic, format_of, counted, header_of, after_header, reading}
 use Rattle.tca_report.proofs.lemmas.export.ReadingLoop.{size_more, size_none}
 use Rattle.tca_report.proofs.lemmas.export.Records.{IsBytes, octets_drop, octets_take, front4, list_again, list_takes}

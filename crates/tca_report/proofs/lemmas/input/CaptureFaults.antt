@@ -5,7 +5,7 @@ use Rattle.std.specs.List.{concat, AllByRecursion}
 use Rattle.std.proofs.lemmas.List.{length-append, length-drop, length-take-le, take-append-le, drop-append-le, take-append-drop}
 use Rattle.byteorder.specs.Endian.{big_number}
 use Rattle.byteorder.specs.Numbers.{big_from-take}
-use Rattle.tca_wire.specs.Results.{Gives, ◌>>=◌}
+use Rattle.tca_join.specs.Results.{Gives, ◌>>=◌}
 use Rattle.tca_wire.specs.Messages.{version_at, length_at, header_at, tile, IsMessage, message_of}
 use Rattle.tca_wire.specs.Frames.{IsFrame, IsFaulty, Framing, Holds, Failed, EndsAs, IsStream, frames_of}
 use Rattle.tca_wire.specs.FirstFaults as wire

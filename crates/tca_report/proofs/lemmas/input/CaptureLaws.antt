@@ -2,7 +2,7 @@
 use Rattle.std.proofs.Common.{◌≡◌, ℕ, zero, suc, ◌+◌, ◌<◌, Bool, true, false, cond, ◌&&◌, List, [], ◌∷◌, ◌++◌, length, take, nat_le, Result, Ok, Err, refl, sym, ap, subst, ◌∙◌, arith, inl, take_all, append-nil}
 use Rattle.std.specs.List.{concat, AllByRecursion}
 use Rattle.std.proofs.lemmas.Bool.Decides.{nat_tests}
-use Rattle.tca_wire.specs.Results.{◌>>=◌}
+use Rattle.tca_join.specs.Results.{◌>>=◌}
 use Rattle.tca_wire.specs.Messages.{IsMessage, message_of}
 use Rattle.tca_wire.specs.Frames.{IsFrame, Framing, Holds, Failed, EndsAs, IsStream, frames_of}
 use Rattle.tca_wire.specs.declared.message.Header.{Header}

@@ -1,6 +1,6 @@
 use Rattle.std.proofs.Common.{List, subst}
 use Rattle.std.specs.Prelude.{Result}
-use Rattle.tca_wire.specs.Results.{Gives}
+use Rattle.tca_join.specs.Results.{Gives}
 use Rattle.tca_wire.specs.Messages.{IsMessage, message_of}
 use Rattle.tca_wire.specs.declared.message.Header.{Header}
 use Rattle.tca_wire.specs.declared.message.SetSpan.{SetSpan}

@@ -4,7 +4,7 @@ use Rattle.tca_gossip.specs.Replicas.{ReplicaView}
 use Rattle.tcacct.proofs.AbsorbLaws.{last_plan}
 use Rattle.tcacct.proofs.ReadLaws.{all_sound}
 use Rattle.tcacct.proofs.replicated.bill_replicas.Goals as goal
-use Rattle.tca_program.specs.Planned.{IsPlanOf}
+use Rattle.tca_accounts.specs.Documents.{IsPlanOf}
 
 pub returns-in_err-reports-clause-unmade : goal.returns-in_err-reports-clause-unmade
 returns-in_err-reports-clause-unmade g c =

@@ -4,8 +4,7 @@ use Rattle.std.proofs.Common.{◌≡◌, ◌≢◌, ◌≤◌, ◌∙◌, None, 
 use Rattle.std.specs.List.{flat_map}
 use Rattle.std.specs.List.Sorted.{IsStrictlySortedBy}
 use Rattle.tca_join.proofs.Sets.{rises_in_order}
-use Rattle.tca_report.specs.report.Reports.{PacketReport, report_cmp}
-use Rattle.tca_report.specs.export.Spelling.{most_reports}
+use Rattle.tca_report.specs.report.Reports.{PacketReport, report_cmp, most_reports}
 use Rattle.tca_report.proofs.lemmas.report.Order.{report_total}
 use Rattle.tca_ingest.specs.declared.fault.CloseFault.TheVariants.{Clash}
 use Rattle.tcacct.specs.Replicated.{IsExchangeRefused}

@@ -2,7 +2,7 @@ use Rattle.std.proofs.Common.{◌≡◌, ◌<◌, ◌∙◌, false, length, refl
 use Rattle.tca_report.specs.report.Reports.{report_cmp}
 use Rattle.tca_join.specs.Sets.{has}
 use Rattle.tca_gossip.specs.Replicas.{ReplicaView}
-use Rattle.tca_gossip.specs.inside.Kept.{replica_of}
+use Rattle.tca_gossip.specs.inside.Storage.{replica_of}
 use Rattle.tca_gossip.proofs.Plains.{chain_held}
 use Rattle.tca_gossip.proofs.Agreeing.{room_agrees, report_agrees, few_reports}
 use Rattle.tca_gossip.proofs.contents.Contents.append.Goals as goal

@@ -1,6 +1,6 @@
 use Rattle.std.proofs.Common.{◌∙◌, ℕ, ap}
 use Rattle.tca_accounts.specs.Plans.{AccountPlan}
-use Rattle.tca_gossip.specs.inside.Kept.{replica_of}
+use Rattle.tca_gossip.specs.inside.Storage.{replica_of}
 use Rattle.tca_gossip.proofs.Agreeing.{without_book}
 use Rattle.tca_gossip.proofs.AtOnce.{refilled}
 use Rattle.tca_gossip.proofs.RunsAtOnce.{runs_are, runs_replica, runs_within}

@@ -2,7 +2,7 @@ use Rattle.std.proofs.Common.{◌≡◌, ℕ, ◌∙◌, Some, None, Bool, true,
 use Rattle.std.specs.Bool.{then_some}
 use Rattle.tca_report.specs.contracts.report.ReportPartialEq.TheImpl as report_eq
 use Rattle.tca_gossip.specs.Replicas.{chain_of, least_of}
-use Rattle.tca_gossip.specs.inside.Kept.{replica_of}
+use Rattle.tca_gossip.specs.inside.Storage.{replica_of}
 use Rattle.tca_gossip.proofs.Clashing.{named}
 use Rattle.tca_gossip.proofs.contents.Contents.clash.Goals as goal
 

@@ -8,7 +8,7 @@ use Rattle.tca_join.specs.Faults.{IsJoinFault}
 use Rattle.tca_join.specs.Maps.{clash_key, map_full, merged}
 use Rattle.tca_log.specs.LogJoin.{log_full}
 use Rattle.tca_gossip.specs.Replicas.{ReplicaView, chain_of, merge_clash}
-use Rattle.tca_gossip.specs.inside.Kept.{held_in, replica_of}
+use Rattle.tca_gossip.specs.inside.Storage.{held_in, replica_of}
 use Rattle.tca_gossip.proofs.Agreeing.{merged_agrees, neither, without_book}
 use Rattle.tca_gossip.proofs.Clashing.{memory_alone, within_limit}
 use Rattle.tca_gossip.proofs.Exact.{exact_report}
@@ -75,8 +75,8 @@ same-self-in_err-chains c = grind (arith, common_steps)
 pub returns-in_err-chains-clause-ok : goal.returns-in_err-chains-clause-ok
 returns-in_err-chains-clause-ok c = grind (arith, common_steps)
 
-pub returns-in_err-chains-clause-settled : goal.returns-in_err-chains-clause-settled
-returns-in_err-chains-clause-settled c = grind (arith, common_steps)
+pub returns-in_err-chains-clause-resumed : goal.returns-in_err-chains-clause-resumed
+returns-in_err-chains-clause-resumed c = grind (arith, common_steps)
 
 pub returns-in_err-chains-clause-compatible : goal.returns-in_err-chains-clause-compatible
 returns-in_err-chains-clause-compatible c = grind (arith, common_steps)
@@ -102,8 +102,8 @@ same-self-in_err-log c = grind (arith, common_steps)
 pub returns-in_err-log-clause-ok : goal.returns-in_err-log-clause-ok
 returns-in_err-log-clause-ok c = grind (arith, common_steps)
 
-pub returns-in_err-log-clause-settled : goal.returns-in_err-log-clause-settled
-returns-in_err-log-clause-settled c = grind (arith, common_steps)
+pub returns-in_err-log-clause-resumed : goal.returns-in_err-log-clause-resumed
+returns-in_err-log-clause-resumed c = grind (arith, common_steps)
 
 pub returns-in_err-log-clause-compatible : goal.returns-in_err-log-clause-compatible
 returns-in_err-log-clause-compatible c = grind (arith, common_steps)
@@ -129,8 +129,8 @@ same-chains c = grind (arith, common_steps)
 pub same-log : goal.same-log
 same-log c = grind (arith, common_steps)
 
-pub returns-clause-settled : goal.returns-clause-settled
-returns-clause-settled c = grind (arith, common_steps)
+pub returns-clause-resumed : goal.returns-clause-resumed
+returns-clause-resumed c = grind (arith, common_steps)
 
 pub returns-clause-compatible : goal.returns-clause-compatible
 returns-clause-compatible c = grind (arith, common_steps)

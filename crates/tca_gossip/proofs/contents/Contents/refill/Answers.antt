@@ -1,4 +1,4 @@
-use Rattle.tca_gossip.specs.inside.Kept.{held_in}
+use Rattle.tca_gossip.specs.inside.Storage.{held_in}
 use Rattle.tca_gossip.proofs.Agreeing.{without_book}
 use Rattle.tca_gossip.proofs.AtOnce.{refilled}
 use Rattle.tca_gossip.proofs.contents.Contents.refill.Goals as goal

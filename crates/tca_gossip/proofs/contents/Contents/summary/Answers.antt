@@ -1,4 +1,4 @@
-use Rattle.tca_gossip.specs.inside.Kept.{held_in}
+use Rattle.tca_gossip.specs.inside.Storage.{held_in}
 use Rattle.tca_gossip.proofs.Answering.{counts_each}
 use Rattle.tca_gossip.proofs.contents.Contents.summary.Goals as goal
 

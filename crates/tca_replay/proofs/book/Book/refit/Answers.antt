@@ -7,7 +7,7 @@ use Rattle.tca_replay.specs.Books.{BookView, Fits, all_steps, row_count}
 use Rattle.tca_replay.proofs.Books.{fits_settled, lanes_resumed}
 use Rattle.tca_replay.proofs.Filling.{fits_filled, row_counts}
 use Rattle.tca_replay.proofs.Loops.{resumed_steps}
-use Rattle.tca_replay.proofs.Totals.{settled_all}
+use Rattle.tca_replay.proofs.Totals.{resumed_all}
 use Rattle.tca_replay.proofs.book.Book.refit.Goals as goal
 
 pub returns-clause-fits : goal.returns-clause-fits
@@ -21,8 +21,8 @@ returns-clause-fits g c =
     let fits : Fits rs view = rw (c.resume_all-steps.ensures.lanes, c.len-self-inside.ensures.length, c.disputed-self-inside.ensures) (fits_settled filled rs (fits_filled i.plan i.k rs number lanes c.in_ok-lanes.ensures)) in
     fits
 
-pub returns-clause-settled : goal.returns-clause-settled
-returns-clause-settled g c = rw c.resume_all-steps.ensures.lanes (settled_all c.in_ok-lanes.lanes.items)
+pub returns-clause-resumed : goal.returns-clause-resumed
+returns-clause-resumed g c = rw c.resume_all-steps.ensures.lanes (resumed_all c.in_ok-lanes.lanes.items)
 
 pub returns-clause-steps : goal.returns-clause-steps
 returns-clause-steps g c = omega (arith, c.resume_all-steps.ensures.steps, resumed_steps c.in_ok-lanes.lanes.items, ap (λ (ls : List (LaneView TermedMeter)). all_steps ls) c.resume_all-steps.ensures.lanes)

@@ -2,7 +2,7 @@ use Rattle.std.proofs.lemmas.Grind.{common_steps}
 use Rattle.std.proofs.Common.{arith}
 use Rattle.tca_replay.specs.Books.{BookView, Fits}
 use Rattle.tca_replay.proofs.Books.{lanes_resumed, fits_settled}
-use Rattle.tca_replay.proofs.Totals.{settled_all}
+use Rattle.tca_replay.proofs.Totals.{resumed_all}
 use Rattle.tca_replay.proofs.book.Book.settle.Goals as goal
 
 pub invariant_of-self : goal.invariant_of-self
@@ -12,8 +12,8 @@ invariant_of-self g c = record {
   small = c.self.invariant.small;
 }
 
-pub returns-clause-settled : goal.returns-clause-settled
-returns-clause-settled g c = rw c.resume_all.ensures.lanes (settled_all c.self.inside.lanes.items)
+pub returns-clause-resumed : goal.returns-clause-resumed
+returns-clause-resumed g c = rw c.resume_all.ensures.lanes (resumed_all c.self.inside.lanes.items)
 
 pub returns-clause-fits : goal.returns-clause-fits
 returns-clause-fits g c rs fits =

@@ -2,7 +2,7 @@ use Rattle.std.proofs.lemmas.Grind.{common_steps}
 use Rattle.std.proofs.Common.{◌≡◌, true, false, arith}
 use Rattle.tca_report.specs.report.Reports.{report_cmp}
 use Rattle.tca_join.specs.Sets.{has}
-use Rattle.tca_replay.specs.inside.Runs.{metering}
+use Rattle.tca_replay.specs.inside.Standings.{metering}
 use Rattle.tca_replay.proofs.Lanes.{lane_took, view_put}
 use Rattle.tca_replay.proofs.lane.Lane.put.Goals as goal
 
@@ -13,7 +13,7 @@ invariant_of-self g c =
     let w = metering (m.rule l.meter) l.terms in
     let ready : l.ready ≡ true = rw (← c.self.view_is) at c.requires.ready in
     let new : has report_cmp l.rows.rows c.args.report ≡ false = rw (← c.self.view_is) at c.requires.new in
-    rw c.lower.ensures (lane_took w l.every l.rows c.put.new.self l.changed l.run l.marks.items l.closed.items _ _ c.args.report (rw ready at c.self.invariant) c.put.ensures c.len-all.ensures.rises new)
+    rw c.lower.ensures (lane_took w l.every l.rows c.put.new.self l.changed l.standing l.marks.items l.closed.items _ _ c.args.report (rw ready at c.self.invariant) c.put.ensures c.len-all.ensures.rises new)
 
 pub returns : goal.returns
 returns g c =

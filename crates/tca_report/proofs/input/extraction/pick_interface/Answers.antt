@@ -6,4 +6,4 @@ pub returns-in-None-clause-value : goal.returns-in-None-clause-value
 returns-in-None-clause-value g c = interface_told (g.R.DataRecord.plain c.args.placed.now).fields _ c.in-None.ensures
 
 pub returns-in-Some-clause-value : goal.returns-in-Some-clause-value
-returns-in-Some-clause-value g c = c.pick_unsigned.ensures.value ∙ interface_told (g.R.DataRecord.plain c.args.placed.now).fields _ c.in-Some.ensures
+returns-in-Some-clause-value g c = c.read_unsigned.ensures.value ∙ interface_told (g.R.DataRecord.plain c.args.placed.now).fields _ c.in-Some.ensures

@@ -1,5 +1,5 @@
 use Rattle.tca_templates.proofs.SessionMaps.{session_opens, session_stays, known_define, define_order, known_withdraw, known_others, reading_places}
-use Rattle.tca_templates.proofs.reading.session_words.Goals as goal
+use Rattle.tca_templates.proofs.reading.session_laws.Goals as goal
 
 pub returns-clause-opens : goal.returns-clause-opens
 returns-clause-opens c = session_opens

@@ -7,7 +7,7 @@ use Rattle.tca_report.specs.report.Reports.{PacketReport}
 use Rattle.tca_join.specs.Chains.{ChainView}
 use Rattle.tca_join.specs.Maps.{get, Rises}
 use Rattle.tca_accounts.specs.Plans.{AccountPlan}
-use Rattle.tca_replay.specs.Books.{AreSettled, BookView, Fits}
+use Rattle.tca_replay.specs.Books.{AreResumed, BookView, Fits}
 use Rattle.tca_gossip.specs.Replicas.{ReplicaView, IsReplica, chain_of}
 
 -- the reports of a chain, none where there is no chain
@@ -15,9 +15,9 @@ abbrev pub chain_items : Option (ChainView PacketReport) → List PacketReport
 chain_items None = []
 chain_items (Some c) = c.items
 
--- the reports that are kept of an origin
-abbrev pub kept_of : List (ℕ × ChainView PacketReport) → ℕ → List PacketReport
-kept_of es origin = chain_items (get es origin)
+-- the reports that are held of an origin
+abbrev pub held_of : List (ℕ × ChainView PacketReport) → ℕ → List PacketReport
+held_of es origin = chain_items (get es origin)
 
 -- a chain before others, unless it is empty
 abbrev pub before_others : ℕ → List PacketReport → List (ℕ × List PacketReport) → List (ℕ × List PacketReport)
@@ -48,8 +48,8 @@ abbrev pub Bills : List PacketReport → BillingView → Type 0
 Bills log b = b.kept ≡ true → Fits log b.book
 
 -- a book that is kept has metered all its rows
-abbrev pub IsSettled : BillingView → Type 0
-IsSettled b = b.kept ≡ true → AreSettled b.book.lanes
+abbrev pub IsResumed : BillingView → Type 0
+IsResumed b = b.kept ≡ true → AreResumed b.book.lanes
 
 -- a replica and its bill
 pub record ContentsView : Type 0 where

@@ -1,6 +1,6 @@
 use Rattle.tca_report.proofs.lemmas.input.CaptureLaws.{input_found, input_only}
 use Rattle.tca_report.proofs.lemmas.input.CaptureFaults.{input_fault, input_no_other}
-use Rattle.tca_report.proofs.input.input_words.Goals as goal
+use Rattle.tca_report.proofs.input.input_laws.Goals as goal
 
 pub returns-clause-found : goal.returns-clause-found
 returns-clause-found c = input_found

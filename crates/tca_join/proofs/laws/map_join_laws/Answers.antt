@@ -1,5 +1,5 @@
 use Rattle.tca_join.proofs.Firsts.{only_map, sets_one_key, joins_key_by_key, compatible_at_each, clash_is_least, fits_at_each, full_at_some}
-use Rattle.tca_join.proofs.laws.map_words.Goals as goal
+use Rattle.tca_join.proofs.laws.map_join_laws.Goals as goal
 
 pub returns : goal.returns
 returns g c = record {

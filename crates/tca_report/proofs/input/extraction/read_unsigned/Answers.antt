@@ -1,7 +1,7 @@
 use Rattle.std.proofs.Common.{◌≤◌, ◌^◌, length, arith}
 use Rattle.std.proofs.Math.Nat.{pow-le-pow_right}
 use Rattle.byteorder.specs.Numbers.{big_from-lt}
-use Rattle.tca_report.proofs.input.extraction.pick_unsigned.Goals as goal
+use Rattle.tca_report.proofs.input.extraction.read_unsigned.Goals as goal
 
 pub returns-clause-small : goal.returns-clause-small
 returns-clause-small c = λ le.

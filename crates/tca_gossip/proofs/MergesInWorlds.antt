@@ -8,8 +8,8 @@ use Rattle.tca_join.specs.Chains.{differ_at}
 use Rattle.tca_gossip.specs.Replicas.{ReplicaView, chain_of, or_empty, merged_with, merge_clash}
 use Rattle.tca_gossip.specs.Machines.{Machine, IsWorld, Shows, is_name, joined}
 use Rattle.tca_gossip.proofs.Worlds.{prefix_length, merge_chain}
-use Rattle.tca_gossip.proofs.Kept.{world_joined, others_joined}
-use Rattle.tca_gossip.proofs.Merges.{replica_merged}
+use Rattle.tca_gossip.proofs.WorldInvariants.{world_joined, others_joined}
+use Rattle.tca_gossip.proofs.MergedLogs.{replica_merged}
 use Rattle.tca_gossip.proofs.Logs.{equal_in_world}
 use Rattle.tca_gossip.specs.Steps.{Merge, Merged, Joined}
 use Rattle.tca_gossip.specs.Coupling.{WorldView, IsCoupled, with_replica, StepsTo}

@@ -12,7 +12,7 @@ use Rattle.tca_join.proofs.Unions.{union_above, union_again, union_associates, u
 use Rattle.tca_gossip.specs.Replicas.{ReplicaView, IsReplica, chain_of, least_of, merge_clash, merged_with, or_empty}
 use Rattle.tca_gossip.specs.Holding.{Agree, AreCompatible, Begins, IsLeastFault, MayTakeIn, MergeAbove, MergeAgain, MergeAssociates, MergeCommutes, MergeLeast}
 use Rattle.tca_gossip.proofs.Worlds.{or_join}
-use Rattle.tca_gossip.proofs.Merges.{parts, replica_merged}
+use Rattle.tca_gossip.proofs.MergedLogs.{parts, replica_merged}
 use Rattle.tca_gossip.proofs.Agreeing.{neither, not_ahead}
 
 -- chains

@@ -1,6 +1,6 @@
 use Rattle.tca_wire.proofs.Tiles.{message_found, message_only}
 use Rattle.tca_wire.proofs.FirstFaults.{fault_found, fault_only}
-use Rattle.tca_wire.proofs.split.message_words.Goals as goal
+use Rattle.tca_wire.proofs.split.message_laws.Goals as goal
 
 pub returns-clause-found : goal.returns-clause-found
 returns-clause-found c = message_found

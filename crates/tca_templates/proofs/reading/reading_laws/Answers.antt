@@ -1,6 +1,6 @@
 use Rattle.tca_templates.proofs.SessionLaws.{reading_found, reading_only}
 use Rattle.tca_templates.proofs.FirstFaults.{reading_fault, reading_no_other}
-use Rattle.tca_templates.proofs.reading.reading_words.Goals as goal
+use Rattle.tca_templates.proofs.reading.reading_laws.Goals as goal
 
 pub returns-clause-found : goal.returns-clause-found
 returns-clause-found c = reading_found
