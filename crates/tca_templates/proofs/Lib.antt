@@ -4,6 +4,7 @@ pub mod Fields
 pub mod Records
 pub mod LayoutSteps
 pub mod LayoutLaws
+pub mod WindowLaws
 pub mod Wanting
 pub mod TakingSteps
 pub mod StepLaws

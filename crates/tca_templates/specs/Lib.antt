@@ -2,6 +2,7 @@ pub mod Templates
 pub mod Specifiers
 pub mod Records
 pub mod Chosen
+pub mod Numbers
 pub mod Taking
 pub mod Handing
 pub mod Wants

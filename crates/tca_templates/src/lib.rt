@@ -14,7 +14,7 @@
 //!   the sets of these; `slots`: the templates that are known; `ids`: those of a domain and kind; `iter`: all of them in
 //!   order;
 //! - `elements`: the elements that tell about a packet, and which are chosen; `layout`: which fields of a template are chosen, and where
-//!   they stand in a record;
+//!   they stand in a record; `numbers`: the same of usual records, whose numbers are read at once;
 //! - `source`: whose records a message has;
 //! - `record`, `outcome`: the records of data sets, in the message's octets and as values of their own;
 //! - `fault`: what can be wrong.
@@ -26,6 +26,7 @@ mod fault;
 mod ids;
 mod iter;
 mod layout;
+mod numbers;
 mod outcome;
 mod reading;
 mod record;
@@ -38,6 +39,7 @@ mod template;
 pub use decoder::{Decoder, Handed};
 pub use fault::DecodeFault;
 pub use iter::TemplatesIter;
+pub use numbers::Numbers;
 pub use outcome::{FieldValue, Outcome, PlacedFields};
 pub use reading::{reading_laws, session_laws};
 pub use record::{Record, TakesRecords};

@@ -7,6 +7,7 @@ ghost use Rattle.tca_templates.specs.Records.{FieldView, PlacedView, field_at, f
 ghost use Rattle.tca_templates.specs.Chosen.{times, sizes, code_points, interfaces, sections, choice};
 ghost use Rattle.tca_templates.specs.inside.Layouts.{IsLaidOut, fields_in, value_in};
 ghost use Rattle.tca_templates.specs.Fields.{template_of};
+ghost use Rattle.tca_templates.specs.Numbers.{AreNumbers};
 ghost use Rattle.tca_templates.specs.Outcomes.{value_view};
 ghost use Rattle.tca_templates.specs.Taking.{GivesAs, Took};
 ghost use Rattle.tca_templates.specs.Wants.{IsWanted};
@@ -14,6 +15,7 @@ ghost use Rattle.tca_templates.specs.Refusals.{HoldsRecords};
 
 use crate::fault::DecodeFault;
 use crate::layout::{Spot, Spots, locate};
+use crate::numbers::{Numbers, Usual};
 use crate::outcome::FieldValue;
 use crate::source::Source;
 use crate::template::{FieldSpec, Template, VARIABLE};
@@ -28,19 +30,24 @@ pub struct Record<'r> {
     place: u32,
     template: &'r Template,
     spots: &'r Spots,
+    /// Where its numbers stand, if that is known.
+    usual: &'r Option<Usual>,
     /// The record's octets, and what stands behind it.
     octets: &'r [u8],
 }
 
 impl<'r> Model for Record<'r> {
     ghost use Rattle.tca_templates.specs.Records.{PlacedView};
+    ghost use Rattle.std.specs.Prelude.{IfSome};
     ghost use Rattle.tca_templates.specs.inside.Layouts.{IsFound, fields_in};
+    ghost use Rattle.tca_templates.specs.inside.Windows.{IsUsual};
 
     ghost Value = { PlacedView };
 
     ghost view = { λ r. record { session = r.source.session; domain = r.source.domain; place = r.place; options = r.template.now.options; fields = fields_in r.template.now.specs.items r.octets.now } };
 
-    ghost invariant = { λ r. IsFound r.template.now.specs.items r.spots.now r.octets.now };
+    ghost invariant = { λ r. IsFound r.template.now.specs.items r.spots.now r.octets.now
+        × IfSome r.usual.now (λ u. IsUsual r.template.now.options r.spots.now u) };
 }
 
 /// What takes the data records of a message, one after the other.
@@ -194,6 +201,21 @@ impl<'r> Record<'r> {
         value_at(self.octets, self.spots.section)
     }
 
+    /// What a usual record tells of its packet: of time, octets, code point and interface, each in a field of its own. `None` says
+    /// nothing of the record: that it isn't usual, or that it stands at the end of its message.
+    #[inline(always)]
+    pub fn numbers(&self) -> Option<Numbers>
+        ensures { IfSome result (λ n. AreNumbers self.now n) }
+    {
+        let Some(usual) = self.usual else {
+            return None;
+        };
+        if self.octets.len() < usual.reach {
+            return None;
+        }
+        Some(usual.numbers(self.octets))
+    }
+
     // Its fields, with values of their own.
     pub(crate) fn fields(&self, alloc: Global) -> Result<Vec<FieldValue>, AllocError>
         ensures { IfOk result (λ v. map value_view v.items ≡ self.now.fields) }
@@ -223,6 +245,7 @@ fn read_fixed<T: TakesRecords>(
     ensures few { IfOk result (λ n. n ≤ count + length octets.now) }
 {
     let size = template.shortest as usize;
+    let usual = Usual::of(template.options, spots);
     let mut count = count;
     let mut rest = octets;
     while rest.len() >= size {
@@ -231,6 +254,7 @@ fn read_fixed<T: TakesRecords>(
             place: source.sequence.wrapping_add(count),
             template,
             spots,
+            usual: &usual,
             octets: rest,
         };
         taker.take(&record)?;
@@ -262,6 +286,7 @@ fn read_variable<T: TakesRecords>(
     ensures few { IfOk result (λ n. n ≤ count + length octets.now) }
 {
     let shortest = template.shortest as usize;
+    let usual = None;
     let mut spots = Spots::none();
     let mut count = count;
     let mut at = at;
@@ -275,6 +300,7 @@ fn read_variable<T: TakesRecords>(
             place: source.sequence.wrapping_add(count),
             template,
             spots: &spots,
+            usual: &usual,
             octets: rest,
         };
         taker.take(&record)?;

@@ -21,7 +21,7 @@ loop-rest-init g c = record {
 pub invariant_of-record : goal.invariant_of-record
 invariant_of-record g c =
     let t = c.args.template.now in
-    found_fixed t.choice t.specs.items c.args.spots.now c.loop-rest.rest.now t.chosen c.requires.laid (omega (arith, c.loop-rest-test.true, t.right))
+    (found_fixed t.choice t.specs.items c.args.spots.now c.loop-rest.rest.now t.chosen c.requires.laid (omega (arith, c.loop-rest-test.true, t.right)), c.of-usual.ensures)
 
 pub loop-rest-preserved : goal.loop-rest-preserved
 loop-rest-preserved g c =

@@ -3,7 +3,7 @@ use Rattle.tca_templates.proofs.LayoutLaws.{size_within, size_is}
 use Rattle.tca_templates.proofs.record.Record.size.Goals as goal
 
 pub value_at-requires : goal.value_at-requires
-value_at-requires c = size_within c.self.inside.template.now.specs.items c.self.inside.spots.now c.self.inside.octets.now c.self.invariant
+value_at-requires c = size_within c.self.inside.template.now.specs.items c.self.inside.spots.now c.self.inside.octets.now c.self.invariant.0
 
 pub returns : goal.returns
-returns c = rw (← c.self.view_is) (c.value_at.ensures ∙ size_is c.self.inside.template.now.specs.items c.self.inside.spots.now c.self.inside.octets.now c.self.invariant)
+returns c = rw (← c.self.view_is) (c.value_at.ensures ∙ size_is c.self.inside.template.now.specs.items c.self.inside.spots.now c.self.inside.octets.now c.self.invariant.0)
