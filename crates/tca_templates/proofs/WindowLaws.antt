@@ -98,12 +98,14 @@ pointed (Some s) section (Some at) xs octets spot within =
     let long = taken_length s xs within in
     let one : length (take s.length (drop s.at xs)) ≡ 1 = long ∙ spot.one in
     let here : slice_index (drop s.at xs) 0 ≡ slice_index xs at = rw get_or-drop (ap (λ (i : ℕ). slice_index xs i) (omega (arith, spot.at_is))) in
-    let number : slice_index xs at ≡ big_number 1 (drop s.at xs) = omega (arith, here) in
-    (spot.element_is, record {
-      some = omega (arith, one);
-      bound = omega (arith, one);
-      number = number ∙ number_of s 1 xs (sym spot.one) ∙ ap (λ (n : ℕ). big_number n (take s.length (drop s.at xs))) (sym one);
-    })
+    let number : slice_index xs at ≡ big_number 1 (drop s.at xs) = omega (arith, here) in (
+      spot.element_is,
+      record {
+        some = omega (arith, one);
+        bound = omega (arith, one);
+        number = number ∙ number_of s 1 xs (sym spot.one) ∙ ap (λ (n : ℕ). big_number n (take s.length (drop s.at xs))) (sym one);
+      },
+    )
 
 interfaced : (o : Option Spot) (w : Option Window) (xs : List ℕ) (n : ℕ) → AreOctets xs → IsInterfaceWindow o w → IfSome o (λ s. s.at + s.length ≤ length xs)
     → (w ≡ None → n ≡ 0) → IfSome w (λ w. n ≡ number_in w xs) → IsInterface (value_in xs o) n
@@ -130,8 +132,8 @@ usual_numbers specs spots octets r u n found fields are usual time size point no
           (subst (λ (m : ℕ). IsSize (value_in octets spots.size) m) (sym size) (sized spots.size u.size octets are usual.size (size_within specs spots octets found)));
       code_point = subst (λ (o : Option (ℕ × List ℕ)). IsPoint o (choice sections r.fields) n.code_point) (code_point_is specs spots octets found ∙ ap (choice code_points) (sym fields))
           (subst (λ (o : Option (ℕ × List ℕ)). IsPoint (value_in octets spots.code_point) o n.code_point) (section_is specs spots octets found ∙ ap (choice sections) (sym fields))
-              (subst (λ (m : ℕ). IsPoint (value_in octets spots.code_point) (value_in octets spots.section) m) (sym point)
-                  (pointed spots.code_point spots.section u.code_point octets are usual.code_point (code_point_within specs spots octets found))));
+          (subst (λ (m : ℕ). IsPoint (value_in octets spots.code_point) (value_in octets spots.section) m) (sym point)
+          (pointed spots.code_point spots.section u.code_point octets are usual.code_point (code_point_within specs spots octets found))));
       interface = subst (λ (o : Option (ℕ × List ℕ)). IsInterface o n.interface) (interface_is specs spots octets found ∙ ap (choice interfaces) (sym fields))
           (interfaced spots.interface u.interface octets n.interface are usual.interface (interface_within specs spots octets found) none some);
     }

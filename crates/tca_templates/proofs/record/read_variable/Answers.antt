@@ -38,10 +38,12 @@ returns-in_default-clause-wanted g c = λ memory. absurd cc
 pub invariant_of-record : goal.invariant_of-record
 invariant_of-record g c =
     let t = c.args.template.now in
-    let rest = c.loop-rest.rest.now in
-    (found_located t.choice t.specs.items rest c.in-Some.size c.locate.new.spots t.chosen
-    (c.in-Some.ensures.whole ∙ ap (λ (ss : List FieldSpec). option_map (λ x. x.1) (fields_on [] 0 ss rest)) c.deref.ensures.value)
-    (c.in-Some.ensures.spots ∙ ap (λ (ss : List FieldSpec). spots_of t.choice (λ e. spot_in e 0 ss rest)) c.deref.ensures.value), tt)
+    let rest = c.loop-rest.rest.now in (
+      found_located t.choice t.specs.items rest c.in-Some.size c.locate.new.spots t.chosen
+          (c.in-Some.ensures.whole ∙ ap (λ (ss : List FieldSpec). option_map (λ x. x.1) (fields_on [] 0 ss rest)) c.deref.ensures.value)
+          (c.in-Some.ensures.spots ∙ ap (λ (ss : List FieldSpec). spots_of t.choice (λ e. spot_in e 0 ss rest)) c.deref.ensures.value),
+      tt,
+    )
 
 pub overflow_cast-at : goal.overflow_cast-at
 overflow_cast-at g c =
