@@ -3,6 +3,8 @@ pub mod ReasonCounts
 pub mod CaptureParts
 pub mod OneMore
 pub mod ChosenFields
+pub mod UsualRecords
+pub mod TakenRecords
 pub mod ReaderAgrees
 pub mod CapturePieces
 pub mod CaptureLaws

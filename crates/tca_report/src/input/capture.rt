@@ -1,5 +1,5 @@
 //! Captures: messages one after the other, as a file of RFC 5655 has them.
-ghost use Rattle.std.specs.Prelude.{◌≡◌, ◌≢◌, ◌<◌, ◌≤◌, ◌+◌, ◌^◌, ◌++◌, ◌∷◌, [], List, ℕ, length, IfOk, IfErr, IsErrOf, Err, take};
+ghost use Rattle.std.specs.Prelude.{◌≡◌, ◌≢◌, ◌<◌, ◌≤◌, ◌+◌, ◌^◌, ◌++◌, ◌∷◌, [], List, ℕ, length, IfOk, IfErr, IsErrOf, OnOk, OnErr, Err, take};
 ghost use Rattle.std.specs.List.{AllByRecursion, concat};
 ghost use Rattle.tca_join.specs.Results.{Gives};
 ghost use Rattle.tca_wire.specs.Messages.{length_at};
@@ -8,10 +8,13 @@ ghost use Rattle.tca_report.specs.input.Inputs.{CaptureSoFar, capture_with, capt
 ghost use Rattle.tca_report.specs.input.Gathered.{gathered_of, gathered_view};
 ghost use Rattle.tca_report.specs.input.Wants.{IsWantedFor, IsWantedInCapture};
 ghost use Rattle.tca_report.specs.inside.CaptureReaders.{noted, Agrees, ReaderGives, HasRead, Brings, StandsIn, IsWantedAmong};
+ghost use Rattle.tca_templates.specs.Records.{PlacedView};
+ghost use Rattle.tca_report.specs.inside.Taking.{HasTaken};
+ghost use Rattle.tca_report.specs.declared.input.capture.Extracted.{Extracted};
 ghost use Rattle.tca_report.specs.declared.input.extraction.NotReport.{NotReport};
 ghost use Rattle.tca_report.specs.declared.input.InputFault.TheVariants as faults;
 
-use crate::input::extraction::{NotReport, extract_from};
+use crate::input::extraction::{NotReport, extract_from, extract_usual};
 use crate::input::{Gathered, InputFault, Notes};
 use crate::report::Report;
 use std::alloc::{AllocError, Global};
@@ -73,20 +76,31 @@ fn count_reason(counts: &mut [u64; 7], reason: NotReport)
 }
 
 impl TakesRecords for Extracted {
-    ghost use Rattle.std.specs.Prelude.{◌≡◌, ◌++◌, ◌+◌, ◌<◌, ◌^◌, List, length};
-    ghost use Rattle.tca_report.specs.input.Inputs.{counts_of, reports_of, reasons_of};
-    ghost use Rattle.tca_report.specs.declared.input.extraction.NotReport.{NotReport};
+    ghost use Rattle.tca_report.specs.inside.Taking.{HasTaken};
 
-    ghost took = { λ start records now. (now.reports.items ≡ start.reports.items ++ reports_of records)
-        × ((reasons : List NotReport) → start.not_reports ≡ counts_of reasons → length reasons + length records < 2 ^ 64 → now.not_reports ≡ counts_of (reasons ++ reasons_of records)) };
+    ghost took = { HasTaken };
 
+    #[inline(always)]
     fn take(&mut self, next: &Record<'_>) -> Result<(), AllocError> {
-        match extract_from(next) {
-            Ok(report) => self.reports.push(report)?,
-            Err(reason) => count_reason(&mut self.not_reports, reason),
+        if let Some(report) = extract_usual(next) {
+            self.reports.push(report)?;
+            return Ok(());
         }
-        Ok(())
+        take_unusual(self, next)
     }
+}
+
+// Takes a record that is judged field by field.
+#[inline(never)]
+fn take_unusual(taken: &mut Extracted, next: &Record<'_>) -> Result<(), AllocError>
+    ensures ok { (start : Extracted) (records : List PlacedView) → HasTaken start records taken.old → OnOk result (HasTaken start (records ++ next.now ∷ []) taken.new) }
+    ensures err { (start : Extracted) (records : List PlacedView) → HasTaken start records taken.old → OnErr result (HasTaken start records taken.new) }
+{
+    match extract_from(next) {
+        Ok(report) => taken.reports.push(report)?,
+        Err(reason) => count_reason(&mut taken.not_reports, reason),
+    }
+    Ok(())
 }
 
 impl CaptureReader {

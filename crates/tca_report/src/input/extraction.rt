@@ -1,5 +1,5 @@
 //! Which fields of a data record make a report.
-ghost use Rattle.std.specs.Prelude.{◌≡◌, ◌==◌, ◌&&◌, ◌<◌, ◌≤◌, ◌^◌, IfOk, length, map, Ok, Err, Result};
+ghost use Rattle.std.specs.Prelude.{◌≡◌, ◌==◌, ◌&&◌, ◌<◌, ◌≤◌, ◌^◌, IfOk, IfSome, length, map, Ok, Err, Result};
 ghost use Rattle.std.specs.Option.{option_map, is_none};
 ghost use Rattle.byteorder.specs.Endian.{big_number};
 ghost use Rattle.tca_templates.specs.Outcomes.{placed_view};
@@ -9,7 +9,7 @@ ghost use Rattle.tca_report.specs.Faults.{reason_number};
 use crate::input::fields::DataRecord;
 use crate::report::{Content, Identity, MOST_DSCP, MOST_OCTETS, Report, TIME_END};
 use byteorder::{BigEndian, ByteOrder};
-use tca_templates::PlacedFields;
+use tca_templates::{PlacedFields, Record};
 use tca_templates::elements::{
     IP_CLASS_OF_SERVICE, OBSERVATION_TIME_MICROSECONDS, OBSERVATION_TIME_MILLISECONDS,
     OBSERVATION_TIME_NANOSECONDS, TOTAL_LENGTH_IPV4,
@@ -303,6 +303,24 @@ pub(crate) fn extract_from<R: DataRecord>(placed: &R) -> Result<Report, NotRepor
     let point = pick_code_point(placed, section)?;
     let interface = pick_interface(placed)?;
     judge(time, octets, point, interface, placed.identity())
+}
+
+// The report of a usual record. Where there is none the record is still to be judged field by field.
+#[inline(always)]
+pub(crate) fn extract_usual(next: &Record<'_>) -> Option<Report>
+    ensures { IfSome result (λ report. extract_of next.now ≡ Ok report) }
+{
+    let numbers = next.numbers()?;
+    if numbers.size > u64::from(MOST_OCTETS) || numbers.interface > u64::from(u32::MAX) {
+        return None;
+    }
+    let content = Content {
+        time: numbers.time,
+        octets: numbers.size as u32,
+        dscp: numbers.code_point,
+        iface: numbers.interface as u32,
+    };
+    Report::new(DataRecord::identity(next), content)
 }
 
 /// The report that a data record makes, or why it makes none. It takes no memory.
