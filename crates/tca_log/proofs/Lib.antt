@@ -6,6 +6,7 @@ pub mod ReportAdditions
 pub mod Undisputed
 pub mod Uniting
 pub mod AscendingPlaces
+pub mod AscendingReports
 pub mod Repeats
 pub mod OrderedRows
 pub mod Filters

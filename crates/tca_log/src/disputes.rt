@@ -1,5 +1,5 @@
 //! Which identities of a set of reports are disputed.
-ghost use Rattle.std.specs.Prelude.{◌≡◌, ◌≤◌, IfOk, length, map, nat_lt};
+ghost use Rattle.std.specs.Prelude.{◌≡◌, ◌≤◌, IfOk, IsTrue, [], length, map, nat_lt};
 ghost use Rattle.std.specs.List.Sorted.{IsPermutation, IsSorted};
 ghost use Rattle.tca_join.specs.Sets.{has};
 ghost use Rattle.tca_report.specs.declared.report.Identity.{Identity};
@@ -30,6 +30,21 @@ pub(crate) fn disputes_of<A: Allocator + Copy>(
     disputed.sort_unstable();
     disputed.dedup();
     Rows::of_ascending(alloc, disputed)
+}
+
+/// The same, where it may be known that no two have one identity.
+pub(crate) fn disputes_where<A: Allocator + Copy>(
+    reports: &Rows<Report, A>,
+    alone: bool,
+) -> Result<Rows<Identity, A>, AllocError>
+    requires few { length reports.now.rows ≤ most_rows }
+    requires alone { IsTrue alone → disputed reports.now.rows ≡ [] }
+    ensures { IfOk result (λ all. all.rows ≡ disputed reports.now.rows) }
+{
+    if alone {
+        return Ok(Rows::new(reports.allocator()));
+    }
+    disputes_of(reports)
 }
 
 // Each identity that two or more of the reports have: where places lie close together by marks, else by sorting.

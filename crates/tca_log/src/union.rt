@@ -1,18 +1,20 @@
 //! Many reports at once: all of them or none.
-ghost use Rattle.std.specs.Prelude.{◌≡◌, ◌+◌, ◌<◌, ◌≤◌, ◌++◌, [], List, map, length, IfOk, IfErr, OnOk, OnErr, IsOk, None};
+ghost use Rattle.std.specs.Prelude.{◌≡◌, ◌+◌, ◌<◌, ◌≤◌, ◌++◌, [], List, map, length, IfOk, IfErr, OnOk, OnErr, IsOk, IsTrue, None};
 ghost use Rattle.std.specs.List.Sorted.{IsStrictlySortedBy};
 ghost use Rattle.tca_join.specs.Sets.{in_order};
 ghost use Rattle.tca_report.specs.report.Reports.{report_cmp};
 ghost use Rattle.tca_report.specs.report.Identities.{identity_cmp};
 ghost use Rattle.tca_log.specs.Arrivals.{Many, after};
+ghost use Rattle.tca_log.specs.Disputes.{disputed};
 ghost use Rattle.tca_log.specs.Rows.Ordered.{put_each, without_each, AreApart, most_rows};
 ghost use Rattle.tca_log.specs.Faults.{IsUnionRefused, IsRefusedBy};
 ghost use Rattle.tca_log.specs.LogJoin.{log_full};
 ghost use Rattle.tca_log.specs.inside.Logs.{index_cmp, index_rows, IsKept, IsLog};
 
 use crate::additions::{Additions, additions_of};
+use crate::ascending::all_ascend;
 use crate::by_identity::ByIdentity;
-use crate::disputes::disputes_of;
+use crate::disputes::{disputes_of, disputes_where};
 use crate::fault::LogFault;
 use crate::index::index_of;
 use crate::log::Log;
@@ -41,7 +43,13 @@ impl<A: Allocator + Copy> Log<A> {
         let news = other
             .rows
             .difference(self.rows.allocator(), new, &self.rows)?;
-        take_in(&mut self.rows, &mut self.index, &mut self.disputed, news)?;
+        take_in(
+            &mut self.rows,
+            &mut self.index,
+            &mut self.disputed,
+            news,
+            false,
+        )?;
         Ok(new as u32)
     }
 
@@ -63,20 +71,40 @@ impl<A: Allocator + Copy> Log<A> {
         ensures fault { IfErr result (λ e. IsUnionRefused e (in_order report_cmp (self.old ++ reports.items))) }
         ensures nothing { in_order report_cmp (self.old ++ reports.items) ≡ self.old → IsOk result }
     {
-        let news = news_in(self.rows.allocator(), &self.rows, reports)?;
+        let alone = are_alone(&self.rows, &reports);
+        let news = news_in(self.rows.allocator(), &self.rows, reports, alone)?;
         let new = news.len();
         if new == 0 {
             return Ok(0);
         }
-        take_in(&mut self.rows, &mut self.index, &mut self.disputed, news)?;
+        take_in(
+            &mut self.rows,
+            &mut self.index,
+            &mut self.disputed,
+            news,
+            alone,
+        )?;
         Ok(new as u32)
     }
 }
 
-// The reports of a list in order, each once. A list that ascends is that already.
-fn set_of<A: Allocator + Copy>(reports: Vec<Report, A>) -> Vec<Report, A>
+// Whether there are no rows, and the reports ascend so that no two have one identity.
+fn are_alone<A: Allocator + Copy>(rows: &Rows<Report, A>, reports: &[Report]) -> bool
+    ensures none { IsTrue result → rows.now.rows ≡ [] }
+    ensures rises { IsTrue result → IsStrictlySortedBy report_cmp reports.now }
+    ensures alone { IsTrue result → disputed reports.now ≡ [] }
+{
+    rows.len() == 0 && all_ascend(reports)
+}
+
+// The reports of a list in order, each once. A list that ascends is that already, which may be known.
+fn set_of<A: Allocator + Copy>(reports: Vec<Report, A>, ascends: bool) -> Vec<Report, A>
+    requires { IsTrue ascends → IsStrictlySortedBy report_cmp reports.items }
     ensures { result.items ≡ in_order report_cmp reports.items }
 {
+    if ascends {
+        return reports;
+    }
     if ascend(&reports) {
         return reports;
     }
@@ -86,18 +114,20 @@ fn set_of<A: Allocator + Copy>(reports: Vec<Report, A>) -> Vec<Report, A>
     set
 }
 
-// Those of a list that are not among the rows, unless both are too many together.
+// Those of a list, which may be known to ascend, that are not among the rows, unless both are too many together.
 fn news_in<A: Allocator + Copy>(
     alloc: A,
     rows: &Rows<Report, A>,
     reports: Vec<Report, A>,
+    ascends: bool,
 ) -> Result<Rows<Report, A>, LogFault>
+    requires { IsTrue ascends → IsStrictlySortedBy report_cmp reports.items }
     ensures news { IfOk result (λ news. news.rows ≡ without_each report_cmp rows.now.rows (in_order report_cmp reports.items)) }
     ensures few { OnOk result (length rows.now.rows + length (without_each report_cmp rows.now.rows (in_order report_cmp reports.items)) ≤ most_rows) }
     ensures fault { IfErr result (λ e. IsRefusedBy e (length rows.now.rows + length (without_each report_cmp rows.now.rows (in_order report_cmp reports.items)))) }
     ensures nothing { length (without_each report_cmp rows.now.rows (in_order report_cmp reports.items)) ≡ 0 → IsOk result }
 {
-    let set = set_of(reports);
+    let set = set_of(reports, ascends);
     let new = count_new(rows, &set);
     if new > LIMIT - rows.len() {
         return Err(LogFault::Full);
@@ -136,23 +166,26 @@ fn news_of<A: Allocator + Copy>(
     difference(alloc, RowsIter::of(&set), set.len(), new, rows)
 }
 
-// Puts reports that are new into a log's parts. A log without reports takes them as they are, without an index.
+// Puts reports that are new into a log's parts. A log without reports takes them as they are, without an index. It may be known
+// that no two of them have one identity.
 fn take_in<A: Allocator + Copy>(
     rows: &mut Rows<Report, A>,
     index: &mut Option<Rows<ByIdentity, A>>,
     disputed: &mut Rows<Identity, A>,
     news: Rows<Report, A>,
+    alone: bool,
 ) -> Result<(), AllocError>
     requires log { IsKept rows.old.rows (index_rows index.old) disputed.old.rows }
     requires rises { IsStrictlySortedBy report_cmp news.rows }
     requires apart { AreApart report_cmp news.rows rows.old.rows }
     requires few { length rows.old.rows + length news.rows ≤ most_rows }
+    requires alone { IsTrue alone → disputed news.rows ≡ [] }
     ensures ok { OnOk result (rows.new.rows ≡ put_each report_cmp news.rows rows.old.rows) }
     ensures err { OnErr result (rows.new.rows ≡ rows.old.rows) }
     ensures log { IsKept rows.new.rows (index_rows index.new) disputed.new.rows }
 {
     if rows.len() == 0 {
-        *disputed = disputes_of(&news)?;
+        *disputed = disputes_where(&news, alone)?;
         *rows = news;
         *index = None;
         return Ok(());

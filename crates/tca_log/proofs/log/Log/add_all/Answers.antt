@@ -8,7 +8,9 @@ use Rattle.tca_report.specs.report.Reports.{PacketReport, report_cmp}
 use Rattle.tca_report.proofs.lemmas.report.Order.{report_total, report_exact}
 use Rattle.tca_log.specs.Rows.Ordered.{put_each, without_each}
 use Rattle.tca_log.specs.Faults.{IsRefusedBy}
-use Rattle.tca_log.proofs.OrderedRows.Each.{putting_nothing, beyond_apart, beyond_rises}
+use Rattle.tca_log.proofs.OrderedRows.Each.{putting_nothing, without_none, beyond_apart, beyond_rises}
+use Rattle.tca_join.proofs.Merge.{in_order_of_rising}
+use Rattle.tca_log.specs.Disputes.{disputed}
 use Rattle.tca_log.proofs.Uniting.{union_is, union_length}
 use Rattle.tca_log.proofs.Gathering.{union_set}
 use Rattle.tca_log.proofs.log.Log.add_all.Goals as goal
@@ -43,6 +45,21 @@ returns-in_err-news-clause-fault g c =
     rw (← c.self.view_is) (omega (arith, size, ap length same)) in
     let p = err_from_is_err_and c.from_residual.result c.from_residual.ensures.1 in
     rw (p.1, p.2) (subst (λ (n : ℕ). IsRefusedBy c.in_err-news.field-0.0 n) all c.in_err-news.ensures.fault)
+
+pub news_in-news-requires : goal.news_in-news-requires
+news_in-news-requires g c = λ e. rw c.deref.ensures.value at c.are_alone-alone.ensures.rises e
+
+pub take_in-requires-clause-alone : goal.take_in-requires-clause-alone
+take_in-requires-clause-alone g c = λ e.
+    let reports = c.args.reports.items in
+    let none = c.are_alone-alone.ensures.none e in
+    let rises = rw c.deref.ensures.value at c.are_alone-alone.ensures.rises e in
+    let alone = rw c.deref.ensures.value at c.are_alone-alone.ensures.alone e in
+    let all = c.in_ok-news.ensures.news
+    ∙ ap (λ (l : List PacketReport). without_each report_cmp l (in_order report_cmp reports)) none
+    ∙ without_none report_cmp report_total (in_order report_cmp reports)
+    ∙ in_order_of_rising report_cmp report_total report_exact reports rises in
+    ap disputed all ∙ alone
 
 pub take_in-requires-clause-apart : goal.take_in-requires-clause-apart
 take_in-requires-clause-apart g c = rw c.in_ok-news.ensures.news (beyond_apart report_cmp report_total c.self.inside.rows.rows (in_order report_cmp c.args.reports.items))
