@@ -6,3 +6,4 @@ pub mod Terms
 pub mod InTurn
 pub mod Apart
 pub mod Slots
+pub mod AssuredPoints

@@ -13,3 +13,4 @@ pub mod Slots
 pub mod CodePoints
 pub mod MeterSpecs
 pub mod laws
+pub mod inside

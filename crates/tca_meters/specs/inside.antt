@@ -1,0 +1,2 @@
+-- What private functions alone cite. No public contract speaks of it.
+pub mod Assured
