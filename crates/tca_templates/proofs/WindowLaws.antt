@@ -1,7 +1,7 @@
 -- The numbers in the windows of a usual record are those of its fields.
-use Rattle.std.proofs.Common.{◌≡◌, ℕ, zero, suc, ◌+◌, ◌-◌, ◌*◌, ◌/◌, ◌^◌, ◌<◌, ◌≤◌, Bool, true, false, cond, List, length, take, drop, get_or, Option, Some, None, refl, sym, ap, ap₂, subst, ◌∙◌, arith, pow-add}
+use Rattle.std.proofs.Common.{◌≡◌, ℕ, zero, suc, ◌+◌, ◌-◌, ◌*◌, ◌/◌, ◌^◌, ◌<◌, ◌≤◌, Bool, true, false, cond, List, length, take, drop, Option, Some, None, refl, sym, ap, ap₂, subst, ◌∙◌, arith, pow-add}
 use Rattle.std.proofs.Math.Nat.{add-mul, add_assoc, mul_assoc}
-use Rattle.std.specs.Prelude.{◌==◌, slice_index, IfSome, if◌then◌else◌}
+use Rattle.std.specs.Prelude.{◌==◌, slice_index, IfSome}
 use Rattle.std.proofs.lemmas.List.{length-take, length-drop, get_or-drop}
 use Rattle.std.proofs.lemmas.Nat.{div-mul-add}
 use Rattle.byteorder.specs.Endian.{big_from, big_number}
@@ -12,7 +12,7 @@ use Rattle.tca_templates.specs.declared.layout.Spots.{Spots}
 use Rattle.tca_templates.specs.declared.numbers.Numbers.{Numbers}
 use Rattle.tca_templates.specs.declared.numbers.Window.{Window}
 use Rattle.tca_templates.specs.declared.numbers.Usual.{Usual}
-use Rattle.tca_templates.specs.Chosen.{times, sizes, code_points, interfaces, sections, choice, observation_time_milliseconds, ip_diff_serv_code_point}
+use Rattle.tca_templates.specs.Chosen.{times, sizes, code_points, interfaces, sections, choice, observation_time_milliseconds}
 use Rattle.tca_templates.specs.Records.{PlacedView}
 use Rattle.tca_templates.specs.declared.template.FieldSpec.{FieldSpec}
 use Rattle.tca_templates.specs.Numbers.{most_of, IsNumber, IsSize, IsPoint, IsInterface, AreNumbers}

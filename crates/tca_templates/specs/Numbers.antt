@@ -1,5 +1,5 @@
 -- The numbers that a usual record tells of its packet: each stands in a field of its own.
-use Rattle.std.specs.Prelude.{◌≡◌, ◌≤◌, ◌==◌, ℕ, Bool, false, if◌then◌else◌, List, length, Option, Some, None}
+use Rattle.std.specs.Prelude.{◌≡◌, ◌≤◌, ◌==◌, ℕ, false, if◌then◌else◌, List, length, Option, Some, None}
 use Rattle.byteorder.specs.Endian.{big_number}
 use Rattle.tca_templates.specs.declared.numbers.Numbers.{Numbers}
 use Rattle.tca_templates.specs.Records.{PlacedView}

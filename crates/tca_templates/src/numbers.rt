@@ -9,6 +9,7 @@ ghost use Rattle.tca_templates.specs.Chosen.{observation_time_milliseconds};
 ghost use Rattle.tca_templates.specs.declared.layout.Spots.{Spots};
 ghost use Rattle.tca_templates.specs.inside.Windows.{IsWindow, IsSizeWindow, IsPointSpot, IsInterfaceWindow, IsUsual, point_in, number_in};
 
+use crate::elements::{IP_DIFF_SERV_CODE_POINT, OBSERVATION_TIME_MILLISECONDS, TOTAL_LENGTH_IPV4};
 use crate::layout::{Spot, Spots};
 use byteorder::{BigEndian, ByteOrder};
 
@@ -66,7 +67,7 @@ fn usual_time(spot: Option<Spot>) -> Option<usize>
     ensures { IfSome result (λ at. spot ≡ Some (record { element = observation_time_milliseconds; at = at; length = 8 })) }
 {
     let spot = spot?;
-    if spot.element != 323 || spot.length != 8 {
+    if spot.element != OBSERVATION_TIME_MILLISECONDS || spot.length != 8 {
         return None;
     }
     Some(spot.at)
@@ -77,7 +78,7 @@ fn usual_size(spot: Option<Spot>) -> Option<Window>
     ensures { IfSome result (λ w. IsSizeWindow spot w) }
 {
     let spot = spot?;
-    if spot.element == 190 {
+    if spot.element == TOTAL_LENGTH_IPV4 {
         return window_of(spot, 2);
     }
     window_of(spot, 8)
@@ -90,7 +91,7 @@ fn usual_point(spot: Option<Spot>, section: Option<Spot>) -> Option<Option<usize
     let Some(spot) = spot else {
         return if section.is_some() { None } else { Some(None) };
     };
-    if spot.element != 195 || spot.length != 1 {
+    if spot.element != IP_DIFF_SERV_CODE_POINT || spot.length != 1 {
         return None;
     }
     Some(Some(spot.at))

@@ -9,11 +9,11 @@ ghost use Rattle.tca_report.specs.Faults.{reason_number};
 use crate::input::fields::DataRecord;
 use crate::report::{Content, Identity, MOST_DSCP, MOST_OCTETS, Report, TIME_END};
 use byteorder::{BigEndian, ByteOrder};
-use tca_templates::{PlacedFields, Record};
 use tca_templates::elements::{
     IP_CLASS_OF_SERVICE, OBSERVATION_TIME_MICROSECONDS, OBSERVATION_TIME_MILLISECONDS,
     OBSERVATION_TIME_NANOSECONDS, TOTAL_LENGTH_IPV4,
 };
+use tca_templates::{PlacedFields, Record};
 use thiserror::Error;
 
 /// Why a data record is no report.

@@ -1,5 +1,5 @@
 -- Where the numbers of usual records stand. Cited inside this crate alone.
-use Rattle.std.specs.Prelude.{◌≡◌, ℕ, ◌+◌, ◌*◌, ◌/◌, ◌^◌, ◌≤◌, Bool, false, List, length, drop, slice_index, Option, Some, None, IfSome, ⊤}
+use Rattle.std.specs.Prelude.{◌≡◌, ℕ, ◌+◌, ◌*◌, ◌/◌, ◌^◌, ◌≤◌, Bool, false, List, drop, slice_index, Option, Some, None, IfSome, ⊤}
 use Rattle.byteorder.specs.Endian.{big_number}
 use Rattle.tca_templates.specs.declared.layout.Spot.{Spot}
 use Rattle.tca_templates.specs.declared.layout.Spots.{Spots}

@@ -1,5 +1,5 @@
 -- What one record more adds to what was taken.
-use Rattle.std.proofs.Common.{◌≡◌, ◌++◌, ◌∷◌, [], List, Result, Ok, Err, ◌∙◌, ap, sym, arith, append_assoc, length-append}
+use Rattle.std.proofs.Common.{◌≡◌, ◌++◌, ◌∷◌, [], List, Result, Ok, Err, ◌∙◌, ap, sym}
 use Rattle.std.proofs.lemmas.List.{append-nil}
 use Rattle.tca_templates.specs.Records.{PlacedView}
 use Rattle.tca_report.specs.report.Reports.{PacketReport}

@@ -1,16 +1,16 @@
 -- A usual record makes the report of its numbers.
-use Rattle.std.proofs.Common.{◌≡◌, ℕ, ◌≤◌, ◌<◌, ◌^◌, Bool, true, false, cond, List, length, Option, Some, None, Result, Ok, Err, refl, sym, ap, subst, ◌∙◌, arith}
+use Rattle.std.proofs.Common.{◌≡◌, ℕ, Bool, true, false, cond, List, length, Option, Some, None, Result, Ok, refl, sym, ap, ◌∙◌, arith}
 use Rattle.std.proofs.lemmas.Bool.Decides.{nat_tests}
-use Rattle.std.specs.Prelude.{◌==◌, ◌&&◌, not, nat_lt, nat_le, IfSome, option_map, option_and_then, unwrap_or}
+use Rattle.std.specs.Prelude.{◌==◌, ◌&&◌, nat_lt, nat_le, IfSome, option_map, option_and_then, unwrap_or}
 use Rattle.std.specs.Option.{option_or}
 use Rattle.byteorder.specs.Endian.{big_number}
 use Rattle.tca_templates.specs.declared.numbers.Numbers.{Numbers}
-use Rattle.tca_templates.specs.Records.{FieldView, PlacedView}
+use Rattle.tca_templates.specs.Records.{PlacedView}
 use Rattle.tca_templates.specs.Chosen as fields
 use Rattle.tca_templates.specs.Chosen.{choice}
 use Rattle.tca_templates.specs.Numbers.{most_of, IsNumber, IsSize, IsPoint, IsInterface, AreNumbers}
-use Rattle.tca_report.specs.report.Reports.{PacketReport, in_range, ranged, reported, time_end, most_octets, most_dscp}
-use Rattle.tca_report.specs.input.Extract.{unsigned, date_time_milliseconds, time_value, size_value, code_point_value, header_in, time_in, section_in, octets_in, code_point_in, interface_in, judged, identity_in, extract_of}
+use Rattle.tca_report.specs.report.Reports.{PacketReport, ranged, reported, time_end, most_octets, most_dscp}
+use Rattle.tca_report.specs.input.Extract.{unsigned, date_time_milliseconds, size_value, code_point_value, header_in, time_in, section_in, octets_in, code_point_in, interface_in, judged, identity_in, extract_of}
 use Rattle.tca_report.specs.declared.report.Identity.{Identity}
 use Rattle.tca_report.specs.declared.report.Content.{Content}
 use Rattle.tca_report.specs.declared.input.extraction.NotReport.{NotReport}

@@ -1,4 +1,4 @@
-use Rattle.std.proofs.Common.{refl, sym, subst}
+use Rattle.std.proofs.Common.{refl, subst}
 use Rattle.std.specs.Prelude.{IfSome, Option}
 use Rattle.tca_templates.specs.declared.numbers.Usual.{Usual}
 use Rattle.tca_templates.specs.inside.Windows.{IsUsual}
