@@ -2,7 +2,7 @@
 ghost use Rattle.std.specs.Prelude.{◌≡◌, ℕ, ◌<◌, ◌≤◌, IfOk, IfSome, Some, slice_get, length, map, true};
 ghost use Rattle.std.specs.List.{AllByRecursion};
 ghost use Rattle.tca_join.specs.Results.{Gives};
-ghost use Rattle.tca_accounts.specs.Plans.{IsPlan, PlannedAccount, account_of, is_name, owns, pair_of};
+ghost use Rattle.tca_accounts.specs.Plans.{IsPlan, PlannedAccount, account_of, is_name, most_accounts, owns, pair_of};
 ghost use Rattle.tca_accounts.specs.Documents.{plan_with};
 ghost use Rattle.tca_report.specs.report.Reports.{time_end};
 ghost use Rattle.tca_meters.specs.Termed.{IsTermed};
@@ -44,7 +44,7 @@ impl Plan {
         requires some_time { 0 < period }
         requires time { period < time_end }
         requires some { 0 < length accounts.items }
-        requires few { length accounts.items ≤ 256 }
+        requires few { length accounts.items ≤ most_accounts }
         requires named { AllByRecursion (λ a. is_name a.name ≡ true) accounts.items }
         requires owning { AllByRecursion (λ a. 0 < length a.pairs) accounts.items }
         ensures { Gives Memory (λ p. p) result (plan_with period accounts.items) }

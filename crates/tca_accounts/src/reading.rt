@@ -3,6 +3,7 @@ ghost use Rattle.std.specs.Prelude.{◌≡◌, ◌≢◌, ◌<◌, ◌≤◌, �
 ghost use Rattle.toml.specs.Parse.{parse_document};
 ghost use Rattle.toml.specs.View.{items_view, table_view};
 ghost use Rattle.tca_join.specs.Results.{Gives};
+ghost use Rattle.tca_accounts.specs.Plans.{most_accounts};
 ghost use Rattle.tca_accounts.specs.Documents.{accounts_from, plan_in, plan_of};
 ghost use Rattle.tca_accounts.specs.inside.Readings.{plan_from};
 ghost use Rattle.tca_report.specs.report.Reports.{time_end};
@@ -27,7 +28,7 @@ const LONGEST_PERIOD: u64 = TIME_END - 1;
 
 // The accounts that values are.
 fn accounts(alloc: Global, values: &[Value]) -> Result<Vec<Account>, PlanFault>
-    requires { length values.now ≤ 256 }
+    requires { length values.now ≤ most_accounts }
     ensures exact { Gives Memory (λ list. list.items) result (accounts_from 0 (items_view values.now)) }
     ensures count { IfOk result (λ list. length list.items ≡ length values.now) }
 {
@@ -46,7 +47,7 @@ fn plan_from(alloc: Global, period: u64, values: &[Value]) -> Result<Plan, PlanF
     requires some_time { 0 < period }
     requires time { period < time_end }
     requires some { 0 < length values.now }
-    requires few { length values.now ≤ 256 }
+    requires few { length values.now ≤ most_accounts }
     ensures { Gives Memory (λ p. p) result (plan_from period (items_view values.now)) }
 {
     let accounts = accounts(alloc, values)?;
@@ -58,7 +59,7 @@ fn judged_plan(alloc: Global, period: u64, values: &[Value]) -> Result<Plan, Pla
     requires some_time { 0 < period }
     requires time { period < time_end }
     requires some { 0 < length values.now }
-    requires few { length values.now ≤ 256 }
+    requires few { length values.now ≤ most_accounts }
     ensures exact { Gives Memory (λ p. p) result (plan_from period (items_view values.now)) }
     ensures last { IfErr result (λ e. e ≡ PlanFault.Memory → IsOk (plan_from period (items_view values.now))) }
 {

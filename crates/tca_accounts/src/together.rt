@@ -3,7 +3,7 @@ ghost use Rattle.std.specs.Prelude.{◌≡◌, ◌+◌, ◌≤◌, IfOk, IsOk, l
 ghost use Rattle.std.specs.List.{list_any};
 ghost use Rattle.std.specs.Str.{bytes_eq};
 ghost use Rattle.toml.specs.View.{items_view, view};
-ghost use Rattle.tca_accounts.specs.Plans.{owns, same_pair};
+ghost use Rattle.tca_accounts.specs.Plans.{most_accounts, owns, same_pair};
 ghost use Rattle.tca_accounts.specs.Documents.{accounts_from, pairs_of};
 ghost use Rattle.tca_accounts.specs.inside.Readings.{are_accounts, are_few, differ_from, pairs_at, mapped, names_differ, named_in, of_accounts, of_pairs, pairs_differ, pairs_read};
 
@@ -36,7 +36,7 @@ fn pair_values(account: u32, value: &Value) -> Result<&[Value], PlanFault>
 
 // Whether all accounts together have 4,096 pairs at most.
 fn has_few_pairs(values: &[Value]) -> Result<bool, PlanFault>
-    requires { length values.now ≤ 256 }
+    requires { length values.now ≤ most_accounts }
     ensures { result ≡ of_accounts are_few 0 (items_view values.now) }
 {
     let mut account = 0;
@@ -50,7 +50,7 @@ fn has_few_pairs(values: &[Value]) -> Result<bool, PlanFault>
 
 // Whether one of the accounts from this one on has a name.
 fn has_name(first: u32, values: &[Value], name: &str) -> Result<bool, PlanFault>
-    requires { first + length values.now ≤ 256 }
+    requires { first + length values.now ≤ most_accounts }
     ensures { result ≡ of_accounts (list_any (λ a. bytes_eq name.now a.name)) first (items_view values.now) }
 {
     let mut account = first;
@@ -65,7 +65,7 @@ fn has_name(first: u32, values: &[Value], name: &str) -> Result<bool, PlanFault>
 
 // Whether no two accounts have one name.
 fn names_differ(values: &[Value]) -> Result<bool, PlanFault>
-    requires { length values.now ≤ 256 }
+    requires { length values.now ≤ most_accounts }
     ensures { result ≡ of_accounts names_differ 0 (items_view values.now) }
 {
     let mut next = 0;
@@ -92,7 +92,7 @@ fn is_listed(pairs: &[Value], sought: (u32, u32)) -> Result<bool, PlanFault>
 
 // Whether one of the accounts from this one on has a pair.
 fn is_owned(first: u32, values: &[Value], sought: (u32, u32)) -> Result<bool, PlanFault>
-    requires { first + length values.now ≤ 256 }
+    requires { first + length values.now ≤ most_accounts }
     ensures { result ≡ of_accounts (list_any (λ a. owns a sought)) first (items_view values.now) }
 {
     let mut account = first;
@@ -106,7 +106,7 @@ fn is_owned(first: u32, values: &[Value], sought: (u32, u32)) -> Result<bool, Pl
 
 // Whether none of an account's pairs is one behind it, or one of the accounts from the next one on.
 fn differ_from(pairs: &[Value], first: u32, values: &[Value]) -> Result<bool, PlanFault>
-    requires few { first + length values.now ≤ 256 }
+    requires few { first + length values.now ≤ most_accounts }
     requires others { IsOk (accounts_from first (items_view values.now)) }
     ensures { result ≡ differ_from first (items_view values.now) (items_view pairs.now) }
 {
@@ -124,7 +124,7 @@ fn differ_from(pairs: &[Value], first: u32, values: &[Value]) -> Result<bool, Pl
 
 // Whether no pair has two accounts, or one account twice.
 fn pairs_differ(values: &[Value]) -> Result<bool, PlanFault>
-    requires few { length values.now ≤ 256 }
+    requires few { length values.now ≤ most_accounts }
     requires all { IsOk (accounts_from 0 (items_view values.now)) }
     ensures { result ≡ of_accounts pairs_differ 0 (items_view values.now) }
 {
@@ -143,7 +143,7 @@ fn pairs_differ(values: &[Value]) -> Result<bool, PlanFault>
 /// number of pairs, so it is asked only where memory lacks.
 #[cold]
 pub(crate) fn check(values: &[Value]) -> Result<(), PlanFault>
-    requires { length values.now ≤ 256 }
+    requires { length values.now ≤ most_accounts }
     ensures { result ≡ are_accounts (items_view values.now) }
 {
     if !has_few_pairs(values)? {
