@@ -6,4 +6,3 @@ pub mod Terms
 pub mod InTurn
 pub mod Apart
 pub mod Slots
-pub mod AssuredPoints
