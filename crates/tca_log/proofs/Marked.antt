@@ -1,5 +1,5 @@
 -- A mark for each place of a span: how many reports have its identity, up to 2.
-use Rattle.std.proofs.Common.{◌≡◌, ℕ, ◌+◌, ◌-◌, ◌<◌, ◌≤◌, Bool, true, false, ◌||◌, cond, List, [], ◌∷◌, ◌++◌, length, get_or, set, replicate, refl, sym, ap, subst, ◌∙◌, arith, get_or-set_same, get_or-set_other}
+use Rattle.std.proofs.Common.{◌≡◌, ℕ, ◌+◌, ◌-◌, ◌<◌, Bool, true, false, ◌||◌, cond, List, [], ◌∷◌, ◌++◌, length, get_or, set, replicate, refl, sym, ap, ◌∙◌, arith, get_or-set_same, get_or-set_other}
 use Rattle.std.specs.Prelude.{min, nat_lt, nat_eq, ◌≢◌}
 use Rattle.std.specs.List.{AllByRecursion}
 use Rattle.std.specs.Ordering.{eq_by_cmp, is_eq}
@@ -7,7 +7,7 @@ use Rattle.std.specs.Cmp.{Equal-is, tied_itself}
 use Rattle.std.proofs.lemmas.Bool.{false≢true, eqb-true, eqb-false}
 use Rattle.std.proofs.lemmas.List.{get_or-replicate, length-replicate, length-set}
 use borrow.Author.Tests.{ltb-true, ltb-false}
-use Rattle.tca_join.specs.Sets.{has, in_order}
+use Rattle.tca_join.specs.Sets.{has}
 use Rattle.tca_join.proofs.Sets.{has-append}
 use Rattle.tca_report.specs.report.Reports.{PacketReport}
 use Rattle.tca_report.specs.report.Identities.{identity_of, identity_cmp, identity_total}

@@ -5,7 +5,7 @@ ghost use Rattle.tca_join.specs.Sets.{in_order};
 ghost use Rattle.tca_report.specs.report.Reports.{report_cmp};
 ghost use Rattle.tca_report.specs.report.Identities.{identity_cmp};
 ghost use Rattle.tca_log.specs.Arrivals.{Many, after};
-ghost use Rattle.tca_log.specs.Disputes.{disputed};
+ghost use Rattle.tca_log.specs.Disputes as disputes;
 ghost use Rattle.tca_log.specs.Rows.Ordered.{put_each, without_each, AreApart, most_rows};
 ghost use Rattle.tca_log.specs.Faults.{IsUnionRefused, IsRefusedBy};
 ghost use Rattle.tca_log.specs.LogJoin.{log_full};
@@ -92,7 +92,7 @@ impl<A: Allocator + Copy> Log<A> {
 fn are_alone<A: Allocator + Copy>(rows: &Rows<Report, A>, reports: &[Report]) -> bool
     ensures none { IsTrue result → rows.now.rows ≡ [] }
     ensures rises { IsTrue result → IsStrictlySortedBy report_cmp reports.now }
-    ensures alone { IsTrue result → disputed reports.now ≡ [] }
+    ensures alone { IsTrue result → disputes.disputed reports.now ≡ [] }
 {
     rows.len() == 0 && all_ascend(reports)
 }
@@ -179,7 +179,7 @@ fn take_in<A: Allocator + Copy>(
     requires rises { IsStrictlySortedBy report_cmp news.rows }
     requires apart { AreApart report_cmp news.rows rows.old.rows }
     requires few { length rows.old.rows + length news.rows ≤ most_rows }
-    requires alone { IsTrue alone → disputed news.rows ≡ [] }
+    requires alone { IsTrue alone → disputes.disputed news.rows ≡ [] }
     ensures ok { OnOk result (rows.new.rows ≡ put_each report_cmp news.rows rows.old.rows) }
     ensures err { OnErr result (rows.new.rows ≡ rows.old.rows) }
     ensures log { IsKept rows.new.rows (index_rows index.new) disputed.new.rows }

@@ -3,7 +3,6 @@ use Rattle.std.specs.List.{AllByRecursion}
 use Rattle.std.proofs.lemmas.List.{append-nil}
 use Rattle.tca_join.proofs.Sets.{all_more}
 use Rattle.tca_report.specs.report.Reports.{PacketReport}
-use Rattle.tca_report.specs.declared.report.Identity.{Identity}
 use Rattle.tca_report.specs.report.Identities.{identity_of}
 use Rattle.tca_log.specs.inside.Spans.{IsWithin}
 use Rattle.tca_log.proofs.Marked.{all_and_one}

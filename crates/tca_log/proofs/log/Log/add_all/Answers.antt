@@ -46,8 +46,8 @@ returns-in_err-news-clause-fault g c =
     let p = err_from_is_err_and c.from_residual.result c.from_residual.ensures.1 in
     rw (p.1, p.2) (subst (λ (n : ℕ). IsRefusedBy c.in_err-news.field-0.0 n) all c.in_err-news.ensures.fault)
 
-pub news_in-news-requires : goal.news_in-news-requires
-news_in-news-requires g c = λ e. rw c.deref.ensures.value at c.are_alone-alone.ensures.rises e
+pub news_in-requires : goal.news_in-requires
+news_in-requires g c = λ e. rw c.deref.ensures.value at c.are_alone-alone.ensures.rises e
 
 pub take_in-requires-clause-alone : goal.take_in-requires-clause-alone
 take_in-requires-clause-alone g c = λ e.
