@@ -1,5 +1,5 @@
 -- Which plan a text is, and what a command with a plan and inputs is refused for before it writes.
-use Rattle.std.specs.Prelude.{◌≡◌, ◌≢◌, ◌⊎◌, ℕ, true, false, List, None, Ok, Err, IsUtf8}
+use Rattle.std.specs.Prelude.{◌≡◌, ◌≢◌, ◌⊎◌, ℕ, false, List, None, Err, IsUtf8}
 use Rattle.toml.specs.Parse.{parse_document}
 use Rattle.tca_accounts.specs.Plans.{AccountPlan}
 use Rattle.tca_accounts.specs.Documents.{IsPlanOf, plan_in}
