@@ -8,4 +8,4 @@ pub mod Outcomes
 pub mod Noted
 pub mod Planned
 pub mod Endings
-pub mod inside
+pub mod Reads

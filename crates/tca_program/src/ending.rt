@@ -130,7 +130,7 @@ pub fn words_of<R: Env + AllocGlobal>(rt: &R) -> Result<Vec<String>, LineFault>
     }
 }
 
-/// Words as texts.
+/// Words as texts. `AllocError` where a growth was refused.
 pub fn texts_of(alloc: Global, words: &[String]) -> Result<Vec<&str>, AllocError>
     ensures { IfOk result (λ texts. map (λ s. s.now) texts.items ≡ map (λ s. string_bytes s) words.now) }
 {

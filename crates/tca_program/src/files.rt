@@ -1,6 +1,6 @@
 //! The files that a command line names.
 ghost use Rattle.std.specs.Prelude.{◌≡◌, ◌<◌, ◌^◌, IfErr, IfOk, None, Some, length, map};
-ghost use Rattle.tca_program.specs.inside.Reads.{IsFileRefused, IsReadRefused};
+ghost use Rattle.tca_program.specs.Reads.{IsFileRefused, IsReadRefused};
 ghost use Rattle.tca_program.specs.Unions.{write_refusal};
 ghost use Rattle.tca_program.specs.Words.{HaveSessions, texts};
 
@@ -19,7 +19,8 @@ fn read_file<R: Files + AllocGlobal>(rt: &R, path: &str) -> Result<Vec<u8>, Read
     }
 }
 
-/// The octets of a plan's file.
+/// The octets of a plan's file. `read` 1 where it can't be opened or a read failed, 2 where it didn't end within 4,194,304 reads, 3
+/// where a growth was refused, each of no input.
 pub fn read_plan<R: Files + AllocGlobal>(rt: &R, path: &str) -> Result<Vec<u8>, RunFault>
     ensures refused { IfErr result (IsFileRefused None) }
 {
@@ -29,7 +30,7 @@ pub fn read_plan<R: Files + AllocGlobal>(rt: &R, path: &str) -> Result<Vec<u8>, 
     }
 }
 
-/// The octets of an audit's export, number 0, or of its statement, number 1.
+/// The octets of an audit's export, number 0, or of its statement, number 1, refused as [`read_plan`] is, but of that number.
 pub fn read_numbered<R: Files + AllocGlobal>(
     rt: &R,
     number: u32,
@@ -68,7 +69,8 @@ fn read_asked<R: Files + AllocGlobal>(rt: &R, asked: &[Asked<'_>]) -> Result<Vec
     Ok(inputs)
 }
 
-/// The inputs of a command, in the order of its words; the first one whose file can't be read refuses all.
+/// The inputs of a command, in the order of its words. The first one whose file can't be read refuses all, as [`read_plan`] is
+/// refused, but of its number; `memory` 1 of no input where a growth was refused for their list.
 pub fn read_inputs<R: Files + AllocGlobal>(rt: &R, words: &[&str]) -> Result<Vec<Input>, RunFault>
     ensures few { IfOk result (λ inputs. length inputs.items < 2 ^ 32) }
     ensures each { IfOk result (λ inputs. length inputs.items ≡ length words.now) }
@@ -79,7 +81,7 @@ pub fn read_inputs<R: Files + AllocGlobal>(rt: &R, words: &[&str]) -> Result<Vec
     read_asked(rt, &asked)
 }
 
-/// A new or emptied file to write to.
+/// A new or emptied file to write to; `write` 1 where it can't be made.
 pub fn create<R: Files>(rt: &R, path: &str) -> Result<Host<R::File>, RunFault>
     ensures refused { IfErr result (λ e. e ≡ write_refusal) }
 {

@@ -1,5 +1,5 @@
 //! The inputs of a command, united one by one.
-ghost use Rattle.std.specs.Prelude.{◌≡◌, ◌<◌, ◌^◌, ◌++◌, List, Ok, Some, IfErr, IfOk, IsOk, OnOk, false, true, length, MatchResult};
+ghost use Rattle.std.specs.Prelude.{◌≡◌, ◌<◌, ◌^◌, ◌++◌, List, Ok, Some, IfErr, IfOk, IsOk, OnOk, OnErr, false, true, length, MatchResult};
 ghost use Rattle.std.specs.List.Sorted.{IsStrictlySortedBy};
 ghost use Rattle.tca_join.specs.Sets.{in_order};
 ghost use Rattle.tca_report.specs.report.Reports.{PacketReport, report_cmp};
@@ -12,7 +12,9 @@ use std::alloc::Global;
 use tca_log::Log;
 use tca_report::{Input, InputFault, Notes, gather};
 
-/// Adds the reports of input `n`, and gives its notes. An input that has a fault, or whose reports the log doesn't take, is refused.
+/// Adds the reports of input `n`, and gives its notes. An input with a fault is refused for it (`export`, `wire`, `decode` with the
+/// fault's number, `memory` 1), and one whose reports the log doesn't take as `log` 1 where it is full and `log` 2 for want of memory. A
+/// refusal names the input and leaves the log as it was.
 pub fn add_input(alloc: Global, n: u32, input: &Input, log: &mut Log) -> Result<Notes, RunFault>
     ensures exact { MatchResult result (λ _. with_input n log.old (read_input (input_view input.now)) ≡ Ok log.new)
         (λ e. IsRefusedAs e (with_input n log.old (read_input (input_view input.now)))) }
@@ -21,6 +23,7 @@ pub fn add_input(alloc: Global, n: u32, input: &Input, log: &mut Log) -> Result<
     ensures rises { OnOk result (IsStrictlySortedBy report_cmp log.new) }
     ensures noted { IfOk result (λ notes. IsNoted (input_view input.now) notes) }
     ensures named { IfErr result (λ e. e.input ≡ Some n) }
+    ensures kept { OnErr result (log.new ≡ log.old) }
     ensures no_write { IfErr result (λ e. is_write e ≡ false) }
     // Want of memory comes behind each fault of the input that stands before it, and behind a log that is full.
     ensures log_memory { IfErr result (λ e. is_log_memory e ≡ true → IsOk (with_input n log.old (read_input (input_view input.now)))) }
@@ -42,7 +45,7 @@ pub fn add_input(alloc: Global, n: u32, input: &Input, log: &mut Log) -> Result<
 
 /// The union of the inputs' reports, and the notes of each input, in order. Each input is gathered and
 /// added before the next is looked at. The first input that has a fault, or whose reports the log
-/// doesn't take, refuses all.
+/// doesn't take, refuses all as [`add_input`] does; so does want of memory for an input's notes, as `memory` 1 of that input.
 pub fn unite(alloc: Global, inputs: &[Input]) -> Result<(Log, Vec<Notes>), RunFault>
     requires { length inputs.now < 2 ^ 32 }
     ensures united { IfOk result (λ x. IsUniting (views_of inputs.now) x.0 x.1.items) }

@@ -55,7 +55,7 @@ pub fn split_word(word: &str) -> (u32, &str)
     }
 }
 
-/// What the words of inputs ask for, in their order.
+/// What the words of inputs ask for, in their order. `AllocError` where a growth was refused.
 pub fn asked_by<'a>(alloc: Global, words: &[&'a str]) -> Result<Vec<Asked<'a>>, AllocError>
     ensures { IfOk result (λ all. AreAsked (texts words.now) all.items) }
 {

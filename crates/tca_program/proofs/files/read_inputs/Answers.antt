@@ -5,7 +5,7 @@ use Rattle.std.proofs.lemmas.List.{length-map}
 use Rattle.std.proofs.lemmas.Result.{IfOk-weaker}
 use Rattle.std.proofs.lemmas.Slice.Zip.{AllZip-long}
 use Rattle.tca_report.specs.declared.input.Input.{Input}
-use Rattle.tca_program.specs.inside.Reads.{IsReadRefused}
+use Rattle.tca_program.specs.Reads.{IsReadRefused}
 use Rattle.tca_program.specs.Words.{AreAsked, HaveSessions, IsSplit, texts}
 use Rattle.tca_program.specs.declared.word.Asked.{Asked}
 use Rattle.tca_program.proofs.Asking.{as_many, have_sessions}

@@ -1,2 +1,0 @@
--- What private functions and invariants alone cite. No public contract speaks of it.
-pub mod Reads
