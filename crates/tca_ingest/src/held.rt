@@ -45,7 +45,7 @@ impl<L: Side> Model for Held<L> {
     ghost use Rattle.std.specs.Prelude.{◌≡◌, ◌+◌, length};
     ghost use Rattle.tca_ingest.specs.EntryViews.{entry_views};
     ghost use Rattle.tca_ingest.specs.Journals.{IsHistory};
-    ghost use Rattle.tca_ingest.specs.Shares.{HeldView};
+    ghost use Rattle.tca_ingest.specs.Shares.{HeldView, ledger_parts};
 
     ghost Value = { HeldView };
 
