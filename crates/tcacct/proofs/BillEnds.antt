@@ -71,6 +71,7 @@ module _ (plan : List ℕ) (inputs : List InputView) (made : Result Prepared Run
       }
 
   pub plain_cut_off : IfOk made (λ (m : Prepared). united inputs ≡ Ok m.reports.items) → (old new : Outlets) → IsPutInPart made old new → IsPlainCutOff plan inputs old new
+  unfolding bill_cut_off
   plain_cut_off taken old new put = (bill_cut_off old new put, subst (λ (r : Result Prepared RunFault). IfOk r (λ (m : Prepared). united inputs ≡ Ok m.reports.items)) put.is taken)
 
 -- the refusal of what was to be prepared, or of a write
