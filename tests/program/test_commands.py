@@ -1,12 +1,27 @@
 """Each command over real files: status, standard output, standard error, and files afterwards."""
 from model import Account, Meter, Plan, capture, export, statement
-from program import ProgramTest
+from program import ROOT, ProgramTest
 from rows import (FIRST, LATE, LINES, ONE, OTHER, PLAN, SECOND, SHORT, STATEMENT, TERMED, THIRD, THREE, THREE_1, THREE_2, TIME)
 
 SPEC = "rfc2697:1000:2000:1000:blind"
 
 
+def noted(n):
+    """A capture of one report, with notes: n + 1 records that are none, n skipped sets, and one set of an unknown template."""
+    flows = [(TIME, 1500, 64, 1)] * (n + 1)  # a code point above 63: no report
+    skipped = bytes.fromhex("00040004") * n
+    unknown = bytes.fromhex("012c0004")
+    octets = capture(7, 100 * n, flows) + capture(7, 100 * n + 50, [(TIME + n, 60, 0, 1)])
+    return octets + bytes.fromhex("000a") + (16 + len(skipped) + 4).to_bytes(2, "big") + bytes(8) + (7).to_bytes(4, "big") + skipped + unknown
+
+
 class Meters(ProgramTest):
+    def test_the_export_beside_the_stored_run(self):
+        octets = (ROOT / "crates/tcacct/data/three.tcax").read_bytes()
+        self.assertEqual(octets, THREE_1)
+        self.write("three.tcax", octets)
+        self.assert_done(self.run_program("meter", SPEC, "three.tcax"), LINES)
+
     def test_exports_of_both_versions(self):
         self.write("old", THREE_1)
         self.write("new", THREE_2)
@@ -17,6 +32,10 @@ class Meters(ProgramTest):
     def test_a_capture(self):
         self.write("one", ONE)
         self.assert_done(self.run_program("meter", SPEC, "one"), b"green 1500 1\nyellow 0 0\nred 0 0\n")
+
+    def test_prints_no_notes(self):
+        self.write("n", noted(2))
+        self.assert_done(self.run_program("meter", SPEC, "n"), b"green 60 1\nyellow 0 0\nred 0 0\n")
 
     def test_an_empty_file(self):
         self.write("none", b"")
@@ -59,6 +78,11 @@ class Combines(ProgramTest):
         self.write("x", export([]))
         self.assert_done(self.run_program("combine", "out", "x"), b"reports 0\n")
         self.assertEqual(self.read("out"), export([]))
+
+    def test_prints_no_notes(self):
+        names = [self.write(f"n{n}", noted(n)) for n in range(3)]
+        self.assert_done(self.run_program("combine", "out", *names), b"reports 3\n")
+        self.assertEqual(self.read("out"), export([(TIME + n, 7, 0, 100 * n + 50, 60, 0, 1) for n in range(3)]))
 
     def test_more_words_than_forty(self):
         rows = [(TIME + n, 7, 0, n, 100 + n, 0, 1) for n in range(100)]
@@ -163,12 +187,7 @@ class Bills(ProgramTest):
     def test_notes_of_each_input(self):
         words, lines = [], []
         for n in range(7):
-            flows = [(TIME, 1500, 64, 1)] * (n + 1)  # a code point above 63: no report
-            skipped = bytes.fromhex("00040004") * n
-            unknown = bytes.fromhex("012c0004")
-            octets = capture(7, 100 * n, flows) + capture(7, 100 * n + 50, [(TIME + n, 60, 0, 1)])
-            octets += bytes.fromhex("000a") + (16 + len(skipped) + 4).to_bytes(2, "big") + bytes(8) + (7).to_bytes(4, "big") + skipped + unknown
-            words.append(f"{n}@{self.write(f'n{n}', octets)}")
+            words.append(f"{n}@{self.write(f'n{n}', noted(n))}")
             lines.append(f"tcacct: {words[-1]}: notes {n + 1} 1 {n}\n")
         self.write("quiet", THREE_2)
         run = self.run_program("bill", "plan", *words, "quiet")

@@ -9,7 +9,7 @@ use crate::{Folder, Parts, SplitFault, split};
 use indexmap::IndexMap;
 use std::alloc::Global;
 use std::io;
-use tca_report::Host;
+use tca_report::{Host, ReadFault};
 use tca_wire::WireFault;
 
 // Files in memory, which take three octets at a time.
@@ -146,4 +146,41 @@ fn nothing_of_a_capture_that_is_cut_is_written(rt: HostRuntime) {
     let cut = CAPTURE.get(..30).unwrap_or(b"");
     let short = SplitFault::Wire(WireFault::Short);
     assert!(rt; is_refused(rt.alloc(), cut, &mut folder, short) && folder.files.is_empty());
+}
+
+// The faults, each with its text; that of a read or of a framing is the text of what it has.
+const FAULTS: [(SplitFault, &str); 7] = [
+    (SplitFault::Read(ReadFault::Read), "the reader failed"),
+    (
+        SplitFault::Wire(WireFault::Short),
+        "the octets end before the message does",
+    ),
+    (
+        SplitFault::Limits,
+        "the capture has more than 4096 observation domains",
+    ),
+    (
+        SplitFault::Exists,
+        "a file of an observation domain's name is there already",
+    ),
+    (
+        SplitFault::Changed,
+        "the capture changed between two readings",
+    ),
+    (SplitFault::Write, "a file couldn't be written"),
+    (SplitFault::Memory, "out of memory"),
+];
+
+fn says(alloc: Global, fault: SplitFault, text: &str) -> bool {
+    match format!(in alloc; "{fault}") {
+        Ok(said) => said.as_str() == text,
+        Err(_) => false,
+    }
+}
+
+#[test]
+fn faults_have_their_texts(rt: HostRuntime) {
+    for (fault, text) in FAULTS {
+        assert!(rt; says(rt.alloc(), fault, text));
+    }
 }

@@ -239,15 +239,19 @@ fn faults_have_their_numbers_and_texts(rt: HostRuntime) {
     }
 }
 
-// A writer with room for some octets, which takes one at a time.
+// A writer with room for some octets, which takes one at a time. Then it fails, or takes none.
 #[derive(Drop)]
 struct Narrow {
     taken: Vec<u8>,
     room: usize,
+    fails: bool,
 }
 
 impl io::Write for Narrow {
     fn write(&mut self, buf: &[u8]) -> io::Result<usize> {
+        if self.fails && self.room == 0 {
+            return Err(io::Error::from(io::ErrorKind::Other));
+        }
         let n = buf.len().min(1).min(self.room);
         self.taken.extend_from_slice(&buf[..n])?;
         self.room -= n;
@@ -260,10 +264,11 @@ impl io::Write for Narrow {
 }
 
 // Whether a writer with this room takes so many octets, and is told so.
-fn goes_out(alloc: Global, statement: &Statement, room: usize) -> bool {
+fn goes_out(alloc: Global, statement: &Statement, room: usize, fails: bool) -> bool {
     let mut out = Host::new(Narrow {
         taken: Vec::new(alloc),
         room,
+        fails,
     });
     let told = match render(statement, &mut out) {
         Ok(()) => false,
@@ -277,8 +282,9 @@ fn goes_out(alloc: Global, statement: &Statement, room: usize) -> bool {
 fn goes_out_cut(alloc: Global) -> Option<bool> {
     let log = logged(alloc, &FIRST)?;
     let statement = stated(alloc, &log)?;
-    let cut = goes_out(alloc, &statement, 14) && goes_out(alloc, &statement, 143);
-    Some(cut && goes_out(alloc, &statement, 0))
+    let cut = goes_out(alloc, &statement, 14, true) && goes_out(alloc, &statement, 143, true);
+    let full = goes_out(alloc, &statement, 14, false) && goes_out(alloc, &statement, 143, false);
+    Some(cut && full && goes_out(alloc, &statement, 0, false))
 }
 
 #[test]

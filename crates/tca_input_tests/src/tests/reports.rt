@@ -312,6 +312,10 @@ fn reports_are_refused(rt: HostRuntime) {
         assert!(rt; pair_is_refused(rt.alloc(), three, second, first, order));
         assert!(rt; refuses_a_code_point(rt.alloc(), three, size));
     }
+    for (one, size) in [(one_without_session(), 25), (one_report(), 29)] {
+        let only = record(one, size, 0);
+        assert!(rt; pair_is_refused(rt.alloc(), one, only, only, order));
+    }
     let three = three_sessions();
     for (first, second) in [(1, 0), (2, 1), (2, 0)] {
         let (first, second) = (record(three, 29, first), record(three, 29, second));

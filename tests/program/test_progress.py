@@ -1,0 +1,79 @@
+"""How far a long command is, by `--progress`: a small library before the C library is the clock."""
+import os
+import random
+import shutil
+import subprocess
+import tempfile
+from pathlib import Path
+
+from program import TOOL, ProgramTest
+from test_page import ROW, any_sums, statement
+from test_split import message
+
+MEBIBYTE = 1_048_576
+# So many octets are read at a time.
+PIECE = 65_536
+
+
+class Progress(ProgramTest):
+    @classmethod
+    def setUpClass(cls):
+        cls.tools = Path(tempfile.mkdtemp(prefix="clock-"))
+        cls.addClassCleanup(shutil.rmtree, cls.tools, ignore_errors=True)
+        cls.library = cls.tools / "clock.so"
+        source = Path(__file__).resolve().parent / "clock.c"
+        subprocess.run(["cc", "-shared", "-fPIC", "-O1", "-o", cls.library, source], check=True)
+
+    def run_by_clock(self, step, *words):
+        """A run whose clock goes on by so many milliseconds each time it is asked: at the start, and then at each piece."""
+        settings = {**os.environ, "LD_PRELOAD": str(self.library), "STEP": str(step)}
+        return self.run_program(*words, program=TOOL, env=settings)
+
+    def split(self, step, *options):
+        """What is told of a split of 8 MiB and a half, whose files are there as without a clock."""
+        parts = self.folder / "parts"
+        shutil.rmtree(parts, ignore_errors=True)
+        parts.mkdir()
+        messages = [message(n % 3, n.to_bytes(4, "big") * 250) for n in range(8772)]
+        self.write("capture", b"".join(messages))
+        run = self.run_by_clock(step, "split", *options, "parts", "capture")
+        self.assertEqual((run.status, run.out), (0, b"domains 3\nmessages 8772\n"))
+        for domain in range(3):
+            self.assertEqual(self.read(f"parts/{domain}.ipfix"), b"".join(messages[domain::3]))
+        return run.err.decode()
+
+    def lines(self, every):
+        """A line at each so many-th piece of that capture; at its end it is asked once more, and no octet comes."""
+        whole = 8772 * 1016
+        done = [*range(PIECE, whole, PIECE), whole, whole]
+        return "".join(f"tcatool: split: {octets // MEBIBYTE} of 8 MiB\n" for octets in done[every - 1::every])
+
+    def test_a_split_once_a_second(self):
+        self.assertEqual(self.split(1000, "--progress"), self.lines(1))
+        self.assertEqual(self.split(999, "--progress"), self.lines(2))
+        self.assertEqual(self.split(250, "--progress"), self.lines(4))
+        self.assertEqual(self.split(60, "--progress"), self.lines(17))
+
+    def test_a_split_within_a_second(self):
+        self.assertEqual(self.split(7, "--progress"), "")
+        self.write("small", message(7))
+        shutil.rmtree(self.folder / "parts")
+        (self.folder / "parts").mkdir()
+        self.assert_done(self.run_program("split", "--progress", "parts", "small", program=TOOL), b"domains 1\nmessages 1\n")
+
+    def test_a_split_that_is_not_asked(self):
+        self.assertEqual(self.split(1000), "")
+
+    def test_a_page(self):
+        numbers = random.Random(22)
+        large = [(f"account_{n}", [(span, any_sums(numbers)) for span in range(1500)]) for n in range(3)]
+        for accounts in (ROW, large):
+            self.write("statement", statement(3_600_000, accounts))
+            self.run_program("page", "out", "statement", program=TOOL)
+            whole = self.read("out")
+            line = f"tcatool: page: {len(whole) // MEBIBYTE} MiB\n".encode()
+            for step, options, err in ((1000, ["--progress"], line), (999, ["--progress"], b""), (1000, [], b"")):
+                (self.folder / "out").unlink()
+                self.assert_done(self.run_by_clock(step, "page", *options, "out", "statement"), b"", err)
+                self.assertEqual(self.read("out"), whole)
+        self.assertGreater(len(whole), MEBIBYTE)
