@@ -70,8 +70,9 @@ fn agrees(verdict: Verdict) -> bool
 /// plan, else `differs at` and the first octet that differs, counted from 0, or the shorter text's length. Answers whether it
 /// agrees.
 ///
-/// The plan is judged first, then the export; want of memory behind the plan is told only where the export has no fault. A refusal
-/// but that of a write leaves `out` as it was; that of a write says that only a part of the line went out.
+/// The plan is judged first, then the export. Want of memory may be told while the plan is read, whatever the export is; behind the
+/// plan it is told only where the export has no fault, which is proved inside and can't be said of this call. A refusal but that of a
+/// write leaves `out` as it was; that of a write says that only a part of the line went out.
 pub fn run_audit<W: Write>(
     alloc: Global,
     plan: &[u8],
