@@ -1,13 +1,13 @@
 -- The members of a sorted list that stand there more than once.
-use Rattle.std.proofs.Common.{◌≡◌, ◌≢◌, ℕ, zero, suc, ◌+◌, ◌<◌, ◌≤◌, Bool, true, false, not, ◌&&◌, ◌||◌, cond, List, [], ◌∷◌, length, drop, get_or, Result, Ok, Err, ◌++◌, append_assoc, refl, sym, ap, subst, ◌∙◌, arith}
+use Rattle.std.proofs.Common.{◌≡◌, ◌≢◌, ℕ, zero, suc, ◌+◌, ◌-◌, ◌<◌, ◌≤◌, Bool, true, false, not, ◌&&◌, ◌||◌, cond, List, [], ◌∷◌, length, drop, take, get_or, Some, Result, Ok, Err, ◌++◌, append_assoc, refl, sym, ap, subst, ◌∙◌, arith}
 use Rattle.std.specs.Prelude.{⊤, nat_lt, nat_eq, map, filter, is_ok}
 use Rattle.std.specs.List.{AllByRecursion, count_by, list_any}
 use Rattle.std.specs.List.Sorted.{IsBinarySearchResult, IsPermutation, IsSearchInRange, IsSorted, IsStrictlySortedBy}
-use Rattle.std.specs.Ordering.{eq_by_cmp, is_eq, is_lt, ordering_reverse}
+use Rattle.std.specs.Ordering.{eq_by_cmp, is_eq, is_le, is_lt, is_some_and, ordering_reverse}
 use Rattle.std.specs.declared.cmp.Ordering.TheVariants.{Less, Equal, Greater}
 use Rattle.std.proofs.lemmas.Bool.Decides.{nat_tests}
 use Rattle.std.proofs.lemmas.Bool.{lt-ltb, eqb-true, eqb-false, false≢true}
-use Rattle.std.proofs.lemmas.List.{append-nil, drop-drop, drop_all, drop_more}
+use Rattle.std.proofs.lemmas.List.{append-nil, drop-drop, drop_all, drop_more, get_or-map, length-map}
 use Rattle.std.proofs.lemmas.List.Recursion.{is_count_by}
 use Rattle.std.proofs.lemmas.List.Sorted.{sum_by-IsPermutation}
 use Rattle.tca_join.specs.Sets.{has}
@@ -19,6 +19,8 @@ use Rattle.tca_report.proofs.lemmas.report.Identities.{identity_exact}
 use Rattle.tca_log.specs.Disputes.{contents, disputed, has_identity}
 use Rattle.tca_log.proofs.Contents.{disputed_is, tests_alike}
 use Rattle.tca_log.proofs.Filters.{alike}
+use Rattle.tca_log.proofs.AscendingPlaces.{none_disputed}
+use Rattle.tca_log.proofs.OrderedRows.Rising.{rises_first, rises_more}
 use Rattle.tca_join.proofs.Search.{found_at, gap_at, searchable}
 use Rattle.tca_audit.specs.inside.Repeats.{begins_with, repeats}
 
@@ -202,6 +204,41 @@ repeats_are rs ids p sorted =
     disputed_is rs (repeats ids) (rises_repeats ids r) (λ i.
     has_repeats ids r i
     ∙ ap (nat_lt 1) (times_count i ids ∙ sum_by-IsPermutation (λ j. cond (same i j) 1 0) (map identity_of rs) ids p ∙ sym (times_count i (map identity_of rs)) ∙ times_of rs i))
+
+-- in a list that strictly rises, none stands twice
+once : (xs : List Identity) → IsStrictlySortedBy identity_cmp xs → (i : Identity) → times xs i ≤ 1
+unfolding IsStrictlySortedBy
+once [] h i = omega arith
+once (x ∷ xs) h i = elim (same i x) as (λ b. same i x ≡ b → cond b 1 0 + times xs i ≤ 1) [
+  | true ↦ λ e. let none : times xs i ≡ 0 = subst (λ j. times xs j ≡ 0) (sym (same_means i x e)) (none_below x xs h.0) in omega (arith, none)
+  | false ↦ λ e. omega (arith, once xs h.1 i)
+] refl
+
+-- where the identities of reports strictly rise, none is disputed
+pub none_where_they_rise : (rs : List PacketReport) → IsStrictlySortedBy identity_cmp (map identity_of rs) → [] ≡ disputed rs
+none_where_they_rise rs h = sym (none_disputed rs (λ i. subst (λ n. n ≤ 1) (times_of rs i) (once (map identity_of rs) h i)))
+
+-- what isn't at most another is above it
+above_other : (x y : Identity) → is_some_and is_le (Some (identity_cmp y x)) ≡ false → is_lt (identity_cmp x y) ≡ true
+above_other x y e =
+    elim (identity_cmp y x) as (λ o. identity_cmp y x ≡ o → is_le o ≡ false → is_lt (identity_cmp x y) ≡ true) [
+      | Less ↦ λ f g. absurd cc
+      | Equal ↦ λ f g. absurd cc
+      | Greater ↦ λ f g. ap is_lt (identity_total.antisymm x y ∙ ap ordering_reverse f)
+    ] refl e
+
+-- one report more, whose identity isn't at most that of the one before it
+pub rises_by_one : (rs : List PacketReport) (i : ℕ) (x y : PacketReport) → 0 < i → i < length rs → x ≡ get_or rs (i - 1) x → y ≡ get_or rs i y
+    → is_some_and is_le (Some (identity_cmp (identity_of y) (identity_of x))) ≡ false
+    → IsStrictlySortedBy identity_cmp (take i (map identity_of rs)) → IsStrictlySortedBy identity_cmp (take (i + 1) (map identity_of rs))
+rises_by_one rs i x y some h is next e =
+    rises_more identity_cmp identity_total (map identity_of rs) i (identity_of x) (identity_of y) some (rw (length-map rs identity_of) h)
+    (ap identity_of is ∙ sym (get_or-map identity_of rs (i - 1) x (identity_of x) (omega (arith, h))))
+    (ap identity_of next ∙ sym (get_or-map identity_of rs i y (identity_of y) h))
+    (above_other (identity_of x) (identity_of y) e)
+
+pub rises_at_first : (rs : List PacketReport) → IsStrictlySortedBy identity_cmp (take 1 (map identity_of rs))
+rises_at_first rs = rises_first identity_cmp identity_total (map identity_of rs)
 
 -- a list from a place on, by what stands there
 pub drop_read : {X : Type 0} (xs : List X) (i : ℕ) (x : X) → i < length xs → x ≡ get_or xs i x → drop i xs ≡ x ∷ drop (i + 1) xs

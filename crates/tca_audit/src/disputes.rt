@@ -1,5 +1,5 @@
 //! Which identities are disputed.
-ghost use Rattle.std.specs.Prelude.{◌≡◌, ◌≤◌, IfOk, drop, length, map};
+ghost use Rattle.std.specs.Prelude.{◌≡◌, ◌≤◌, IfOk, IsTrue, drop, length, map};
 ghost use Rattle.std.specs.List.Sorted.{IsPermutation, IsSorted, IsStrictlySortedBy};
 ghost use Rattle.tca_join.specs.Sets.{has};
 ghost use Rattle.tca_report.specs.report.Identities.{identity_cmp, identity_of};
@@ -17,6 +17,9 @@ pub(crate) fn disputed_identities(
     ensures disputed { IfOk result (λ list. list.items ≡ disputed reports.now) }
     ensures few { IfOk result (λ list. length list.items ≤ length reports.now) }
 {
+    if identities_ascend(reports) {
+        return Ok(Vec::new(alloc));
+    }
     let mut identities = identities_of(alloc, reports)?;
     identities.sort_unstable();
     repeated(alloc, &identities)
@@ -28,6 +31,18 @@ pub(crate) fn is_among(identities: &[Identity], identity: Identity) -> bool
     ensures { result ≡ has identity_cmp identities.now identity }
 {
     identities.binary_search(&identity).is_ok()
+}
+
+// Whether each report's identity is below the next one's. Then no two have one identity, and no list of them is needed.
+fn identities_ascend(reports: &[Report]) -> bool
+    ensures { IsTrue result → IsStrictlySortedBy identity_cmp (map identity_of reports.now) }
+{
+    for at in 1..reports.len() {
+        if reports[at].identity() <= reports[at - 1].identity() {
+            return false;
+        }
+    }
+    true
 }
 
 // The identity of each report.
