@@ -13,3 +13,4 @@ pub mod Wanting
 pub mod Others
 pub mod InForm
 pub mod Shown
+pub mod OneReading
