@@ -14,3 +14,4 @@ pub mod Others
 pub mod InForm
 pub mod Shown
 pub mod OneReading
+pub mod Beginning
