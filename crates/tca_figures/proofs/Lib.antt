@@ -13,3 +13,5 @@ pub mod Wanting
 pub mod Others
 pub mod InForm
 pub mod Shown
+pub mod OneReading
+pub mod Beginning

@@ -6,6 +6,7 @@ use Rattle.std.specs.List.Sorted.{IsStrictlySortedBy}
 use Rattle.std.proofs.lemmas.Grind.{flat_map-append}
 use Rattle.std.proofs.lemmas.List.{append-nil, append_assoc, length-append, map-append}
 use Rattle.std.proofs.lemmas.List.Splits.{join_with_byte-slice_split}
+use Rattle.tca_figures.specs.Begun.{IsAccountButForTotal}
 use Rattle.tca_figures.specs.Figures.{AreApart, AreFigures, Ascend, IsAccount, IsSpan, IsStatement, IsSummed, Stated, StatedAccount}
 use Rattle.tca_figures.specs.Lines.{IsTextOf, account_lines, name_line, number_line, octets_of, span_line, statement_lines, title_line, total_line}
 use Rattle.tca_figures.specs.Progress.{Follow, FollowsAt, IsOpened, IsSound, Progress, closed, has_name, opened, unread}
@@ -19,7 +20,7 @@ use Rattle.tca_figures.specs.declared.reader.Stage.TheVariants as stages
 use Rattle.tca_figures.proofs.Ascending.{all_push, apart_push, ascend_push}
 
 -- the lines in front of the first account
-abbrev opening : Stated → List (List ℕ) → List (List ℕ)
+abbrev pub opening : Stated → List (List ℕ) → List (List ℕ)
 opening s lines =
     title_line
     ∷ number_line (codes "period") s.period
@@ -28,11 +29,11 @@ opening s lines =
     ∷ number_line (codes "unassigned") s.unassigned
     ∷ lines
 
-abbrev lines_of : List StatedAccount → List (List ℕ)
+abbrev pub lines_of : List StatedAccount → List (List ℕ)
 lines_of accounts = flat_map account_lines accounts
 
 -- the lines that say what is read, by the kind of line that is next
-abbrev LinesAt : Stage → Progress → List (List ℕ)
+abbrev pub LinesAt : Stage → Progress → List (List ℕ)
 LinesAt stages.Title p = []
 LinesAt stages.Period p = title_line ∷ []
 LinesAt stages.Reports p = title_line ∷ number_line (codes "period") p.stated.period ∷ []
@@ -44,36 +45,29 @@ LinesAt stages.Total p = opening p.stated (lines_of p.stated.accounts ++ name_li
 LinesAt stages.Spans p = opening p.stated (lines_of (p.stated.accounts ++ p.account ∷ []))
 LinesAt stages.Ended p = statement_lines p.stated
 
--- an account that is in form, but for its total
-record IsRead (period : ℕ) (a : StatedAccount) : Type 0 where
-  name : is_name a.name ≡ true
-  total : AreFigures a.total
-  spans : AllByRecursion (IsSpan period) a.spans
-  ascend : Ascend a.spans
-
-abbrev AreSmall : Stated → Type 0
+abbrev pub AreSmall : Stated → Type 0
 AreSmall s = (s.reports < 2 ^ 64) × (s.disputed < 2 ^ 64) × (s.unassigned < 2 ^ 64)
 
-abbrev IsTimed : Stated → Type 0
+abbrev pub IsTimed : Stated → Type 0
 IsTimed s = AreSmall s × (0 < s.period) × (s.period < time_end)
 
 -- the accounts whose lines are all read
-record AreClosed (s : Stated) : Type 0 where
-  timed : IsTimed s
-  few : length s.accounts ≤ 256
-  accounts : AllByRecursion (IsRead s.period) s.accounts
-  apart : AreApart s.accounts
+pub record AreClosed (s : Stated) : Type 0 where
+  pub timed : IsTimed s
+  pub few : length s.accounts ≤ 256
+  pub accounts : AllByRecursion (IsAccountButForTotal s.period) s.accounts
+  pub apart : AreApart s.accounts
 
 -- and the one whose lines are being read
-record IsOpen (p : Progress) : Type 0 where
-  closed : AreClosed p.stated
-  room : length p.stated.accounts < 256
-  name : is_name p.account.name ≡ true
-  new : has_name p.account.name p.stated.accounts ≡ false
-  spans : AllByRecursion (IsSpan p.stated.period) p.account.spans
-  ascend : Ascend p.account.spans
+pub record IsOpen (p : Progress) : Type 0 where
+  pub closed : AreClosed p.stated
+  pub room : length p.stated.accounts < 256
+  pub name : is_name p.account.name ≡ true
+  pub new : has_name p.account.name p.stated.accounts ≡ false
+  pub spans : AllByRecursion (IsSpan p.stated.period) p.account.spans
+  pub ascend : Ascend p.account.spans
 
-abbrev FormAt : Stage → Progress → Type 0
+abbrev pub FormAt : Stage → Progress → Type 0
 FormAt stages.Title p = (p.stated.accounts ≡ []) × AreSmall p.stated
 FormAt stages.Period p = (p.stated.accounts ≡ []) × AreSmall p.stated
 FormAt stages.Reports p = (p.stated.accounts ≡ []) × IsTimed p.stated
@@ -84,25 +78,25 @@ FormAt stages.Total p = IsOpen p × (p.account.spans ≡ [])
 FormAt stages.Spans p = IsOpen p × AreFigures p.account.total
 FormAt stages.Ended p = AreClosed p.stated × (0 < length p.stated.accounts)
 
-abbrev Form : Progress → Type 0
+abbrev pub Form : Progress → Type 0
 Form p = FormAt p.stage p
 
-abbrev Lines : Progress → List (List ℕ)
+abbrev pub Lines : Progress → List (List ℕ)
 Lines p = LinesAt p.stage p
 
 -- with one line more
-abbrev IsNext : List (List ℕ) → List ℕ → Progress → Type 0
+abbrev pub IsNext : List (List ℕ) → List ℕ → Progress → Type 0
 IsNext before line q = (Lines q ≡ before ++ line ∷ []) × Form q
 
 nil_apart : AreApart []
 unfolding IsDistinct
 nil_apart = tt
 
-read : (p : Progress) → IsOpen p → AreFigures p.account.total → AreClosed (closed p).stated
+pub read : (p : Progress) → IsOpen p → AreFigures p.account.total → AreClosed (closed p).stated
 read p o total = record {
   timed = o.closed.timed;
   few = omega (arith, o.room, length-append p.stated.accounts (p.account ∷ []));
-  accounts = all_push (IsRead p.stated.period) p.stated.accounts p.account o.closed.accounts
+  accounts = all_push (IsAccountButForTotal p.stated.period) p.stated.accounts p.account o.closed.accounts
       (record { name = o.name; total = total; spans = o.spans; ascend = o.ascend });
   apart = apart_push p.stated.accounts p.account o.closed.apart o.new;
 }
@@ -112,10 +106,10 @@ unfolding IsStrictlySortedBy
 begun p line q c h = record { closed = c; room = h.few; name = h.is_name; new = h.new; spans = tt; ascend = tt }
 
 -- the lines of one account more
-one_more : (accounts : List StatedAccount) (a : StatedAccount) → lines_of (accounts ++ a ∷ []) ≡ lines_of accounts ++ account_lines a
+pub one_more : (accounts : List StatedAccount) (a : StatedAccount) → lines_of (accounts ++ a ∷ []) ≡ lines_of accounts ++ account_lines a
 one_more accounts a = flat_map-append account_lines accounts (a ∷ []) ∙ ap (λ z. lines_of accounts ++ z) (append-nil (account_lines a))
 
-open_lines : (accounts : List StatedAccount) (name : List ℕ) (total : ColourFigures) (spans : List SpanFigures) → spans ≡ []
+pub open_lines : (accounts : List StatedAccount) (name : List ℕ) (total : ColourFigures) (spans : List SpanFigures) → spans ≡ []
     → lines_of (accounts ++ record { name = name; total = total; spans = spans } ∷ []) ≡ (lines_of accounts ++ name_line name ∷ []) ++ total_line total ∷ []
 open_lines accounts name total spans none =
     one_more accounts (record { name = name; total = total; spans = spans })
@@ -130,7 +124,7 @@ span_lines accounts a span =
     ∙ (sym (append_assoc (lines_of accounts) (account_lines a) (span_line span ∷ []))
     ∙ ap (λ z. z ++ span_line span ∷ []) (sym (one_more accounts a))))
 
-next_at : (stage : Stage) (p : Progress) (line : List ℕ) (q : Progress) → p.stage ≡ stage → FormAt stage p → FollowsAt stage p line q → IsNext (LinesAt stage p) line q
+pub next_at : (stage : Stage) (p : Progress) (line : List ℕ) (q : Progress) → p.stage ≡ stage → FormAt stage p → FollowsAt stage p line q → IsNext (LinesAt stage p) line q
 next_at stages.Title p line q at f h = subst (IsNext [] line) (sym h.1) (ap (λ z. z ∷ []) (sym h.0), f)
 next_at stages.Period p line q at f h =
     subst (IsNext (LinesAt stages.Period p) line) (sym h.4) (ap (λ z. title_line ∷ z ∷ []) (sym h.1), (f.0, (f.1, h.2, h.3)))
@@ -148,7 +142,7 @@ next_at stages.Account p line q at f h =
     = record {
       timed = f.1;
       few = omega (arith, ap length f.0);
-      accounts = subst (AllByRecursion (IsRead p.stated.period)) (sym f.0) tt;
+      accounts = subst (AllByRecursion (IsAccountButForTotal p.stated.period)) (sym f.0) tt;
       apart = subst AreApart (sym f.0) nil_apart;
     } in
     subst (IsNext (LinesAt stages.Account p) line) (sym h.next)
@@ -175,7 +169,7 @@ next_at stages.Spans p line q at f (inr (inr h)) =
     (ap (λ z. LinesAt stages.Spans p ++ z ∷ []) (sym h.0), (read p f.0 f.1, omega (arith, length-append p.stated.accounts (p.account ∷ []))))
 next_at stages.Ended p line q at f h = absurd h
 
-says : (p : Progress) (lines : List (List ℕ)) (q : Progress) (before : List (List ℕ)) → Lines p ≡ before → Form p → Follow p lines q
+pub says : (p : Progress) (lines : List (List ℕ)) (q : Progress) (before : List (List ℕ)) → Lines p ≡ before → Form p → Follow p lines q
     → (Lines q ≡ before ++ lines) × Form q
 unfolding Follow
 says p [] q before e f h = subst (λ z. (Lines z ≡ before ++ []) × Form z) (sym h) (e ∙ sym (append-nil before), f)
@@ -184,7 +178,7 @@ says p (line ∷ lines) q before e f h =
     let all = says h.0 lines q (before ++ line ∷ []) (one.0 ∙ ap (λ z. z ++ line ∷ []) e) one.1 h.2 in
     (all.0 ∙ append_assoc before (line ∷ []) lines, all.1)
 
-summed : (period : ℕ) (accounts : List StatedAccount) → AllByRecursion (IsRead period) accounts → AllByRecursion IsSummed accounts → AllByRecursion (IsAccount period) accounts
+summed : (period : ℕ) (accounts : List StatedAccount) → AllByRecursion (IsAccountButForTotal period) accounts → AllByRecursion IsSummed accounts → AllByRecursion (IsAccount period) accounts
 summed period [] r s = tt
 summed period (a ∷ accounts) r s =
     (record { name = r.0.name; total = r.0.total; spans = r.0.spans; ascend = r.0.ascend; summed = s.0 }, summed period accounts r.1 s.1)

@@ -1,10 +1,11 @@
--- The lines of a statement in form follow one another.
+-- The lines of a statement in form follow one another, of one in form but for its totals too.
 use Rattle.std.proofs.Common.{◌≡◌, inl, inr, ◌≤◌, ◌+◌, ◌++◌, ◌∷◌, [], ℕ, List, false, length, arith, subst, sym, ap, refl, ◌∙◌}
 use Rattle.std.specs.Prelude.{map, ◌==◌}
 use Rattle.std.specs.List.{AllByRecursion, flat_map}
 use Rattle.std.proofs.lemmas.List.{append-nil, append_assoc, length-append}
 use Rattle.std.proofs.lemmas.List.Elements.{All-from_recursion}
 use Rattle.std.proofs.lemmas.List.Splits.{slice_split_at}
+use Rattle.tca_figures.specs.Begun.{IsAccountButForTotal, IsButForTotals}
 use Rattle.tca_figures.specs.Figures.{AreApart, Ascend, IsAccount, IsSpan, IsStatement, IsSummed, Stated, StatedAccount, named}
 use Rattle.tca_figures.specs.Lines.{IsTextOf, account_lines, end_line, octets_of, span_line, statement_lines, total_line}
 use Rattle.tca_figures.specs.Progress.{Follow, IsSound, Progress, unread}
@@ -30,7 +31,7 @@ abbrev at_total : Stated → List StatedAccount → List ℕ → Progress
 at_total s accounts name = record { stage = stages.Total; stated = record s { accounts = accounts }; account = named name }
 
 -- all lines are read
-abbrev at_end : Stated → Progress
+abbrev pub at_end : Stated → Progress
 at_end s = record { stage = stages.Ended; stated = s; account = named [] }
 
 module _ (s : Stated) where
@@ -50,14 +51,14 @@ module _ (s : Stated) where
       )
 
   -- the lines of an account behind its name
-  account_follows : (accounts : List StatedAccount) (a : StatedAccount) → IsAccount s.period a
+  account_follows : (accounts : List StatedAccount) (a : StatedAccount) → IsAccountButForTotal s.period a
       → Follow (at_total s accounts a.name) (total_line a.total ∷ map span_line a.spans) (at_spans s accounts a)
   unfolding Follow
   account_follows accounts a h =
       (at_spans s accounts (record { name = a.name; total = a.total; spans = [] }), (a.total, refl, h.total, refl), spans_follow accounts a.name a.total [] a.spans h.spans h.ascend)
 
   -- the lines of accounts behind the first one
-  accounts_follow : (done : List StatedAccount) (a : StatedAccount) (rest : List StatedAccount) → AllByRecursion (IsAccount s.period) rest
+  accounts_follow : (done : List StatedAccount) (a : StatedAccount) (rest : List StatedAccount) → AllByRecursion (IsAccountButForTotal s.period) rest
       → AreApart (done ++ a ∷ rest) → length (done ++ a ∷ rest) ≤ 256
       → Follow (at_spans s done a) (flat_map account_lines rest ++ end_line ∷ []) (at_end (record s { accounts = done ++ a ∷ rest }))
   unfolding Follow
@@ -78,7 +79,7 @@ module _ (s : Stated) where
       )
 
 -- all lines
-whole_follows : (s : Stated) (a : StatedAccount) (rest : List StatedAccount) → IsStatement (record s { accounts = a ∷ rest })
+whole_follows : (s : Stated) (a : StatedAccount) (rest : List StatedAccount) → IsButForTotals (record s { accounts = a ∷ rest })
     → Follow unread (statement_lines (record s { accounts = a ∷ rest })) (at_end (record s { accounts = a ∷ rest }))
 unfolding Follow
 whole_follows s a rest h =
@@ -112,19 +113,38 @@ whole_follows s a rest h =
       ),
     )
 
-written_follows : (s : Stated) → IsStatement s → Follow unread (statement_lines s) (at_end s)
-written_follows s h =
+pub begun_follows : (s : Stated) → IsButForTotals s → Follow unread (statement_lines s) (at_end s)
+begun_follows s h =
     let some = nonempty s.accounts h.some in
     let same : s ≡ record s { accounts = some.0 ∷ some.1 } = ap (λ z. record s { accounts = z }) some.2 in
-    subst (λ z. Follow unread (statement_lines z) (at_end z)) (sym same) (whole_follows s some.0 some.1 (subst IsStatement same h))
+    subst (λ z. Follow unread (statement_lines z) (at_end z)) (sym same) (whole_follows s some.0 some.1 (subst IsButForTotals same h))
 
-without_feeds : (p : Progress) (lines : List (List ℕ)) (q : Progress) → Follow p lines q → parts (octets_of lines) ≡ lines ++ [] ∷ []
+pub without_feeds : (p : Progress) (lines : List (List ℕ)) (q : Progress) → Follow p lines q → parts (octets_of lines) ≡ lines ++ [] ∷ []
 unfolding Follow
 without_feeds p [] q f = refl
 without_feeds p (line ∷ lines) q f =
     ap parts (append_assoc line (10 ∷ []) (octets_of lines))
     ∙ (slice_split_at (λ octet. octet == 10) line 10 (octets_of lines) (All-from_recursion (λ octet. (octet == 10) ≡ false) line (follows_feed p line f.0 f.1)) refl
     ∙ ap (λ z. line ∷ z) (without_feeds f.0 lines q f.2))
+
+accounts_but_for_totals : (period : ℕ) (accounts : List StatedAccount) → AllByRecursion (IsAccount period) accounts → AllByRecursion (IsAccountButForTotal period) accounts
+accounts_but_for_totals period [] h = tt
+accounts_but_for_totals period (a ∷ accounts) h =
+    (record { name = h.0.name; total = h.0.total; spans = h.0.spans; ascend = h.0.ascend }, accounts_but_for_totals period accounts h.1)
+
+-- a statement in form is one but for its totals too
+but_for_totals : (s : Stated) → IsStatement s → IsButForTotals s
+but_for_totals s h = record {
+  some_period = h.some_period;
+  period = h.period;
+  reports = h.reports;
+  disputed = h.disputed;
+  unassigned = h.unassigned;
+  some = h.some;
+  few = h.few;
+  accounts = accounts_but_for_totals s.period s.accounts h.accounts;
+  apart = h.apart;
+}
 
 sound : (period : ℕ) (accounts : List StatedAccount) → AllByRecursion (IsAccount period) accounts → AllByRecursion IsSummed accounts
 sound period [] h = tt
@@ -141,7 +161,7 @@ pub record IsWritten (octets : List ℕ) (s : Stated) : Type 0 where
 pub written : (octets : List ℕ) (s : Stated) → IsTextOf octets s → IsWritten octets s
 written octets s is =
     let h = is.in_form in
-    let follow = written_follows s h in
+    let follow = begun_follows s (but_for_totals s h) in
     let cut : parts octets ≡ statement_lines s ++ [] ∷ [] = ap parts is.octets_are ∙ without_feeds unread (statement_lines s) (at_end s) follow in
     let lines : whole_lines octets ≡ statement_lines s = all_lines octets (statement_lines s) [] cut in
     record {

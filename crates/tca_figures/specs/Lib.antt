@@ -5,3 +5,4 @@ pub mod Reading
 pub mod Faults
 pub mod Sums
 pub mod Totals
+pub mod Begun

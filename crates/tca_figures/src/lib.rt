@@ -6,12 +6,13 @@
 //!
 //! - `statement`: reading one; beneath it `reader` (which line may follow), `lines` (each kind of line) and `fields` (numbers);
 //! - `figures`: what a statement says; `text`: its octets; `sum`: the sum of two;
-//! - `fault`: why octets are no statement, or statements have no sum.
+//! - `fault`: why octets are no statement, or statements have no sum; `laws`: what is so of any octets and texts.
 #![tactic(auto)]
 
 mod fault;
 mod fields;
 mod figures;
+mod laws;
 mod lines;
 mod reader;
 mod statement;
@@ -22,5 +23,6 @@ mod text;
 
 pub use fault::StatementFault;
 pub use figures::{AccountFigures, ColourFigures, Figure, Figures, SpanFigures};
+pub use laws::{a_statement_has_one_reading, lines_begin_a_statement};
 pub use statement::read_statement;
 pub use sum::add;

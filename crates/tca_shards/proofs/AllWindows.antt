@@ -61,22 +61,30 @@ module _ (rs : List PacketReport) (t u : ℕ) (l : t < u) where
   ]
 
 module _ (plan : AccountPlan) (rs : List PacketReport) (rises : IsStrictlySortedBy report_cmp rs) (meters : HaveTerms plan) where
+  -- the bill of the first two of three windows
+  pub first_two : (t u : ℕ) → t < u → NoneInBoth (early t rs) (early u (late t rs)) → HaveTermsFrom plan t
+      → bill_of plan (early u rs) ≡ added_bills (bill_of plan (early t rs)) (bill_of plan (early u (late t rs)))
+  first_two t u ascend apart terms =
+      windows_add_up plan t (early u rs) (record {
+        rises = IsStrictlySortedBy-filter report_cmp (λ (r : PacketReport). nat_lt r.time u) rs rises;
+        meters = meters;
+        apart = parted rs t u ascend apart;
+        terms = terms;
+      })
+      ∙ (λ i. added_bills (bill_of plan (early_twice t u ascend rs i)) (bill_of plan (late_of_early t u rs i)))
+
+  -- the windows are apart, with the first two as one
+  pub joined_apart : (t u : ℕ) (us : List ℕ) → t < u → Pairwise NoneInBoth (early t rs ∷ windows_from t (u ∷ us) rs) → Pairwise NoneInBoth (early u rs ∷ windows_from u us rs)
+  joined_apart t u us ascend apart =
+      (all_both (NoneInBoth (early t rs)) (NoneInBoth (early u (late t rs))) (NoneInBoth (early u rs)) (windows_from u us rs) (joined rs t u ascend) apart.0.1 apart.1.0, apart.1.1)
+
   one_by_one : (t : ℕ) (ts : List ℕ) → StartsAscend t ts → Pairwise NoneInBoth (early t rs ∷ windows_from t ts rs) → AllByRecursion (HaveTermsFrom plan) (t ∷ ts)
       → bill_of plan rs ≡ summed (bill_of plan (early t rs)) (map (bill_of plan) (windows_from t ts rs))
   unfolding summed
   one_by_one t [] ascend apart terms = windows_add_up plan t rs (record { rises = rises; meters = meters; apart = apart.0.0; terms = terms.0 })
   one_by_one t (u ∷ us) ascend apart terms =
-      one_by_one u us ascend.1
-      (all_both (NoneInBoth (early t rs)) (NoneInBoth (early u (late t rs))) (NoneInBoth (early u rs)) (windows_from u us rs) (joined rs t u ascend.0) apart.0.1 apart.1.0, apart.1.1)
-      terms.1
-      ∙ ap (λ (b : Bill). summed b (map (bill_of plan) (windows_from u us rs))) (
-      windows_add_up plan t (early u rs) (record {
-        rises = IsStrictlySortedBy-filter report_cmp (λ (r : PacketReport). nat_lt r.time u) rs rises;
-        meters = meters;
-        apart = parted rs t u ascend.0 apart.0.0;
-        terms = terms.0;
-      })
-      ∙ (λ i. added_bills (bill_of plan (early_twice t u ascend.0 rs i)) (bill_of plan (late_of_early t u rs i))))
+      one_by_one u us ascend.1 (joined_apart t u us ascend.0 apart) terms.1
+      ∙ ap (λ (b : Bill). summed b (map (bill_of plan) (windows_from u us rs))) (first_two t u ascend.0 apart.0.0 terms.0)
 
 pub all_windows_add_up : AllWindowsAddUp
 all_windows_add_up plan t ts rs w = one_by_one plan rs w.rises w.meters t ts w.ascend w.apart w.terms

@@ -1,4 +1,4 @@
--- The statements of sets that are billed apart add up.
+-- The statements of sets that are billed apart add up, and so do those of windows.
 use Rattle.std.proofs.Common.{◌≡◌, ℕ, ◌+◌, List, [], ◌∷◌, ◌++◌, length, map, refl, sym, subst, ap, ◌∙◌}
 use Rattle.std.specs.List.{AllByRecursion, enumerate_from}
 use Rattle.std.specs.List.Sorted.{IsStrictlySortedBy}
@@ -14,8 +14,11 @@ use Rattle.tca_accounts.specs.declared.tally.Tally.{Tally}
 use Rattle.tca_figures.specs.Figures.{Stated}
 use Rattle.tca_figures.specs.Sums.{AreAlike, Fits, added, names}
 use Rattle.tca_figures.specs.Totals.{Adds}
-use Rattle.tca_shards.specs.Shards.{HaveDomainsApart, Pairwise, united}
-use Rattle.tca_shards.specs.Statements.{FitTogether, IsLogged, StatementsAddUp, stated, statements_of}
+use Rattle.tca_shards.specs.Shards.{HaveDomainsApart, Pairwise, added_bills, united}
+use Rattle.tca_shards.specs.Statements.{FitInTurn, FitTogether, IsLogged, StatementsAddUp, WindowsStatementsAddUp, stated, statements_of}
+use Rattle.tca_shards.specs.Windows.{HaveTerms, HaveTermsFrom, NoneInBoth, StartsAscend, early, late, windows_from}
+use Rattle.tca_shards.proofs.AllWindows.{first_two, joined_apart}
+use Rattle.tca_shards.proofs.Windows.{windows_add_up}
 use Rattle.tca_shards.proofs.DomainsApart.{domains_apart_add_up, united_apart}
 use Rattle.tca_shards.proofs.Kept.{all_both}
 use Rattle.tca_shards.proofs.Figured.{accounts_of, stated_added}
@@ -38,10 +41,13 @@ module _ (plan : AccountPlan) (is : IsPlan plan) where
         ∙ sym (names_stated plan.accounts 0 (λ (a : ℕ × PlannedAccount). tally_of plan.period (coloured_in a.1 (reports_of plan a.0 ys)))),
   )
 
+  figures_added : (xs ys : List PacketReport) → stated plan (added_bills (bill_of plan xs) (bill_of plan ys)) ≡ added (stated plan (bill_of plan xs)) (stated plan (bill_of plan ys))
+  figures_added xs ys = stated_added plan (bill_of plan xs) (bill_of plan ys) (count xs) (count ys)
+
   joined : (rs s : List PacketReport) → IsStrictlySortedBy report_cmp rs → IsStrictlySortedBy report_cmp s → HaveDomainsApart plan rs s
       → stated plan (bill_of plan (union report_cmp rs s)) ≡ added (stated plan (bill_of plan rs)) (stated plan (bill_of plan s))
   joined rs s one two apart =
-      ap (stated plan) (domains_apart_add_up plan rs s one two apart) ∙ stated_added plan (bill_of plan rs) (bill_of plan s) (count rs) (count s)
+      ap (stated plan) (domains_apart_add_up plan rs s one two apart) ∙ figures_added rs s
 
   set_by_set : (rs : List PacketReport) (sets : List (List PacketReport)) → IsStrictlySortedBy report_cmp rs → AllByRecursion IsLogged sets
       → AllByRecursion (HaveDomainsApart plan rs) sets → Pairwise (HaveDomainsApart plan) sets → FitTogether plan rs sets
@@ -60,9 +66,40 @@ module _ (plan : AccountPlan) (is : IsPlan plan) where
         subst (λ (held : Stated). Adds held (statements_of plan sets) (stated plan (bill_of plan (united both sets)))) is_sum rest,
       )
 
+  module _ (rs : List PacketReport) (rises : IsStrictlySortedBy report_cmp rs) (meters : HaveTerms plan) where
+    window_by_window : (t : ℕ) (ts : List ℕ) → StartsAscend t ts → Pairwise NoneInBoth (early t rs ∷ windows_from t ts rs) → AllByRecursion (HaveTermsFrom plan) (t ∷ ts)
+        → AllByRecursion IsLogged (windows_from t ts rs) → FitInTurn plan ts rs
+        → Adds (stated plan (bill_of plan (early t rs))) (statements_of plan (windows_from t ts rs)) (stated plan (bill_of plan rs))
+    unfolding Adds FitInTurn
+    window_by_window t [] ascend apart terms logged fit =
+        let is_sum = ap (stated plan) (windows_add_up plan t rs (record { rises = rises; meters = meters; apart = apart.0.0; terms = terms.0 })) ∙ figures_added (early t rs) (late t rs) in (
+          stated plan (bill_of plan (late t rs)),
+          bills_are_read plan (late t rs) is logged.0,
+          alike (early t rs) (late t rs),
+          subst Fits is_sum fit,
+          is_sum,
+        )
+    window_by_window t (u ∷ us) ascend apart terms logged fit =
+        let next = early u (late t rs) in
+        let is_sum = ap (stated plan) (first_two plan rs rises meters t u ascend.0 apart.0.0 terms.0) ∙ figures_added (early t rs) next in
+        let rest = window_by_window u us ascend.1 (joined_apart plan rs rises meters t u us ascend.0 apart) terms.1 logged.1 fit.1 in (
+          stated plan (bill_of plan next),
+          bills_are_read plan next is logged.0,
+          alike (early t rs) next,
+          subst Fits is_sum fit.0,
+          subst (λ (held : Stated). Adds held (statements_of plan (windows_from u us rs)) (stated plan (bill_of plan rs))) is_sum rest,
+        )
+
 pub statements_add_up : StatementsAddUp
 statements_add_up plan rs sets is logged apart fit = (
   stated plan (bill_of plan rs),
   bills_are_read plan rs is logged.0,
   set_by_set plan is rs sets logged.0.rises logged.1 apart.0 apart.1 fit,
+)
+
+pub windows_statements_add_up : WindowsStatementsAddUp
+windows_statements_add_up plan t ts rs is w logged fit = (
+  stated plan (bill_of plan (early t rs)),
+  bills_are_read plan (early t rs) is logged.0,
+  window_by_window plan is rs w.rises w.meters t ts w.ascend w.apart w.terms logged.1 fit,
 )

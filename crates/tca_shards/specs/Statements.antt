@@ -1,5 +1,5 @@
 -- The figures of the statement of a bill, and the statements of sets that are billed apart.
-use Rattle.std.specs.Prelude.{◌≤◌, ℕ, List, [], ◌∷◌, length, map, slice_index}
+use Rattle.std.specs.Prelude.{◌≡◌, ◌≤◌, ℕ, List, [], ◌∷◌, length, map, slice_index}
 use Rattle.std.specs.List.{AllByRecursion, zip}
 use Rattle.std.specs.List.Sorted.{IsStrictlySortedBy}
 use Rattle.tca_join.specs.SetLaws.{union}
@@ -12,13 +12,14 @@ use Rattle.tca_accounts.specs.declared.tally.Tally.{Tally}
 use Rattle.tca_accounts.specs.declared.bill.Bill.{Bill}
 use Rattle.tca_statements.specs.Statements.{statement_text}
 use Rattle.tca_figures.specs.Figures.{Stated, StatedAccount}
-use Rattle.tca_figures.specs.Lines.{IsTextOf}
+use Rattle.tca_figures.specs.Lines.{IsTextOf, statement_octets}
 use Rattle.tca_figures.specs.Sums.{Fits}
 use Rattle.tca_figures.specs.Totals.{IsSumOf}
 use Rattle.tca_figures.specs.declared.figures.ColourFigures.{ColourFigures}
 use Rattle.tca_figures.specs.declared.figures.Figure.{Figure}
 use Rattle.tca_figures.specs.declared.figures.SpanFigures.{SpanFigures}
 use Rattle.tca_shards.specs.Shards.{HaveDomainsApart, Pairwise, united}
+use Rattle.tca_shards.specs.Windows.{AreAllWindows, early, windows_from}
 
 -- octets and packets of a colour by its number
 abbrev pub figure_of : ColourSums → ℕ → Figure
@@ -56,6 +57,10 @@ pub record IsLogged (rs : List PacketReport) : Type 0 where
 abbrev pub BillsAreRead : Type 0
 BillsAreRead = (plan : AccountPlan) (rs : List PacketReport) → IsPlan plan → IsLogged rs → IsTextOf (statement_text plan (bill_of plan rs)) (stated plan (bill_of plan rs))
 
+-- The text of the statement of a bill is that of its figures, of whatever bill: of one of more reports than a log holds too.
+abbrev pub BillsAreWritten : Type 0
+BillsAreWritten = (plan : AccountPlan) (bill : Bill) → statement_text plan bill ≡ statement_octets (stated plan bill)
+
 -- each sum has 64 bits, where one set after the other is united with those before it
 unfoldable pub FitTogether : AccountPlan → List PacketReport → List (List PacketReport) → Type 0
 FitTogether plan rs [] = Unit {0}
@@ -70,3 +75,15 @@ abbrev pub StatementsAddUp : Type 0
 StatementsAddUp = (plan : AccountPlan) (rs : List PacketReport) (sets : List (List PacketReport))
     → IsPlan plan → AllByRecursion IsLogged (rs ∷ sets) → Pairwise (HaveDomainsApart plan) (rs ∷ sets) → FitTogether plan rs sets
     → IsSumOf (statements_of plan (rs ∷ sets)) (stated plan (bill_of plan (united rs sets)))
+
+-- each sum has 64 bits, where the reports before each moment are billed, and all at the end
+unfoldable pub FitInTurn : AccountPlan → List ℕ → List PacketReport → Type 0
+FitInTurn plan [] rs = Fits (stated plan (bill_of plan rs))
+FitInTurn plan (t ∷ ts) rs = Fits (stated plan (bill_of plan (early t rs))) × FitInTurn plan ts rs
+
+-- The sum of the statements of windows of time that are billed apart, of the one before the first of these moments and of each from it on, is
+-- what the statement of all reports says.
+abbrev pub WindowsStatementsAddUp : Type 0
+WindowsStatementsAddUp = (plan : AccountPlan) (t : ℕ) (ts : List ℕ) (rs : List PacketReport)
+    → IsPlan plan → AreAllWindows plan t ts rs → AllByRecursion IsLogged (early t rs ∷ windows_from t ts rs) → FitInTurn plan ts rs
+    → IsSumOf (statements_of plan (early t rs ∷ windows_from t ts rs)) (stated plan (bill_of plan rs))

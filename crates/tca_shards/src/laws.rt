@@ -1,6 +1,6 @@
 //! What the bills of shards and of windows come to, as contracts.
 ghost use Rattle.tca_shards.specs.Shards.{AllDomainsApartAddUp, AllShardsAddUp, DomainsApartAddUp, ShardsAddUp, SidesAddUp, SpansAddUp, SumsAssociate, SumsCommute};
-ghost use Rattle.tca_shards.specs.Statements.{BillsAreRead, StatementsAddUp};
+ghost use Rattle.tca_shards.specs.Statements.{BillsAreRead, BillsAreWritten, StatementsAddUp, WindowsStatementsAddUp};
 ghost use Rattle.tca_shards.specs.Windows.{AllWindowsAddUp, WindowsAddUp};
 
 /// The bill of the union of sets whose observation domains are apart is the sum of their bills, where no account has pairs of the domains
@@ -34,9 +34,12 @@ pub fn sums_in_any_order()
 {}
 
 /// The statement of a bill is read as the bill: `read` says that its text is a statement in form, whose figures are the bill's. So where
-/// sets have their domains apart, `sum` says, the statements of their bills add up to what the statement of their union says, octet by
-/// octet, where each sum has 64 bits.
+/// sets have their domains apart, `sum` says, the statements of their bills add up to the figures of the bill of their union, where each
+/// sum has 64 bits; and so do those of windows of time that are billed apart, as `windows` says. That these figures are written as the
+/// statement of the bill of all, octet by octet, is `octets`: of any bill, so of more reports than one log holds too.
 pub fn statements_add_up()
     ensures read { BillsAreRead }
     ensures sum { StatementsAddUp }
+    ensures windows { WindowsStatementsAddUp }
+    ensures octets { BillsAreWritten }
 {}
