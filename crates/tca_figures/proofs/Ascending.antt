@@ -11,7 +11,7 @@ use Rattle.std.proofs.lemmas.Cmp.{ranked}
 use Rattle.std.proofs.lemmas.Map.Keys.{IsDistinct-cons, IsDistinct-head, IsDistinct-tail}
 use Rattle.std.proofs.lemmas.Option.{none-some}
 use Rattle.tca_figures.specs.Figures.{AreApart, Ascend, StatedAccount}
-use Rattle.tca_figures.specs.Progress.{IsBehind, has_name}
+use Rattle.tca_figures.specs.inside.Progress.{IsBehind, has_name}
 use Rattle.tca_figures.specs.declared.figures.SpanFigures.{SpanFigures}
 
 -- one more

@@ -7,11 +7,13 @@ use Rattle.std.proofs.Math.Seq.{take-append-add, take-append_seam}
 use Rattle.std.proofs.lemmas.Bool.{false≢true}
 use Rattle.std.proofs.lemmas.List.{append-nil, append_assoc, length-append, length-map, length-take-le, take_all}
 use Rattle.std.proofs.lemmas.Option.{slice_get_within}
-use Rattle.tca_figures.specs.Begun.{AreSummedIn, Begin, BeginningFollow, FaultsAreFirst, FollowingBegin, IsButForTotals, IsFirstWant, IsFirstWrongLine, IsFirstWrongTotal, IsKeptLine}
+use Rattle.tca_figures.specs.Begun.{AreSummedIn, Begin, IsButForTotals}
 use Rattle.tca_figures.specs.Figures.{AreApart, AreFigures, IsSummed, Stated, StatedAccount, named, none}
 use Rattle.tca_figures.specs.Lines.{account_lines, end_line, name_line, number_line, span_line, statement_lines, statement_octets, total_line}
-use Rattle.tca_figures.specs.Progress.{Follow, Follows, FollowsAt, IsOpened, IsSound, Progress, closed, is_kept, opened, unread}
-use Rattle.tca_figures.specs.Reading.{IsWrongLine, IsWrongTotal, WantsMemory, line_number, parts, whole_lines}
+use Rattle.tca_figures.specs.inside.Progress.{Follow, Follows, FollowsAt, IsOpened, IsSound, Progress, closed, is_kept, opened, unread}
+use Rattle.tca_figures.specs.Reading.{IsFirstFault, IsKeptLine, IsWrongLine, IsWrongTotal, WantsMemory, line_number, parts, whole_lines}
+use Rattle.tca_figures.specs.inside.Refusals.{IsLineRefused, IsMemoryRefused, IsRefused, IsTotalRefused}
+use Rattle.tca_figures.specs.declared.fault.StatementFault.{StatementFault}
 use Rattle.tca_figures.specs.declared.fault.StatementFault.TheVariants as faults
 use Rattle.tca_figures.specs.declared.reader.Stage.{Stage}
 use Rattle.tca_figures.specs.declared.reader.Stage.TheVariants as stages
@@ -177,25 +179,24 @@ completed stages.Ended p f = (
 said_so : (lines : List (List ℕ)) (p : Progress) → Follow unread lines p → (LinesAt p.stage p ≡ lines) × FormAt p.stage p
 said_so lines p h = says unread lines p [] refl (refl, (lit< tt, lit< tt, lit< tt)) h
 
+-- lines that follow one another begin a statement
 follow_begins : (lines : List (List ℕ)) (p : Progress) → Follow unread lines p → BeginWith p lines
 follow_begins lines p h =
     let all = said_so lines p h in
     subst (BeginWith p) all.0 (completed p.stage p all.1)
-
-pub following_begin : FollowingBegin
-following_begin lines p h = (follow_begins lines p h).0
 
 front_follows : (p : Progress) (lines behind : List (List ℕ)) (q : Progress) → Follow p (lines ++ behind) q → (m : Progress) × Follow p lines m
 unfolding Follow
 front_follows p [] behind q f = (p, refl)
 front_follows p (line ∷ lines) behind q f = let more = front_follows f.0 lines behind q f.2 in (more.0, (f.0, f.1, more.1))
 
-pub beginning_follow : BeginningFollow
+-- lines that begin a statement follow one another
+beginning_follow : (lines : List (List ℕ)) → Begin lines → (p : Progress) × Follow unread lines p
 beginning_follow lines b =
     front_follows unread lines b.behind (at_end b.stated) (subst (λ z. Follow unread z (at_end b.stated)) b.lines_are (begun_follows b.stated b.in_form))
 
 -- where all lines are read, the octets aren't those of such a statement unless they are whole
-not_early : (octets : List ℕ) (line : ℕ) (w : IsWrongLine octets line) → w.before ≡ length (whole_lines octets) → (s : Stated) → IsButForTotals s → octets ≡ statement_octets s → ⊥
+not_early : (octets : List ℕ) (line : ℕ) (w : IsLineRefused octets line) → w.before ≡ length (whole_lines octets) → (s : Stated) → IsButForTotals s → octets ≡ statement_octets s → ⊥
 not_early octets line w is s h e =
     let follow = begun_follows s h in
     let cut : parts octets ≡ statement_lines s ++ [] ∷ [] = ap parts e ∙ without_feeds unread (statement_lines s) (at_end s) follow in
@@ -204,7 +205,7 @@ not_early octets line w is s h e =
     let same : w.progress ≡ at_end s = follow_one unread (statement_lines s) w.progress (at_end s) (subst (λ z. Follow unread z w.progress) (all ∙ lines) w.follow) follow in
     w.early is (ap (λ (p : Progress). p.stage) same, cut ∙ ap (λ z. z ++ [] ∷ []) (sym lines))
 
-wrong_line : (octets : List ℕ) (line : ℕ) → IsWrongLine octets line → IsFirstWrongLine octets line
+wrong_line : (octets : List ℕ) (line : ℕ) → IsLineRefused octets line → IsWrongLine octets line
 wrong_line octets line w =
     let front = take w.before (whole_lines octets) in
     let b = follow_begins front w.progress w.follow in
@@ -266,7 +267,7 @@ ended_at stages.Spans p text q at f (inr (inr h)) more =
     }
 ended_at stages.Ended p text q at f h more = absurd h
 
-wrong_total : (octets : List ℕ) (line : ℕ) → IsWrongTotal octets line → IsFirstWrongTotal octets line
+wrong_total : (octets : List ℕ) (line : ℕ) → IsTotalRefused octets line → IsWrongTotal octets line
 wrong_total octets line w =
     let p = w.progress in
     let v = w.wrong in
@@ -307,7 +308,7 @@ kept_at stages.Spans p text q (inr (inl h)) kept = inl (h.name, h.line_is)
 kept_at stages.Spans p text q (inr (inr h)) kept = inr (inr h.0)
 kept_at stages.Ended p text q h kept = absurd h
 
-want : (octets : List ℕ) → WantsMemory octets → IsFirstWant octets
+want : (octets : List ℕ) → IsMemoryRefused octets → WantsMemory octets
 want octets w =
     let p = w.progress in
     let k = w.kept in
@@ -324,7 +325,8 @@ want octets w =
       kept = kept_at p.stage p w.next k.next k.follows k.kept;
     }
 
-pub faults_are_first : FaultsAreFirst
+-- what the reader refuses is the first fault
+pub faults_are_first : (octets : List ℕ) (fault : StatementFault) → IsRefused octets fault → IsFirstFault octets fault
 faults_are_first octets (faults.Line line) w = wrong_line octets line w
 faults_are_first octets (faults.Sum line) w = wrong_total octets line w
 faults_are_first octets (faults.Other line) w = w

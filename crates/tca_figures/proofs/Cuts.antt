@@ -8,7 +8,7 @@ use Rattle.std.proofs.Math.Seq.{take-append-add, take-append_seam}
 use Rattle.std.proofs.lemmas.Option.{none-some}
 use Rattle.std.proofs.lemmas.List.Elements.{All-from_get_or}
 use Rattle.std.proofs.lemmas.List.Splits.{length-slice_split, slice_split_at, slice_split_none}
-use Rattle.tca_figures.specs.Progress.{Follow, Follows, Progress}
+use Rattle.tca_figures.specs.inside.Progress.{Follow, Follows, Progress}
 use Rattle.tca_figures.specs.Reading.{parts, whole_lines}
 
 not_true : (b : Bool) → (b ≡ true → ⊥) → b ≡ false

@@ -8,7 +8,7 @@ use Rattle.std.proofs.lemmas.List.{append_cancel_left}
 use Rattle.std.proofs.lemmas.Str.Parse.{IsNumeralModel, digit_from_value, numerals_by_value, tells_digits}
 use Rattle.tca_figures.specs.Figures.{AreFigures, Stated}
 use Rattle.tca_figures.specs.Lines.{IsTextOf, colour_fields, number_line}
-use Rattle.tca_figures.specs.Progress.{Follow, FollowsAt, IsNumberRead, IsOpened, IsPeriodRead, Progress, closed, opened, unread}
+use Rattle.tca_figures.specs.inside.Progress.{Follow, FollowsAt, IsNumberRead, IsOpened, IsPeriodRead, Progress, closed, opened, unread}
 use Rattle.tca_figures.specs.Reading.{whole_lines}
 use Rattle.tca_figures.specs.Sums.{added}
 use Rattle.tca_figures.specs.Totals.{Adds, IsSumOf}

@@ -9,8 +9,9 @@ use Rattle.std.proofs.lemmas.List.Splits.{join_with_byte-slice_split}
 use Rattle.tca_figures.specs.Begun.{IsAccountButForTotal}
 use Rattle.tca_figures.specs.Figures.{AreApart, AreFigures, Ascend, IsAccount, IsSpan, IsStatement, IsSummed, Stated, StatedAccount}
 use Rattle.tca_figures.specs.Lines.{IsTextOf, account_lines, name_line, number_line, octets_of, span_line, statement_lines, title_line, total_line}
-use Rattle.tca_figures.specs.Progress.{Follow, FollowsAt, IsOpened, IsSound, Progress, closed, has_name, opened, unread}
-use Rattle.tca_figures.specs.Reading.{IsWhole, whole_lines}
+use Rattle.tca_figures.specs.inside.Progress.{Follow, FollowsAt, IsOpened, IsSound, Progress, closed, has_name, opened, unread}
+use Rattle.tca_figures.specs.Reading.{whole_lines}
+use Rattle.tca_figures.specs.inside.Refusals.{IsWhole}
 use Rattle.tca_accounts.specs.Plans.{is_name}
 use Rattle.tca_report.specs.report.Reports.{time_end}
 use Rattle.tca_figures.specs.declared.figures.ColourFigures.{ColourFigures}

@@ -3,7 +3,7 @@ use Rattle.std.proofs.Common.{◌≡◌, ◌⊎◌, inl, inr, ◌++◌, ◌∷�
 use Rattle.std.specs.List.{AllByRecursion}
 use Rattle.tca_figures.specs.Figures.{IsSummed}
 use Rattle.tca_figures.specs.Lines.{end_line, name_line}
-use Rattle.tca_figures.specs.Progress.{Follow, Follows, FollowsAt, IsSound, IsWrongSum, Progress}
+use Rattle.tca_figures.specs.inside.Progress.{Follow, Follows, FollowsAt, IsSound, IsWrongSum, Progress}
 use Rattle.tca_figures.specs.declared.reader.Stage.{Stage}
 use Rattle.tca_figures.specs.declared.reader.Stage.TheVariants as stages
 

@@ -14,7 +14,7 @@ use Rattle.std.proofs.lemmas.Str.Ascii.{IsAscii-nil, IsAscii-cons}
 use Rattle.std.proofs.lemmas.Str.Parse.{IsNumeralModel, digit_at, numerals_by_value, tells_digits}
 use Rattle.tca_figures.specs.Figures.{AreFigures}
 use Rattle.tca_figures.specs.Lines.{colour_fields, name_line, number_line}
-use Rattle.tca_figures.specs.Progress.{Follows, FollowsAt, IsNumberRead, IsOpened, IsPeriodRead, Progress, closed}
+use Rattle.tca_figures.specs.inside.Progress.{Follows, FollowsAt, IsNumberRead, IsOpened, IsPeriodRead, Progress, closed}
 use Rattle.tca_accounts.specs.Plans.{is_name, is_name_octet}
 use Rattle.tca_figures.specs.declared.figures.ColourFigures.{ColourFigures}
 use Rattle.tca_figures.specs.declared.reader.Stage.{Stage}

@@ -2,8 +2,9 @@
 use Rattle.std.proofs.Common.{◌≡◌, ◌+◌, ◌-◌, ◌++◌, ◌∷◌, [], ℕ, List, length, take, arith, subst, sym, ap, refl, ◌∙◌}
 use Rattle.std.proofs.lemmas.List.{append_cancel_left, take_all}
 use Rattle.std.proofs.lemmas.Option.{slice_get_within}
-use Rattle.tca_figures.specs.Progress.{Follow, Follows, IsKept, IsSound, IsWrongSum, Progress, unread}
-use Rattle.tca_figures.specs.Reading.{IsFirstFault, IsWhole, fault_at, line_number, parts, whole_lines}
+use Rattle.tca_figures.specs.inside.Progress.{Follow, Follows, IsKept, IsSound, IsWrongSum, Progress, unread}
+use Rattle.tca_figures.specs.Reading.{line_number, parts, whole_lines}
+use Rattle.tca_figures.specs.inside.Refusals.{IsRefused, IsWhole, fault_at}
 use Rattle.tca_figures.specs.declared.fault.StatementFault.TheVariants as faults
 use Rattle.tca_figures.specs.declared.reader.Refusal.{Refusal}
 use Rattle.tca_figures.specs.declared.reader.Refusal.TheVariants as refusals
@@ -21,7 +22,7 @@ pub told : (octets : List ℕ) (lines : List (List ℕ)) (line behind : List ℕ
     → parts octets ≡ lines ++ (line ∷ parts behind) → Follow unread lines reader → IsSound reader
     → ((q : Progress) → Follows reader line q → refusal ≡ refusals.Line → ⊥) → (refusal ≡ refusals.Sum → IsWrongSum reader line)
     → (refusal ≡ refusals.Sum → spans ≡ length reader.account.spans) → (refusal ≡ refusals.Memory → IsKept reader line)
-    → IsFirstFault octets (fault_at refusal (length lines) spans)
+    → IsRefused octets (fault_at refusal (length lines) spans)
 told octets lines line behind reader refusals.Line spans e follow sound only sum count memory =
     let front = front_lines octets lines line behind e in
     record {
@@ -68,7 +69,7 @@ nothing_left octets lines rest p e w =
 
 -- the fault of octets that end too early, or go on behind the last line
 pub told_early : (octets : List ℕ) (lines : List (List ℕ)) (rest : List ℕ) (reader : Progress) → parts octets ≡ lines ++ (rest ∷ [])
-    → Follow unread lines reader → IsSound reader → (reader.stage ≡ stages.Ended → rest ≡ [] → ⊥) → IsFirstFault octets (fault_at refusals.Line (length lines) 0)
+    → Follow unread lines reader → IsSound reader → (reader.stage ≡ stages.Ended → rest ≡ [] → ⊥) → IsRefused octets (fault_at refusals.Line (length lines) 0)
 told_early octets lines rest reader e follow sound cut =
     let whole = all_lines octets lines rest e in
     record {

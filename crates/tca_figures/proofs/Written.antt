@@ -8,8 +8,9 @@ use Rattle.std.proofs.lemmas.List.Splits.{slice_split_at}
 use Rattle.tca_figures.specs.Begun.{IsAccountButForTotal, IsButForTotals}
 use Rattle.tca_figures.specs.Figures.{AreApart, Ascend, IsAccount, IsSpan, IsStatement, IsSummed, Stated, StatedAccount, named}
 use Rattle.tca_figures.specs.Lines.{IsTextOf, account_lines, end_line, octets_of, span_line, statement_lines, total_line}
-use Rattle.tca_figures.specs.Progress.{Follow, IsSound, Progress, unread}
-use Rattle.tca_figures.specs.Reading.{IsWhole, parts, whole_lines}
+use Rattle.tca_figures.specs.inside.Progress.{Follow, IsSound, Progress, unread}
+use Rattle.tca_figures.specs.Reading.{parts, whole_lines}
+use Rattle.tca_figures.specs.inside.Refusals.{IsWhole}
 use Rattle.tca_figures.specs.declared.figures.ColourFigures.{ColourFigures}
 use Rattle.tca_figures.specs.declared.figures.SpanFigures.{SpanFigures}
 use Rattle.tca_figures.specs.declared.reader.Stage.TheVariants as stages

@@ -1,8 +1,8 @@
 pub mod Figures
 pub mod Lines
-pub mod Progress
+pub mod Begun
 pub mod Reading
 pub mod Faults
 pub mod Sums
 pub mod Totals
-pub mod Begun
+pub mod inside

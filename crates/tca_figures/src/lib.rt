@@ -23,6 +23,6 @@ mod text;
 
 pub use fault::StatementFault;
 pub use figures::{AccountFigures, ColourFigures, Figure, Figures, SpanFigures};
-pub use laws::{a_statement_has_one_reading, lines_begin_a_statement};
+pub use laws::a_statement_has_one_reading;
 pub use statement::read_statement;
 pub use sum::add;

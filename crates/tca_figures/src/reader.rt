@@ -2,7 +2,7 @@
 ghost use Rattle.std.specs.Prelude.{◌≡◌, ◌≢◌, true, ◌++◌, ◌∷◌, [], IfErr, IsErrOf, MatchBool, MatchResult, OnOk, length};
 ghost use Rattle.tca_figures.specs.Figures.{IsStatement, IsSummed};
 ghost use Rattle.tca_figures.specs.Lines.{name_line};
-ghost use Rattle.tca_figures.specs.Progress.{Follows, FollowsAt, IsBehind, IsKept, IsOpened, IsSound, IsWrongSum, Progress, closed, ended, has_name, opened, unread};
+ghost use Rattle.tca_figures.specs.inside.Progress.{Follows, FollowsAt, IsBehind, IsKept, IsOpened, IsSound, IsWrongSum, Progress, closed, ended, has_name, opened, unread};
 ghost use Rattle.tca_accounts.specs.Plans.{is_name};
 ghost use Rattle.tca_figures.specs.declared.reader.Refusal.TheVariants as refusals;
 ghost use Rattle.tca_figures.specs.declared.reader.Stage.TheVariants as stages;
@@ -71,7 +71,7 @@ pub(crate) struct Reader {
 }
 
 impl Model for Reader {
-    ghost use Rattle.tca_figures.specs.Progress.{Progress};
+    ghost use Rattle.tca_figures.specs.inside.Progress.{Progress};
 
     ghost Value = { Progress };
 

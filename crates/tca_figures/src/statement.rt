@@ -2,7 +2,8 @@
 ghost use Rattle.std.specs.Prelude.{◌≡◌, ◌≢◌, ◌++◌, ◌∷◌, ◌-◌, ◌+◌, ℕ, [], MatchResult, IfErr, IfOk, IfSome, None, length};
 ghost use Rattle.tca_figures.specs.Figures.{Stated};
 ghost use Rattle.tca_figures.specs.Lines.{IsTextOf};
-ghost use Rattle.tca_figures.specs.Reading.{IsFirstFault, fault_at, line_number, parts};
+ghost use Rattle.tca_figures.specs.Reading.{IsFirstFault, line_number, parts};
+ghost use Rattle.tca_figures.specs.inside.Refusals.{fault_at};
 ghost use Rattle.tca_figures.specs.declared.fault.StatementFault.TheVariants as faults;
 
 use crate::fault::StatementFault;

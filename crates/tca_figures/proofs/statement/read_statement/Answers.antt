@@ -2,9 +2,11 @@ use Rattle.std.proofs.Common.{◌≡◌, ◌++◌, ◌∷◌, ℕ, suc, [], List
 use Rattle.std.proofs.lemmas.List.{append_assoc, length-append, nil_from_length}
 use Rattle.std.specs.Prelude.{◌==◌}
 use Rattle.std.proofs.lemmas.Bool.{eqb-true}
-use Rattle.tca_figures.specs.Progress.{Follow, Follows, IsSound, Progress, unread}
-use Rattle.tca_figures.specs.Reading.{IsFirstFault, fault_at, parts, whole_lines}
+use Rattle.tca_figures.specs.inside.Progress.{Follow, Follows, IsSound, Progress, unread}
+use Rattle.tca_figures.specs.Reading.{parts, whole_lines}
+use Rattle.tca_figures.specs.inside.Refusals.{IsRefused, fault_at}
 use Rattle.tca_figures.specs.declared.reader.Refusal.TheVariants as refusals
+use Rattle.tca_figures.proofs.Beginning.{faults_are_first}
 use Rattle.tca_figures.proofs.Cuts.{all_lines, follow_back, follow_cut, follow_on, front_lines}
 use Rattle.tca_figures.specs.Lines.{IsTextOf}
 use Rattle.tca_figures.proofs.Says.{said}
@@ -54,8 +56,8 @@ returns-in-Err-clause-refused c =
     let one = told c.args.octets.now i.0 c.in-Some.line.now c.in-Some.behind.now c.loop-line.reader c.in-Err.refusal c.spans.result
     (i.1 ∙ ap (λ z. i.0 ++ z) c.in-Some.ensures.first) i.4 i.6 e.only (λ is. e.sum (ap Err is))
     (λ is. c.spans.ensures ∙ ap (λ (z : Progress). length z.account.spans) (e.kept (ap Err is))) (λ is. e.memory (ap Err is)) in
-    subst (IsFirstFault c.args.octets.now) (sym c.fault_at.ensures)
-    (subst (λ n. IsFirstFault c.args.octets.now (fault_at c.in-Err.refusal n c.spans.result)) i.2 one)
+    faults_are_first c.args.octets.now c.fault_at.result (subst (IsRefused c.args.octets.now) (sym c.fault_at.ensures)
+    (subst (λ n. IsRefused c.args.octets.now (fault_at c.in-Err.refusal n c.spans.result)) i.2 one))
 
 pub returns-then-is_ended-clause-found : goal.returns-then-is_ended-clause-found
 returns-then-is_ended-clause-found c =
@@ -85,7 +87,8 @@ returns-else-is_empty-clause-refused c =
       | else-is_empty-via-then-is_empty+else-is_ended w ↦ w.if-is_ended.ensures ended
       | else-is_empty-via-else-is_empty w ↦ true≢false (sym (w.if-is_empty.ensures ∙ ap (λ (z : List ℕ). length z == 0) nothing))
     ]) in
-    subst (IsFirstFault c.args.octets.now) (sym f) (subst (λ n. IsFirstFault c.args.octets.now (fault_at refusals.Line n 0)) i.2 one)
+    faults_are_first c.args.octets.now c.fault_at-else-is_empty.result
+    (subst (IsRefused c.args.octets.now) (sym f) (subst (λ n. IsRefused c.args.octets.now (fault_at refusals.Line n 0)) i.2 one))
 
 pub returns-else-is_empty-clause-only : goal.returns-else-is_empty-clause-only
 returns-else-is_empty-clause-only c s is =

@@ -1,5 +1,5 @@
 use Rattle.std.proofs.Common.{◌≡◌, ◌++◌, ◌+◌, ◌≤◌, ℕ, List, length}
-use Rattle.tca_figures.specs.Progress.{Follow, IsSound, Progress, unread}
+use Rattle.tca_figures.specs.inside.Progress.{Follow, IsSound, Progress, unread}
 use Rattle.tca_figures.specs.Reading.{parts}
 use Rattle.tca_figures.proofs.statement.read_statement.Given as goal
 

@@ -1,7 +1,7 @@
 use Rattle.std.proofs.Common.{rules, sym, subst, inl, inr, refl, true, ◌≡◌, ◌++◌, ◌∷◌, []}
 use Rattle.tca_figures.specs.Lines.{end_line}
 use Rattle.tca_figures.specs.Figures.{IsSpan, IsSummed}
-use Rattle.tca_figures.specs.Progress.{FollowsAt, Progress, closed, ended, is_kept, opened}
+use Rattle.tca_figures.specs.inside.Progress.{FollowsAt, Progress, closed, ended, is_kept, opened}
 use Rattle.tca_figures.proofs.Ascending.{all_push}
 use Rattle.tca_figures.proofs.Sound.{ends_at_end, ends_at_name}
 use Rattle.tca_figures.proofs.reader.Reader.take_behind_total.Goals as goal

@@ -1,5 +1,5 @@
 use Rattle.std.proofs.Common.{◌≡◌, rules, refl, subst, sym, true}
-use Rattle.tca_figures.specs.Progress.{FollowsAt, IsOpened, is_kept, opened}
+use Rattle.tca_figures.specs.inside.Progress.{FollowsAt, IsOpened, is_kept, opened}
 use Rattle.tca_figures.proofs.reader.Reader.take_name.Goals as goal
 
 pub returns-in_err-self-inside-clause-memory : goal.returns-in_err-self-inside-clause-memory

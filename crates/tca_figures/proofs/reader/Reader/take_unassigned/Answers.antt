@@ -1,6 +1,6 @@
 use Rattle.std.proofs.Common.{◌∙◌, sym, subst, ◌≡◌}
 use Rattle.tca_figures.proofs.Counts.{same_number}
-use Rattle.tca_figures.specs.Progress.{Progress}
+use Rattle.tca_figures.specs.inside.Progress.{Progress}
 use Rattle.tca_figures.specs.declared.reader.Stage.TheVariants as stages
 use Rattle.tca_figures.proofs.reader.Reader.take_unassigned.Goals as goal
 

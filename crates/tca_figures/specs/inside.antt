@@ -1,0 +1,3 @@
+-- What private functions and invariants alone cite. No public contract speaks of it.
+pub mod Progress
+pub mod Refusals
