@@ -65,9 +65,9 @@ fn takes<L: Side, R: Wait>(
     list: &[Report],
     before: usize,
 ) -> Option<usize> {
-    let before = pass.calls().len();
+    let calls = pass.calls().len();
     let receipt = shared.take(rt, pass, list);
-    let noted = pass.calls().len() != before;
+    let noted = pass.calls().len() != calls;
     if noted != receipt.is_ok() {
         return None;
     }
