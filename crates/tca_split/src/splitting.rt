@@ -13,9 +13,12 @@ ghost use Rattle.tca_split.specs.inside.Buffering.{IsWritingRefused};
 use crate::buffers::Buffers;
 use crate::fault::SplitFault;
 use crate::folder::{Folder, check_free, create_all};
-use crate::survey::first_reading;
+use crate::survey::{PIECE, first_reading, new_piece};
 use std::alloc::Global;
 use tca_report::{Read, ReadFault};
+
+// The most octets of a message, whose length its header says in 16 bits.
+const MOST_MESSAGE: usize = 65_535;
 
 /// How many observation domains and messages a capture has.
 #[derive(Clone, Copy, Debug, PartialEq, Eq)]
@@ -41,11 +44,14 @@ fn write_parts<S: Read, F: Folder>(
         → IsWritingRefused octets e) }
     ensures read { CountsRead result (S.failures reader.old) (S.failures reader.new) }
     ensures turns { IsErrOf result (SplitFault.Read ReadFault.Turns) → S.reads reader.new ≡ S.reads reader.old + most_turns }
+    ensures memory { IsErrOf result SplitFault.Memory → F.files folder.new ≡ F.files folder.old }
     ensures write { CountsWrite result (F.failures folder.old) (F.failures folder.new) }
 {
     let mut buffers = Buffers::new(alloc, domains)?;
+    let piece = new_piece(alloc, PIECE)?;
+    let held = Vec::with_capacity(alloc, PIECE + MOST_MESSAGE)?;
     create_all(domains, folder)?;
-    buffers.take_all(alloc, reader, folder)?;
+    buffers.take_all(piece, held, reader, folder)?;
     buffers.empty(domains, folder)?;
     Ok(())
 }
@@ -77,6 +83,9 @@ pub fn split<R: Read, S: Read, F: Folder>(
     // Where memory is told, nothing in front was to be refused.
     ensures memory { IsErrOf result SplitFault.Memory → (octets : List ℕ) → R.left first.old ≡ Some octets
         → (R.reads first.new ≡ R.reads first.old) ⊎ WantsMemory octets (R.left first.new) ⊎ IsRight octets }
+
+    // And no file was made.
+    ensures untouched { IsErrOf result SplitFault.Memory → F.files folder.new ≡ F.files folder.old }
 
     // A read failed: of the first reading, before a file was touched, or of the second.
     ensures read { IsErrOf result (SplitFault.Read ReadFault.Read)
