@@ -143,6 +143,7 @@ class Growths(ProgramTest):
         (self.folder / "parts").mkdir()
         self.write("capture", ONE + SHORT[:12] + b"\0\0\0\t" + SHORT[16:])
         whole = {"7.ipfix": ONE, "9.ipfix": SHORT[:12] + b"\0\0\0\t" + SHORT[16:]}
+        told = {}
         for number in range(1, MOST_GROWTHS):
             done, refused = self.run_refused(number, [str(TOOL), "split", "parts", "capture"])
             files = {path.name: path.read_bytes() for path in (self.folder / "parts").iterdir()}
@@ -150,8 +151,12 @@ class Growths(ProgramTest):
                 self.assertEqual((done.stdout, files), (b"domains 2\nmessages 2\n", whole))
             else:
                 self.assertEqual((done.returncode, done.stdout), (1, b""), number)
+                self.assertIn(done.stderr, (b"tcatool: split: memory 1\n", b"tcatool: split: write 1\n"), number)
+                told[done.stderr] = number
                 for name, octets in files.items():
                     self.assertTrue(whole[name].startswith(octets), number)
+                if b"memory" in done.stderr:
+                    self.assertEqual(files, {}, number)
             if not refused:
                 self.assertEqual(done.returncode, 0)
                 break

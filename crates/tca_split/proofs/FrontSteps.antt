@@ -1,6 +1,5 @@
 -- Messages at the front of octets, one after the other.
-use Rattle.std.proofs.Common.{◌≡◌, ℕ, ◌-◌, ◌≤◌, List, [], ◌∷◌, ◌++◌, length, drop, Option, refl, sym, ap, subst, ◌∙◌, append_assoc, append-nil, arith}
-use Rattle.std.proofs.lemmas.List.{length-append}
+use Rattle.std.proofs.Common.{◌≡◌, ℕ, ◌-◌, ◌≤◌, List, [], ◌∷◌, ◌++◌, length, drop, Option, refl, sym, ap, subst, ◌∙◌, append-nil, arith}
 use Rattle.std.specs.List.{concat}
 use Rattle.tca_wire.specs.Frames.{Framing, Holds, Failed, IsFrame, IsPart, IsFaulty, frames_of}
 use Rattle.tca_wire.specs.declared.fault.WireFault.{WireFault}
