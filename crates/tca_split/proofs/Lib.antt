@@ -14,5 +14,6 @@ pub mod Endings
 pub mod Refusals
 pub mod OnResults
 pub mod Strangers
+pub mod FrontSteps
 pub mod PieceSteps
 pub mod PartSteps

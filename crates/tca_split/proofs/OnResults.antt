@@ -1,5 +1,5 @@
 -- What holds where a result is an `Ok` or an `Err`.
-use Rattle.std.proofs.Common.{◌≡◌, true}
+use Rattle.std.proofs.Common.{◌≡◌, ◌⊎◌, inl, inr, true}
 use Rattle.std.specs.Prelude.{Result, Ok, Err, is_err, OnOk, OnErr}
 
 pub on_err : {T E : Type 0} (P : Type 0) (r : Result T E) → is_err r ≡ true → OnErr r P → P
@@ -21,3 +21,8 @@ ok_map P Q (Err x) f h = tt
 pub ok_of : {T E : Type 0} (P : Type 0) (r : Result T E) → P → OnOk r P
 ok_of P (Ok x) h = h
 ok_of P (Err x) h = tt
+
+-- the other of two
+pub other : {P Q : Type 0} → P ⊎ Q → (P → ⊥) → Q
+other (inl p) f = absurd (f p)
+other (inr q) f = q

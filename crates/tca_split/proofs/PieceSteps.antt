@@ -3,33 +3,20 @@ use Rattle.std.proofs.Common.{◌≡◌, ℕ, List, [], ◌++◌, Option, Some, 
 use Rattle.std.proofs.lemmas.List.{drop_all}
 use Rattle.std.specs.Prelude.{Result, Ok, IfErr}
 use Rattle.std.specs.Io.KnownBytes.{Consumes, IsAtEnd}
-use Rattle.tca_wire.specs.Frames.{Framing, Holds, Failed, IsStream, Feeds, frames_of, ending}
+use Rattle.tca_wire.specs.Frames.{Framing, Holds, Failed, IsStream, frames_of, ending}
 use Rattle.tca_wire.specs.declared.fault.WireFault.{WireFault}
-use Rattle.tca_wire.specs.declared.fault.WireFault.TheVariants as wire
-use Rattle.tca_wire.proofs.FramesOf.{is_stream, frames_are}
+use Rattle.tca_wire.proofs.FramesOf.{frames_are}
 use Rattle.tca_report.proofs.lemmas.input.CaptureParts.{in_longer}
-use Rattle.tca_split.specs.Faults.{framing_fault}
 use Rattle.tca_split.specs.Failures.{CountsWriteFault, CountsWrite, CountsReadFault, CountsRead}
 use Rattle.tca_split.specs.Folders.{Files}
 use Rattle.tca_split.specs.inside.Surveying.{IsFramed}
 use Rattle.tca_split.specs.inside.Buffering.{Kept, Takes, Begins, SameDomains, IsPieceRefused, TakesPiece, StopsInPiece, HasRead, IsSecondRefused}
 use Rattle.tca_split.specs.declared.fault.SplitFault.{SplitFault}
 use Rattle.tca_split.specs.declared.fault.SplitFault.TheVariants.{Read, Wire, Limits, Exists, Changed, Write, Memory}
-use Rattle.tca_split.proofs.BufferSteps.{takes_none, takes_more, begins_same, begins_more, begins_longer, begins_taken}
+use Rattle.tca_split.proofs.BufferSteps.{takes_none, takes_more, begins_more, begins_longer, begins_taken}
 use Rattle.tca_split.proofs.ReadSteps.{read_on, read_end}
 use Rattle.tca_split.proofs.Strangers.{stranger_among}
 use Rattle.tca_split.proofs.SurveySteps.{fed, framed_on, framed_stream, framed_whole, failed_stream, framed_none}
-
--- what a piece would bring
-feeds_any : (framer : Framing) (piece : List ℕ) → (ms : List (List ℕ)) × (after : Framing) × Feeds framer piece ms after
-feeds_any (Holds held) piece = ((frames_of (held ++ piece)).0, (frames_of (held ++ piece)).1, is_stream (held ++ piece))
-feeds_any (Failed fault) piece = ([], Failed fault, (refl, refl))
-
--- a piece that there was no memory for
-pub stops_at_once : (framer : Framing) (piece : List ℕ) (k : Kept) (x : Option Files) → StopsInPiece framer piece k x x Memory
-stops_at_once framer piece k x =
-    let f = feeds_any framer piece in
-    record { messages = f.0; after = f.1; fed = f.2; begun = begins_same f.0 k x; refused = tt }
 
 -- nothing was read yet
 pub read_none : (octets : List ℕ) (left : Option (List ℕ)) (framer : Framing) (k : Kept) (x : Option Files) → left ≡ Some octets → framer ≡ Holds [] → HasRead octets left framer k x k x
@@ -96,7 +83,7 @@ module _ (octets : List ℕ) (left : Option (List ℕ)) (framer : Framing) (k l 
           stranger_among h.messages s.messages longer.0 (frames_of octets).0 k l
           (ap (λ (o : List ℕ). (frames_of o).0) (cut octets h.read h.rest piece r.0 h.parts r.2) ∙ same.0) alike p
       go Write p = tt
-      go Memory p = tt
+      go Memory p = p
 
   -- where no piece more was read
   pub so_far_begins : Begins (frames_of octets).0 k x y
@@ -119,52 +106,25 @@ module _ (octets : List ℕ) (left : Option (List ℕ)) (framer : Framing) (k l 
   pub ended_right : (now : Option (List ℕ)) (piece : List ℕ) → piece ≡ [] → Consumes left now piece → IsAtEnd now → ending framer ≡ Ok tt → ending (frames_of octets).1 ≡ Ok tt
   ended_right now piece none consumes end e = ap ending (at_end now piece none consumes end).1 ∙ e
 
-  pub ended_refused : (now : Option (List ℕ)) (piece : List ℕ) (fault : WireFault) → piece ≡ [] → Consumes left now piece → IsAtEnd now → ending framer ≡ Err fault → IsSecondRefused octets k (framing_fault fault)
-  ended_refused now piece fault none consumes end e = go fault (ap ending (at_end now piece none consumes end).1 ∙ e)
-    where
-      go : (fault : WireFault) → ending (frames_of octets).1 ≡ Err fault → IsSecondRefused octets k (framing_fault fault)
-      go wire.Memory p = tt
-      go wire.Short p = p
-      go (wire.BadVersion v) p = p
-      go (wire.BadLength n) p = p
-      go (wire.SetLength at) p = p
-      go (wire.SetPastEnd at) p = p
-      go (wire.Trailing at) p = p
+  pub ended_refused : (now : Option (List ℕ)) (piece : List ℕ) (fault : WireFault) → piece ≡ [] → Consumes left now piece → IsAtEnd now → ending framer ≡ Err fault → IsSecondRefused octets k (Wire fault)
+  ended_refused now piece fault none consumes end e = ap ending (at_end now piece none consumes end).1 ∙ e
 
 -- the same of a result
 pub ended_if_refused : (start left now : Option (List ℕ)) (framer : Framing) (k l : Kept) (x y : Option Files) (piece : List ℕ) (r : Result (Unit {0}) SplitFault)
     → ((octets : List ℕ) → start ≡ Some octets → HasRead octets left framer k x l y) → piece ≡ [] → Consumes left now piece → IsAtEnd now
-    → IfErr r (λ e. (fault : WireFault) × (ending framer ≡ Err fault) × (e ≡ framing_fault fault)) → IfErr r (λ e. (octets : List ℕ) → start ≡ Some octets → IsSecondRefused octets k e)
+    → IfErr r (λ e. (fault : WireFault) × (ending framer ≡ Err fault) × (e ≡ Wire fault)) → IfErr r (λ e. (octets : List ℕ) → start ≡ Some octets → IsSecondRefused octets k e)
 ended_if_refused start left now framer k l x y piece (Ok u) so_far none consumes end h = tt
 ended_if_refused start left now framer k l x y piece (Err e) so_far none consumes end h = λ octets known.
     subst (IsSecondRefused octets k) (sym h.2) (ended_refused octets left framer k l x y (so_far octets known) now piece h.0 none consumes end h.1)
 
 -- a fault of the framing counts nothing
-no_write : (fault : WireFault) (m n : ℕ) → n ≡ m → CountsWriteFault (framing_fault fault) m n
-no_write wire.Memory m n h = h
-no_write wire.Short m n h = h
-no_write (wire.BadVersion v) m n h = h
-no_write (wire.BadLength v) m n h = h
-no_write (wire.SetLength at) m n h = h
-no_write (wire.SetPastEnd at) m n h = h
-no_write (wire.Trailing at) m n h = h
-
-no_read : (fault : WireFault) (m n : ℕ) → n ≡ m → CountsReadFault (framing_fault fault) m n
-no_read wire.Memory m n h = h
-no_read wire.Short m n h = h
-no_read (wire.BadVersion v) m n h = h
-no_read (wire.BadLength v) m n h = h
-no_read (wire.SetLength at) m n h = h
-no_read (wire.SetPastEnd at) m n h = h
-no_read (wire.Trailing at) m n h = h
-
-pub counts_no_write : (r : Result (Unit {0}) SplitFault) (framer : Framing) (m n : ℕ) → IfErr r (λ e. (fault : WireFault) × (ending framer ≡ Err fault) × (e ≡ framing_fault fault)) → n ≡ m → CountsWrite r m n
+pub counts_no_write : (r : Result (Unit {0}) SplitFault) (framer : Framing) (m n : ℕ) → IfErr r (λ e. (fault : WireFault) × (ending framer ≡ Err fault) × (e ≡ Wire fault)) → n ≡ m → CountsWrite r m n
 counts_no_write (Ok u) framer m n h e = e
-counts_no_write (Err f) framer m n h e = subst (λ f. CountsWriteFault f m n) (sym h.2) (no_write h.0 m n e)
+counts_no_write (Err f) framer m n h e = subst (λ f. CountsWriteFault f m n) (sym h.2) e
 
-pub counts_no_read : (r : Result (Unit {0}) SplitFault) (framer : Framing) (m n : ℕ) → IfErr r (λ e. (fault : WireFault) × (ending framer ≡ Err fault) × (e ≡ framing_fault fault)) → n ≡ m → CountsRead r m n
+pub counts_no_read : (r : Result (Unit {0}) SplitFault) (framer : Framing) (m n : ℕ) → IfErr r (λ e. (fault : WireFault) × (ending framer ≡ Err fault) × (e ≡ Wire fault)) → n ≡ m → CountsRead r m n
 counts_no_read (Ok u) framer m n h e = e
-counts_no_read (Err f) framer m n h e = subst (λ f. CountsReadFault f m n) (sym h.2) (no_read h.0 m n e)
+counts_no_read (Err f) framer m n h e = subst (λ f. CountsReadFault f m n) (sym h.2) e
 
 -- a piece counts no read
 pub stopped_reads : (framer : Framing) (piece : List ℕ) (k : Kept) (x y : Option Files) (e : SplitFault) (m n : ℕ) → StopsInPiece framer piece k x y e → n ≡ m → CountsReadFault e m n
@@ -177,7 +137,7 @@ stopped_reads framer piece k x y e m n s h = go e s.refused
     go Exists p = absurd p
     go Changed p = h
     go Write p = h
-    go Memory p = h
+    go Memory p = absurd p
 
 -- all of a piece's octets, as a read left them
 pub whole_piece : (len : ℕ) (into items : List ℕ) → length into ≡ length items → length items ≡ len → take len (into ++ drop (length into) items) ≡ into

@@ -1,6 +1,6 @@
 -- Why a capture isn't split, by what its steps are refused for.
 use Rattle.std.proofs.Common.{◌≡◌, ◌≢◌, ◌⊎◌, ℕ, Bool, true, false, cond, inl, inr, List, [], ◌∷◌, ◌++◌, append_assoc, Option, Some, None, Ok, Err, refl, sym, ap, subst, ◌∙◌}
-use Rattle.std.specs.Prelude.{is_some}
+use Rattle.std.specs.Prelude.{Result, is_some}
 use Rattle.tca_wire.specs.Frames.{frames_of, ending}
 use Rattle.tca_wire.proofs.FramesOf.{is_stream}
 use Rattle.tca_report.specs.device.Devices.{Rises}
@@ -32,7 +32,7 @@ first_refused octets fs y Limits same h = (h, same)
 first_refused octets fs y Exists same h = absurd h
 first_refused octets fs y Changed same h = h
 first_refused octets fs y Write same h = absurd h
-first_refused octets fs y Memory same h = inl same
+first_refused octets fs y Memory same h = same
 
 -- a file was there, or couldn't be looked for
 pub look_refused : (octets : List ℕ) (fs : Files) (y : Option Files) (e : SplitFault) → y ≡ Some fs → IsRight octets → (e ≡ Exists) ⊎ (e ≡ Write)
@@ -44,16 +44,16 @@ look_refused octets fs y e same right (inr is) found = subst (λ (x : SplitFault
 
 -- the writing ended early
 pub writing_refused : (octets : List ℕ) (fs : Files) (y : Option Files) (e : SplitFault) → IsRight octets → ending (frames_of octets).1 ≡ Ok tt → IsFree octets fs → AreBegun octets fs y → IsWritingRefused octets e
-    → IsRefused octets fs y e
-writing_refused octets fs y (Read read.Read) right end free begun h = inr (record { right = right; free = free; begun = begun })
-writing_refused octets fs y (Read read.Turns) right end free begun h = inr (record { right = right; free = free; begun = begun })
-writing_refused octets fs y (Read read.Memory) right end free begun h = h
-writing_refused octets fs y (Wire fault) right end free begun h = absurd (let bad : Ok tt ≡ Err fault = sym end ∙ h in cc)
-writing_refused octets fs y Limits right end free begun h = absurd h
-writing_refused octets fs y Exists right end free begun h = absurd h
-writing_refused octets fs y Changed right end free begun h = h
-writing_refused octets fs y Write right end free begun h = (right, inr (record { right = right; free = free; begun = begun }))
-writing_refused octets fs y Memory right end free begun h = inr (record { right = right; free = free; begun = begun })
+    → (e ≡ Memory → y ≡ Some fs) → IsRefused octets fs y e
+writing_refused octets fs y (Read read.Read) right end free begun h kept = inr (record { right = right; free = free; begun = begun })
+writing_refused octets fs y (Read read.Turns) right end free begun h kept = inr (record { right = right; free = free; begun = begun })
+writing_refused octets fs y (Read read.Memory) right end free begun h kept = h
+writing_refused octets fs y (Wire fault) right end free begun h kept = absurd (let bad : Ok tt ≡ Err fault = sym end ∙ h in cc)
+writing_refused octets fs y Limits right end free begun h kept = absurd h
+writing_refused octets fs y Exists right end free begun h kept = absurd h
+writing_refused octets fs y Changed right end free begun h kept = h
+writing_refused octets fs y Write right end free begun h kept = (right, inr (record { right = right; free = free; begun = begun }))
+writing_refused octets fs y Memory right end free begun h kept = kept refl
 
 -- each domain of a message has a buffer
 no_stranger : (octets ds : List ℕ) (k : Kept) → ds ≡ domains_of (frames_of octets).0 → ((d : ℕ) → k d ≡ empty_for ds d) → HasStranger (frames_of octets).0 k → ⊥
@@ -78,10 +78,21 @@ second_refused octets ds k Limits own empty h = h
 second_refused octets ds k Exists own empty h = h
 second_refused octets ds k Changed own empty h = no_stranger octets ds k own empty h
 second_refused octets ds k Write own empty h = tt
-second_refused octets ds k Memory own empty h = tt
+second_refused octets ds k Memory own empty h = absurd h
 
 pub write_refused : (octets : List ℕ) (e : SplitFault) → e ≡ Write → IsWritingRefused octets e
 write_refused octets e is = subst (λ (x : SplitFault). IsWritingRefused octets x) (sym is) tt
+
+-- a result tells one fault
+pub told_is : {T : Type 0} (r : Result T SplitFault) (d e : SplitFault) → r ≡ Err d → r ≡ Err e → d ≡ e
+told_is r d e p q = let both : Err d ≡ Err e = sym p ∙ q in cc
+
+-- nothing was written where memory is told, since something else is
+pub no_want : (r : Result (Unit {0}) SplitFault) (d : SplitFault) (x y : Option Files) → r ≡ Err d → (d ≡ Memory → ⊥) → r ≡ Err Memory → y ≡ x
+no_want r d x y is not told = absurd (not (told_is r d Memory is told))
+
+pub write_no_want : (d : SplitFault) → d ≡ Write → d ≡ Memory → ⊥
+write_no_want d is told = let bad : Write ≡ Memory = sym is ∙ told in absurd cc
 
 -- a count that didn't rise, since no failed read was told
 pub calm_read : (e : SplitFault) (old new : ℕ) → CountsReadFault e old new → (e ≡ Read read.Read → ⊥) → new ≡ old

@@ -23,4 +23,4 @@ refused_among a b c ms k l Limits parts same h = h
 refused_among a b c ms k l Exists parts same h = h
 refused_among a b c ms k l Changed parts same h = stranger_among a b c ms k l parts same h
 refused_among a b c ms k l Write parts same h = tt
-refused_among a b c ms k l Memory parts same h = tt
+refused_among a b c ms k l Memory parts same h = h

@@ -67,4 +67,4 @@ IsRefused octets before after Limits = (surveyed octets ≡ Err Limits) × (afte
 IsRefused octets before after Exists = IsTaken octets before after
 IsRefused octets before after Changed = ⊥
 IsRefused octets before after Write = IsRight octets × ((after ≡ Some before) ⊎ IsStopped octets before after)
-IsRefused octets before after Memory = (after ≡ Some before) ⊎ IsStopped octets before after
+IsRefused octets before after Memory = after ≡ Some before

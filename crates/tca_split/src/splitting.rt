@@ -13,9 +13,12 @@ ghost use Rattle.tca_split.specs.inside.Buffering.{IsWritingRefused};
 use crate::buffers::Buffers;
 use crate::fault::SplitFault;
 use crate::folder::{Folder, check_free, create_all};
-use crate::survey::first_reading;
+use crate::survey::{PIECE, first_reading, new_piece};
 use std::alloc::Global;
 use tca_report::{Read, ReadFault};
+
+// The most octets of a message, whose length its header says in 16 bits.
+const MOST_MESSAGE: usize = 65_535;
 
 /// How many observation domains and messages a capture has.
 #[derive(Clone, Copy, Debug, PartialEq, Eq)]
@@ -41,11 +44,14 @@ fn write_parts<S: Read, F: Folder>(
         → IsWritingRefused octets e) }
     ensures read { CountsRead result (S.failures reader.old) (S.failures reader.new) }
     ensures turns { IsErrOf result (SplitFault.Read ReadFault.Turns) → S.reads reader.new ≡ S.reads reader.old + most_turns }
+    ensures memory { IsErrOf result SplitFault.Memory → F.files folder.new ≡ F.files folder.old }
     ensures write { CountsWrite result (F.failures folder.old) (F.failures folder.new) }
 {
     let mut buffers = Buffers::new(alloc, domains)?;
+    let piece = new_piece(alloc, PIECE)?;
+    let held = Vec::with_capacity(alloc, PIECE + MOST_MESSAGE)?;
     create_all(domains, folder)?;
-    buffers.take_all(alloc, reader, folder)?;
+    buffers.take_all(piece, held, reader, folder)?;
     buffers.empty(domains, folder)?;
     Ok(())
 }
@@ -54,13 +60,23 @@ fn write_parts<S: Read, F: Folder>(
 /// domain, and answers how many domains and messages there are. Of a message its framing alone is judged.
 ///
 /// The capture is read twice, in pieces. The first reading tells its domains, or the first thing from the left for which
-/// it isn't split: a message of one domain more than 4,096 is `Limits`; a header with a version other than 10 or a
-/// length below 16, or an end within a message, is `Wire`. Then each domain's file is looked for: `Exists` where one is
-/// there. So far nothing was made. Then the files are made, in the order in which the domains first come, and the second
-/// reading fills them. Where it isn't as the first was, a domain that the first had none of is `Changed`.
+/// it isn't split. Then each domain's file is looked for, and all memory is taken. So far nothing was made. Then the files
+/// are made, in the order in which the domains first come, and the second reading fills them.
 ///
-/// `Read` and `Write` come where a call of the reader or the folder failed, `Memory` where there was none. A file that
-/// was begun by then is left with octets from the front of its domain's.
+/// These are told before any file was made, so that all files are as they were:
+/// - `Wire`: a header with a version other than 10 or a length below 16, or an end within a message; `Limits`: a message
+///   of one domain more than 4,096. The first of them from the left is told.
+/// - `Exists`: a file of a domain is there.
+/// - `Memory`: there was none for the first reading, or for the second and its buffers.
+///
+/// These may come before or after, and after it leave files that were begun, each with octets from the front of its
+/// domain's part, or with none. They have to be deleted before the next call, which else is `Exists`:
+/// - `Read`: a read of the first reading failed, or it didn't end within 2^64 - 1 reads, and no file was made; or so it
+///   was with the second, and files were begun.
+/// - `Write`: a file couldn't be looked for, and none was made; or one couldn't be made or written, and files were begun.
+///
+/// Where the second reading isn't as the first was, a domain that the first had none of is `Changed`, and a fault of the
+/// framing `Wire`; then too files were begun.
 pub fn split<R: Read, S: Read, F: Folder>(
     alloc: Global,
     first: &mut R,
@@ -77,6 +93,9 @@ pub fn split<R: Read, S: Read, F: Folder>(
     // Where memory is told, nothing in front was to be refused.
     ensures memory { IsErrOf result SplitFault.Memory → (octets : List ℕ) → R.left first.old ≡ Some octets
         → (R.reads first.new ≡ R.reads first.old) ⊎ WantsMemory octets (R.left first.new) ⊎ IsRight octets }
+
+    // And no file was made.
+    ensures untouched { IsErrOf result SplitFault.Memory → F.files folder.new ≡ F.files folder.old }
 
     // A read failed: of the first reading, before a file was touched, or of the second.
     ensures read { IsErrOf result (SplitFault.Read ReadFault.Read)

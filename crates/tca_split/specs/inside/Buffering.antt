@@ -1,10 +1,10 @@
 -- What becomes of the messages of a second reading: a domain's go behind what its buffer holds, and from the front of the buffer to its file.
 -- Cited inside this crate alone.
 use Rattle.std.specs.Prelude.{◌≡◌, ℕ, ⊤, false, List, [], ◌∷◌, ◌++◌, Option, Some, None, Err, option_map, nat_eq, is_some, if◌then◌else◌}
-use Rattle.std.specs.List.{concat}
+use Rattle.std.specs.List.{concat, AllByRecursion}
 use Rattle.indexmap.specs.IndexMap.{get}
 use Rattle.tca_report.specs.declared.device.octets.ReadFault.TheVariants as read
-use Rattle.tca_wire.specs.Frames.{Framing, Feeds, fault_of, frames_of, ending}
+use Rattle.tca_wire.specs.Frames.{Framing, Feeds, IsFrame, fault_of, frames_of, ending}
 use Rattle.tca_split.specs.Parts.{domain_of, messages_of}
 use Rattle.tca_split.specs.Surveys.{is_among}
 use Rattle.tca_split.specs.Folders.{Files, Lengthens, Creates}
@@ -79,7 +79,7 @@ pub record HasStranger (messages : List (List ℕ)) (kept : Kept) : Type 0 where
   pub parts : messages ≡ front ++ message ∷ behind
   pub stranger : is_some (kept (domain_of message)) ≡ false
 
--- why messages aren't taken: one is of a domain without a buffer, a write failed, or there was no memory
+-- why messages aren't taken: one is of a domain without a buffer, or a write failed
 abbrev pub AreRefused : List (List ℕ) → Kept → SplitFault → Type 0
 AreRefused messages kept (Read fault) = ⊥
 AreRefused messages kept (Wire fault) = ⊥
@@ -87,7 +87,7 @@ AreRefused messages kept Limits = ⊥
 AreRefused messages kept Exists = ⊥
 AreRefused messages kept Changed = HasStranger messages kept
 AreRefused messages kept Write = ⊤
-AreRefused messages kept Memory = ⊤
+AreRefused messages kept Memory = ⊥
 
 -- why a piece isn't taken: the header behind its messages has a fault, or they aren't taken
 abbrev pub IsPieceRefused : List (List ℕ) → Framing → Kept → SplitFault → Type 0
@@ -97,7 +97,14 @@ IsPieceRefused messages after kept Limits = ⊥
 IsPieceRefused messages after kept Exists = ⊥
 IsPieceRefused messages after kept Changed = HasStranger messages kept
 IsPieceRefused messages after kept Write = ⊤
-IsPieceRefused messages after kept Memory = ⊤
+IsPieceRefused messages after kept Memory = ⊥
+
+-- The messages at the front of the octets were taken, and the rest is left.
+pub record HasTaken (octets rest : List ℕ) (kept : Kept) (files : Option Files) (now : Kept) (done : Option Files) : Type 0 where
+  pub messages : List (List ℕ)
+  pub whole : octets ≡ concat messages ++ rest
+  pub each : AllByRecursion IsFrame messages
+  pub taken : Takes messages kept files now done
 
 -- A piece brought these messages, and all were taken. No fault stands behind them.
 pub record TakesPiece (framer : Framing) (piece : List ℕ) (after : Framing) (kept : Kept) (files : Option Files) (now : Kept) (done : Option Files) : Type 0 where
@@ -134,7 +141,7 @@ IsSecondRefused octets kept Limits = ⊥
 IsSecondRefused octets kept Exists = ⊥
 IsSecondRefused octets kept Changed = HasStranger (frames_of octets).0 kept
 IsSecondRefused octets kept Write = ⊤
-IsSecondRefused octets kept Memory = ⊤
+IsSecondRefused octets kept Memory = ⊥
 
 -- why the writing of a capture's parts ends early, where its domains are right
 abbrev pub IsWritingRefused : List ℕ → SplitFault → Type 0

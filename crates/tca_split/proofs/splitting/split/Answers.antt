@@ -1,10 +1,12 @@
-use Rattle.std.proofs.Common.{◌≡◌, ◌∙◌, ap, length, Some}
+use Rattle.std.proofs.Common.{◌≡◌, ◌∙◌, ap, length, refl, Some, Err}
 use Rattle.std.proofs.lemmas.Result.{err_from_is_err_and}
 use Rattle.tca_wire.specs.Frames.{frames_of}
 use Rattle.tca_split.specs.Parts.{domains_of}
 use Rattle.tca_split.specs.Surveys.{is_among}
 use Rattle.tca_split.specs.Splits.{IsFree}
-use Rattle.tca_split.proofs.Refusals.{right_of, writing_refused}
+use Rattle.tca_split.specs.declared.fault.SplitFault.{SplitFault}
+use Rattle.tca_split.specs.declared.fault.SplitFault.TheVariants.{Memory}
+use Rattle.tca_split.proofs.Refusals.{right_of, told_is, writing_refused}
 use Rattle.tca_split.proofs.splitting.split.Goals as goal
 
 pub returns-in_err-write_parts-clause-refused : goal.returns-in_err-write_parts-clause-refused
@@ -16,7 +18,14 @@ returns-in_err-write_parts-clause-refused g c =
     let free : IsFree octets files = λ d has. c.in_ok-check_free.ensures.free files known d (ap (is_among d) own ∙ has) in
     let same : g.F.Folder.files c.check_free.new.folder ≡ Some files = c.in_ok-check_free.ensures.files ∙ known in
     writing_refused octets files (g.F.Folder.files c.write_parts.new.folder) c.in_err-write_parts.field-0.0 (right_of octets c.in_ok-survey.survey s.0 s.1) s.1 free
-    (c.in_err-write_parts.ensures.err octets files again same own free) (c.in_err-write_parts.ensures.fault octets again own))
+    (c.in_err-write_parts.ensures.err octets files again same own free) (c.in_err-write_parts.ensures.fault octets again own)
+    (λ is. c.write_parts.ensures.memory (c.in_err-write_parts.was ∙ ap (λ (e : SplitFault). Err e) is) ∙ same))
+
+pub returns-in_err-write_parts-clause-untouched : goal.returns-in_err-write_parts-clause-untouched
+returns-in_err-write_parts-clause-untouched g c =
+    let p = err_from_is_err_and c.from_residual-in_err-write_parts.result c.from_residual-in_err-write_parts.ensures.1 in
+    rw (p.1, p.2) (λ told. c.write_parts.ensures.memory (c.in_err-write_parts.was ∙ ap (λ (e : SplitFault). Err e) (told_is _ c.in_err-write_parts.field-0.0 Memory refl told))
+    ∙ c.in_ok-check_free.ensures.files)
 
 pub returns-clause-done : goal.returns-clause-done
 returns-clause-done g c = λ octets files left again known.

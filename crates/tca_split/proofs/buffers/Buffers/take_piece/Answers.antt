@@ -1,14 +1,10 @@
-use Rattle.std.proofs.Common.{◌∙◌, sym, ap, subst}
-use Rattle.tca_split.specs.Faults.{framing_fault}
-use Rattle.tca_split.specs.inside.Buffering.{buffered, StopsInPiece}
-use Rattle.tca_split.proofs.LentFrames.{both_frames}
-use Rattle.tca_split.proofs.PieceSteps.{stops_at_once}
+use Rattle.std.proofs.Common.{◌≡◌, ◌∙◌, ◌++◌}
+use Rattle.std.proofs.lemmas.Result.{err_from_is_err_and}
+use Rattle.tca_split.proofs.FrontSteps.{piece_stopped}
 use Rattle.tca_split.proofs.buffers.Buffers.take_piece.Goals as goal
 
-pub take_messages-requires : goal.take_messages-requires
-take_messages-requires g c = record { frames = both_frames _ _ _ c.messages.ensures }
-
-pub returns-in-Err-clause-err : goal.returns-in-Err-clause-err
-returns-in-Err-clause-err g c =
-    subst (StopsInPiece c.args.framer.now c.args.piece.now (buffered c.args.self.now) (g.F.Folder.files c.args.folder.now) (g.F.Folder.files c.args.folder.now))
-    (sym (c.framing_fault.ensures ∙ ap framing_fault c.in-Err.ensures.memory)) (stops_at_once _ _ _ _)
+pub returns-in_err-left-clause-err : goal.returns-in_err-left-clause-err
+returns-in_err-left-clause-err g c =
+    let p = err_from_is_err_and c.from_residual.result c.from_residual.ensures.1 in
+    let parts : c.as_slice.result.now ≡ c.args.held.now.items ++ c.args.piece.now = c.as_slice.ensures.value ∙ c.in-Ok.ensures.items in
+    rw (p.1, p.2) (piece_stopped _ _ c.as_slice.result.now _ _ _ parts _ c.in_err-left.ensures.err)
