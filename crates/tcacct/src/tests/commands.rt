@@ -128,14 +128,7 @@ fn meters_in_order_of_time(rt: HostRuntime) {
 
 // Whether exports of one report each give the lines of the three reports, each export twice.
 fn prints_three(alloc: Global, [first, second, third]: [Row; 3]) -> bool {
-    let inputs: [&[Row]; 6] = [
-        &[first],
-        &[second],
-        &[third],
-        &[first],
-        &[second],
-        &[third],
-    ];
+    let inputs: [&[Row]; 6] = [&[first], &[second], &[third], &[first], &[second], &[third]];
     prints(alloc, &inputs, THREE_LINES)
 }
 

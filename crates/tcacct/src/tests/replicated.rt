@@ -178,7 +178,9 @@ fn writes_nothing<R: Threads + Wait + Sync>(
     let mut out = Host::new(Vec::new(alloc));
     let plan = PLAN.as_bytes();
     let asked = Some(&mut export);
-    let refused = run_bill(rt, alloc, plan, inputs, replicas, workers, &NoGate, asked, &mut out);
+    let refused = run_bill(
+        rt, alloc, plan, inputs, replicas, workers, &NoGate, asked, &mut out,
+    );
     let is_empty = export.into_inner().is_empty() && out.into_inner().is_empty();
     refused.err() == Some(fault) && is_empty
 }
@@ -277,7 +279,13 @@ fn refuses_a_write_that_fails(rt: HostRuntime) {
     let Ok(inputs) = export_of_each(rt.alloc(), &[FIRST, SECOND, THIRD]) else {
         panic!(rt; "inputs");
     };
-    for (room, fails) in [(14, false), (14, true), (143, false), (143, true), (0, false)] {
+    for (room, fails) in [
+        (14, false),
+        (14, true),
+        (143, false),
+        (143, true),
+        (0, false),
+    ] {
         let cut = is_cut_off(&rt, rt.alloc(), &inputs, (room, fails));
         assert!(rt; cut, "{room} {fails}");
     }

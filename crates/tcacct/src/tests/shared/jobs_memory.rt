@@ -13,8 +13,8 @@ use std::test::Fail;
 use std::thread::Threads;
 use tca_accounts::{Bill, Plan};
 use tca_ingest::{
-    Closed, Done, Entry, JobFault, NoGate, Pass, ShareFault, Shared, Side, WorkFault, WorkRefused, Worked,
-    work,
+    Closed, Done, Entry, JobFault, NoGate, Pass, ShareFault, Shared, Side, WorkFault, WorkRefused,
+    Worked, work,
 };
 use tca_log::LogFault;
 use tca_report::{Input, InputFault, Report};
@@ -99,7 +99,9 @@ fn is_of(bill: &Result<Bill, AllocError>, octets: [u64; 3], count: u32) -> bool 
 // Whether an entry is a take of this report alone.
 fn took(entry: &Entry, report: &Report) -> bool {
     match entry {
-        Entry::Took { reports, .. } => reports.as_slice().first() == Some(report) && reports.len() == 1,
+        Entry::Took { reports, .. } => {
+            reports.len() == 1 && reports.as_slice().first() == Some(report)
+        }
         _ => false,
     }
 }
@@ -125,14 +127,14 @@ fn is_after(closed: &Closed, list: &[Report]) -> bool {
         journal.iter().any(|entry| took(entry, first)),
         journal.iter().any(|entry| took(entry, second)),
     );
-    let (held, octets): (&[Report], [u64; 3]) = match (one, other) {
-        (true, true) => (list, [1500, 1000, 0]),
-        (true, false) => (&list[..1], [1500, 0, 0]),
-        (false, true) => (&list[1..], [1000, 0, 0]),
-        (false, false) => (&[], [0, 0, 0]),
+    let (held, octets, count): (&[Report], [u64; 3], u32) = match (one, other) {
+        (true, true) => (list, [1500, 1000, 0], 2),
+        (true, false) => (list.get(..1).unwrap_or(list), [1500, 0, 0], 1),
+        (false, true) => (list.get(1..).unwrap_or(list), [1000, 0, 0], 1),
+        (false, false) => (&[], [0, 0, 0], 0),
     };
     let bill = closed.replica.totals();
-    are_takes && has_list(&closed.replica, held) && is_of(&bill, octets, held.len() as u32)
+    are_takes && has_list(&closed.replica, held) && is_of(&bill, octets, count)
 }
 
 fn works_and_closes<L: Side + Send + Sync, R: Threads + Wait + Sync>(

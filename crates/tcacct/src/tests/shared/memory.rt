@@ -44,11 +44,7 @@ fn held_in(entry: &Entry, list: &[Report], before: usize) -> Option<usize> {
 }
 
 // How many reports a take names as held, where at most memory was refused; 0 where no entry was made.
-fn held(
-    receipt: &Result<Receipt, ShareFault>,
-    list: &[Report],
-    before: usize,
-) -> Option<usize> {
+fn held(receipt: &Result<Receipt, ShareFault>, list: &[Report], before: usize) -> Option<usize> {
     match receipt {
         Ok(receipt) => held_in(&receipt.entry, list, before),
         Err(ShareFault::Memory) => Some(0),
