@@ -1,22 +1,15 @@
 -- Messages at the front of octets, one after the other.
-use Rattle.std.proofs.Common.{◌≡◌, ℕ, ◌-◌, ◌≤◌, List, [], ◌∷◌, ◌++◌, length, drop, Option, refl, sym, ap, subst, ◌∙◌, append_assoc, append-nil, arith}
-use Rattle.std.proofs.lemmas.List.{length-append}
-use Rattle.std.specs.List.{concat}
-use Rattle.tca_wire.specs.Frames.{Framing, Holds, Failed, IsFrame, IsPart, IsFaulty, frames_of}
+use Rattle.std.proofs.Common.{◌≡◌, ℕ, List, [], ◌∷◌, ◌++◌, Option, refl, sym, subst, ◌∙◌, append-nil}
+use Rattle.tca_wire.specs.Frames.{Framing, Holds, Failed, IsFrame, IsFaulty, frames_of}
 use Rattle.tca_wire.specs.declared.fault.WireFault.{WireFault}
 use Rattle.tca_wire.proofs.Framings.{frame_more, frames_more, each_both}
 use Rattle.tca_wire.proofs.FramesOf.{is_stream}
-use Rattle.tca_wire.proofs.Lending.{IsCut, cut_at, cut_short}
 use Rattle.tca_split.specs.Folders.{Files}
-use Rattle.tca_split.specs.inside.Buffering.{Kept, Takes, Begins, SameDomains, AreRefused, IsPieceRefused, HasTaken, TakesPiece, StopsInPiece}
+use Rattle.tca_split.specs.inside.Buffering.{Kept, Takes, Begins, SameDomains, AreRefused, IsPieceRefused, HasTaken, StopsInPiece}
 use Rattle.tca_split.specs.declared.fault.SplitFault.{SplitFault}
 use Rattle.tca_split.specs.declared.fault.SplitFault.TheVariants.{Read, Wire, Limits, Exists, Changed, Write, Memory}
-use Rattle.tca_split.proofs.BufferSteps.{takes_none, takes_more, begins_more, begins_longer, begins_taken}
+use Rattle.tca_split.proofs.BufferSteps.{takes_more, begins_more, begins_longer, begins_taken}
 use Rattle.tca_split.proofs.Strangers.{refused_among}
-
--- no message was taken yet
-pub taken_none : (octets : List ℕ) (k : Kept) (x : Option Files) → HasTaken octets octets k x k x
-taken_none octets k x = record { messages = []; whole = refl; each = tt; taken = takes_none k x }
 
 -- why messages aren't taken, whatever stands behind them
 piece_refused : (messages : List (List ℕ)) (after : Framing) (k : Kept) (e : SplitFault) → AreRefused messages k e → IsPieceRefused messages after k e
@@ -36,15 +29,6 @@ module _ (octets rest : List ℕ) (k l : Kept) (x y : Option Files) (h : HasTake
     whole = frame_more octets h.messages m rest behind h.whole parts;
     each = each_both h.messages (m ∷ []) h.each (frame, tt);
     taken = takes_more h.messages (m ∷ []) k l n x y z h.taken t;
-  }
-
-  -- less than a message is left
-  pub all_taken : IsPart rest → TakesPiece (Holds []) octets (Holds rest) k x l y
-  all_taken part = record {
-    messages = h.messages;
-    fed = record { rest = rest; whole = h.whole; each = h.each; ends = (refl, part) };
-    right = refl;
-    taken = h.taken;
   }
 
   -- a header with a fault is left
@@ -77,23 +61,7 @@ module _ (octets rest : List ℕ) (k l : Kept) (x y : Option Files) (h : HasTake
         refused = piece_refused all (frames_of behind).1 k e (refused_among h.messages (m ∷ []) (frames_of behind).0 all k l e refl same refused);
       }
 
--- What was taken of octets that were held and a piece is taken of the piece.
-module _ (held piece octets rest : List ℕ) (k l : Kept) (x y : Option Files) (parts : octets ≡ held ++ piece) where
-  cut : TakesPiece (Holds []) octets (Holds rest) k x l y → IsCut octets rest
-  cut t = record { frames = t.messages; whole = t.fed.whole ∙ ap (λ (o : List ℕ). concat t.messages ++ o) (sym t.fed.ends.0); each = t.fed.each }
-
-  -- the rest lies behind the messages
-  pub rest_within : TakesPiece (Holds []) octets (Holds rest) k x l y → length rest ≤ length octets
-  rest_within t = omega (arith, cut_short octets rest (cut t))
-
-  pub rest_behind : TakesPiece (Holds []) octets (Holds rest) k x l y → drop (length octets - length rest) octets ≡ rest
-  rest_behind t = (cut_at octets rest (length octets - length rest) (cut t) (cut_short octets rest (cut t))).behind
-
-  pub piece_taken : (left : List ℕ) → left ≡ rest → TakesPiece (Holds []) octets (Holds rest) k x l y → TakesPiece (Holds held) piece (Holds left) k x l y
-  piece_taken left same t =
-      subst (λ (o : List ℕ). TakesPiece (Holds held) piece (Holds o) k x l y) (sym same)
-      (record { messages = t.messages; fed = record { rest = t.fed.rest; whole = sym parts ∙ t.fed.whole; each = t.fed.each; ends = t.fed.ends }; right = refl; taken = t.taken })
-
+-- what stops the messages of octets that are held and of a piece stops the piece
 pub piece_stopped : (held piece octets : List ℕ) (k : Kept) (x y : Option Files) → octets ≡ held ++ piece → (e : SplitFault) → StopsInPiece (Holds []) octets k x y e → StopsInPiece (Holds held) piece k x y e
 piece_stopped held piece octets k x y parts e s = record {
   messages = s.messages;

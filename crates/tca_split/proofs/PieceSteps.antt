@@ -3,7 +3,7 @@ use Rattle.std.proofs.Common.{◌≡◌, ℕ, List, [], ◌++◌, Option, Some, 
 use Rattle.std.proofs.lemmas.List.{drop_all}
 use Rattle.std.specs.Prelude.{Result, Ok, IfErr}
 use Rattle.std.specs.Io.KnownBytes.{Consumes, IsAtEnd}
-use Rattle.tca_wire.specs.Frames.{Framing, Holds, Failed, IsStream, Feeds, frames_of, ending}
+use Rattle.tca_wire.specs.Frames.{Framing, Holds, Failed, IsStream, frames_of, ending}
 use Rattle.tca_wire.specs.declared.fault.WireFault.{WireFault}
 use Rattle.tca_wire.proofs.FramesOf.{frames_are}
 use Rattle.tca_report.proofs.lemmas.input.CaptureParts.{in_longer}

@@ -1,5 +1,5 @@
 //! The second reading of a capture: each message goes to the file of its domain, by a buffer of its own.
-ghost use Rattle.std.specs.Prelude.{◌≡◌, ◌≢◌, ◌⊎◌, ◌≤◌, ◌<◌, ◌++◌, ◌∷◌, [], ℕ, List, Some, Ok, Err, ◌==◌, false, true, length, take, drop, IfOk, IfErr, IfSome, IfNone, OnOk, OnErr, IsErrOf, ◌+◌};
+ghost use Rattle.std.specs.Prelude.{◌≡◌, ◌≢◌, ◌⊎◌, ◌≤◌, ◌<◌, ◌++◌, ◌∷◌, [], ℕ, List, Some, Ok, Err, ◌==◌, false, true, length, take, drop, IfOk, IfErr, IfSome, IfNone, OnOk, OnErr, IsErrOf, ◌+◌, ◌-◌};
 ghost use Rattle.std.specs.Vec.{vec_len, vec_capacity};
 ghost use Rattle.tca_wire.specs.Frames.{Holds, IsFrame, IsPart, IsFaulty, frames_of, ending};
 ghost use Rattle.tca_wire.specs.declared.fault.WireFault.{WireFault};
@@ -105,6 +105,18 @@ fn frame_length(octets: &[u8]) -> Result<Option<usize>, WireFault>
     Ok(Some(length as usize))
 }
 
+// Leaves so many octets of the end, which go to the front.
+fn leave_end(held: &mut Vec<u8>, left: usize)
+    requires { left ≤ vec_len held.old }
+    ensures items { held.new.items ≡ drop (vec_len held.old - left) held.old.items }
+    ensures len { vec_len held.new ≡ left }
+    ensures capacity { vec_capacity held.new ≡ vec_capacity held.old }
+{
+    let taken = held.len() - left;
+    held.copy_within(taken.., 0);
+    held.truncate(left);
+}
+
 // Whether the capture may end behind these octets, which aren't a message yet.
 fn finish(held: &[u8]) -> Result<(), SplitFault>
     ensures right { OnOk result (ending (Holds held.now) ≡ Ok tt) }
@@ -192,9 +204,8 @@ impl Buffers {
         let Ok(()) = held.extend_from_slice(piece) else {
             unreachable!();
         };
-        let rest = self.take_messages(held.as_slice(), folder)?;
-        let taken = held.len() - rest.len();
-        held.drain(..taken);
+        let left = self.take_messages(held.as_slice(), folder)?.len();
+        leave_end(held, left);
         Ok(())
     }
 
