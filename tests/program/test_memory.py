@@ -140,18 +140,26 @@ class Growths(ProgramTest):
                     self.check_run(words, out, {}, all_after, TOOL, err)
 
     def test_of_a_split(self):
+        """Want of memory leaves no file. Where the folder lacked it for a file's path, that is a failed write, and may leave files that were begun."""
         (self.folder / "parts").mkdir()
-        self.write("capture", ONE + SHORT[:12] + b"\0\0\0\t" + SHORT[16:])
-        whole = {"7.ipfix": ONE, "9.ipfix": SHORT[:12] + b"\0\0\0\t" + SHORT[16:]}
+        short = SHORT[:12] + b"\0\0\0\t" + SHORT[16:]
+        # The longest message there is, which lies across pieces.
+        long = b"\0\x0a\xff\xff" + bytes(8) + b"\0\0\0\t" + bytes(65_519)
+        self.write("capture", ONE + short + long + long)
+        whole = {"7.ipfix": ONE, "9.ipfix": short + long + long}
+        told = set()
         for number in range(1, MOST_GROWTHS):
             done, refused = self.run_refused(number, [str(TOOL), "split", "parts", "capture"])
             files = {path.name: path.read_bytes() for path in (self.folder / "parts").iterdir()}
             if done.returncode == 0:
-                self.assertEqual((done.stdout, files), (b"domains 2\nmessages 2\n", whole))
+                self.assertEqual((done.stdout, files), (b"domains 2\nmessages 4\n", whole))
             else:
                 self.assertEqual((done.returncode, done.stdout), (1, b""), number)
+                told.add(done.stderr)
                 for name, octets in files.items():
                     self.assertTrue(whole[name].startswith(octets), number)
+                if b"write 1" not in done.stderr:
+                    self.assertEqual(files, {}, number)
             if not refused:
                 self.assertEqual(done.returncode, 0)
                 break
@@ -160,3 +168,4 @@ class Growths(ProgramTest):
         else:
             self.fail("each run met a refusal")
         self.assertGreater(number, 10)
+        self.assertIn(b"tcatool: split: memory 1\n", told)
