@@ -106,9 +106,11 @@ front_summed : (n : ℕ) (accounts : List StatedAccount) (a : StatedAccount) →
     → AllByRecursion IsSummed accounts → AllByRecursion IsSummed (take n (accounts ++ a ∷ []))
 front_summed zero accounts a l h = tt
 front_summed (suc n) [] a l h = absurd (omega (arith, l, length-append (account_lines a) (lines_of (take n [])), length-append (account_lines a) []))
-front_summed (suc n) (b ∷ accounts) a l h =
-    (h.0, front_summed n accounts a
-        (omega (arith, l, length-append (account_lines b) (lines_of (take n (accounts ++ a ∷ []))), length-append (account_lines b) (lines_of (accounts ++ a ∷ [])))) h.1)
+front_summed (suc n) (b ∷ accounts) a l h = (
+  h.0,
+  front_summed n accounts a
+      (omega (arith, l, length-append (account_lines b) (lines_of (take n (accounts ++ a ∷ []))), length-append (account_lines b) (lines_of (accounts ++ a ∷ [])))) h.1,
+)
 
 -- these lines begin a statement, and the totals of accounts whose lines they end are right if these are summed
 abbrev BeginWith : Progress → List (List ℕ) → Type 0
@@ -279,7 +281,7 @@ wrong_total octets line w =
     let with_it : take (length accounts + 1) e.begin.stated.accounts ≡ accounts ++ p.account ∷ [] = ap (take (length accounts + 1)) e.accounts_are ∙ take-append-add accounts (p.account ∷ e.others) 1 in
     let without : take (length accounts) e.begin.stated.accounts ≡ accounts = ap (take (length accounts)) e.accounts_are ∙ take-append_seam accounts (p.account ∷ e.others) in
     let its : length (lines_of (accounts ++ p.account ∷ [])) ≡ length (lines_of accounts) + (2 + length p.account.spans) =
-        ap length (one_more accounts p.account) ∙ omega (arith, length-append (lines_of accounts) (account_lines p.account), length-map p.account.spans span_line) in
+    ap length (one_more accounts p.account) ∙ omega (arith, length-append (lines_of accounts) (account_lines p.account), length-map p.account.spans span_line) in
     let before : w.before ≡ 5 + length (lines_of (accounts ++ p.account ∷ [])) = omega (arith, count, ap length e.lines_are) in
     record {
       before = w.before;
@@ -314,8 +316,11 @@ want octets w =
     let k = w.kept in
     let front = take w.before (whole_lines octets) in
     let b = follow_begins (front ++ w.next ∷ []) k.next (follow_on unread front p w.next k.next w.follow k.follows) in
-    let count : length (front ++ w.next ∷ []) ≡ w.before + 1 = omega (arith, length-append front (w.next ∷ []),
-        length-take-le w.before (whole_lines octets) (omega (arith, slice_get_within (whole_lines octets) w.before w.next w.next_is))) in
+    let count : length (front ++ w.next ∷ []) ≡ w.before + 1 = omega (
+      arith,
+      length-append front (w.next ∷ []),
+      length-take-le w.before (whole_lines octets) (omega (arith, slice_get_within (whole_lines octets) w.before w.next w.next_is)),
+    ) in
     record {
       before = w.before;
       next = w.next;
