@@ -229,6 +229,20 @@ fn print_parts<W: Write>(parts: Parts, out: &mut W) -> Result<(), RunFault>
 
 /// Splits a capture that comes from two readings of it into files of a folder, one for each observation domain, and prints how many
 /// domains and messages there are.
+///
+/// The capture, input 0, is blamed for these:
+/// - `wire` 1, 2 and 3: a fault of its framing; `limits` 1: a message of one domain more than 4,096. The first of them from the left is
+///   told, by the first reading, and no file was made.
+/// - `read` 1: a read failed; `read` 2: a reading didn't end within 2^64 - 1 reads. Of the first reading, no file was made; of the second,
+///   files were begun. `read` 1 is also a capture whose second reading has a domain that the first had none of.
+///
+/// No input is blamed for these:
+/// - `write` 1: a file of a domain is there already, or couldn't be looked for, and none was made; or one couldn't be made or written, and
+///   files were begun; or what is printed couldn't be written, and the files are whole.
+/// - `memory` 1: there was no memory, and no file was made.
+///
+/// A file that was begun is left with octets from the front of its domain's messages, or with none. It has to be deleted before the next
+/// run, which else is `write` 1.
 pub fn run_split<A: Read, B: Read, F: Folder, W: Write>(
     alloc: Global,
     first: &mut A,
@@ -246,6 +260,9 @@ pub fn run_split<A: Read, B: Read, F: Folder, W: Write>(
     // Where memory is told, nothing in front was to be refused.
     ensures memory { IsErrOf result memory_refusal → (octets : List ℕ) → A.left first.old ≡ Some octets
         → (A.reads first.new ≡ A.reads first.old) ⊎ WantsMemory octets (A.left first.new) ⊎ IsRight octets }
+
+    // And no file was made.
+    ensures untouched { IsErrOf result memory_refusal → F.files folder.new ≡ F.files folder.old }
 
     // Where a failed read is told, a read failed, unless the capture changed between its readings.
     ensures read { IsErrOf result (refusal (Some 0) family.Read 1)
@@ -305,6 +322,10 @@ fn split_watched<R: Files + AllocGlobal, T: Watch, W: Write>(
 
 /// Splits the file of a capture into files of a folder, one for each observation domain. Where it is asked for, how far the second
 /// reading is is told on standard error.
+///
+/// The file is opened twice before the folder is looked at: `read` 1, of input 0, where it can't be opened, or where its length is asked
+/// for and can't be told. The rest is refused as `run_split` does, and leaves what that leaves. A folder that isn't there is `write` 1, which blames no
+/// input, once its first file is to be made.
 pub fn split_file<R: Files + Clock + AllocGlobal, W: Write, V: io::Write>(
     rt: &R,
     folder: &str,

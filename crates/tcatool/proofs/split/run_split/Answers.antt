@@ -25,6 +25,9 @@ returns-in-Ok-clause-refused g c =
 pub returns-in-Ok-clause-memory : goal.returns-in-Ok-clause-memory
 returns-in-Ok-clause-memory g c = λ is octets left. absurd (not_write c.print_parts.result _ memory_refusal c.print_parts.ensures.cut_off refl is)
 
+pub returns-in-Ok-clause-untouched : goal.returns-in-Ok-clause-untouched
+returns-in-Ok-clause-untouched g c = λ is. absurd (not_write c.print_parts.result _ memory_refusal c.print_parts.ensures.cut_off refl is)
+
 pub returns-in-Ok-clause-read : goal.returns-in-Ok-clause-read
 returns-in-Ok-clause-read g c = λ is octets files left again known. absurd (not_write c.print_parts.result _ (refusal (Some 0) family.Read 1) c.print_parts.ensures.cut_off refl is)
 
@@ -47,6 +50,11 @@ pub returns-in-Err-clause-memory : goal.returns-in-Err-clause-memory
 returns-in-Err-clause-memory g c = λ is octets left.
     let told : split_refusal c.in-Err.fault ≡ memory_refusal = sym c.refusal_of.ensures ∙ same_told _ c.refusal_of.result memory_refusal refl is in
     c.split.ensures.memory (c.in-Err.is ∙ ap Err (only_memory c.in-Err.fault told)) octets left
+
+pub returns-in-Err-clause-untouched : goal.returns-in-Err-clause-untouched
+returns-in-Err-clause-untouched g c = λ is.
+    let told : split_refusal c.in-Err.fault ≡ memory_refusal = sym c.refusal_of.ensures ∙ same_told _ c.refusal_of.result memory_refusal refl is in
+    c.split.ensures.untouched (c.in-Err.is ∙ ap Err (only_memory c.in-Err.fault told))
 
 pub returns-in-Err-clause-read : goal.returns-in-Err-clause-read
 returns-in-Err-clause-read g c = λ is octets files left again known.
