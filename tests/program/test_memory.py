@@ -15,9 +15,6 @@ from rows import ONE, PLAN, SHORT, STATEMENT, THREE, THREE_2, TIME
 MOST_GROWTHS = 2000
 FAMILIES = (b"memory 1", b"plan 8", b"log 2", b"share 3", b"work 5", b"work 3", b"read 3", b"absorb 4", b"wire 7", b"statement 5")
 
-# Errors of tests that tell of a wrong result, and not of a preparation that lacks memory.
-WRONG = ('"workers"', '"neither time the jobs were done"', '"a close"')
-
 # Tests that hold whether one growth is refused or not.
 HOLDS = {
     "tca_core_tests": (
@@ -29,7 +26,6 @@ HOLDS = {
     "tcacct": (
         "tests::shared::memory::a_take_that_was_refused_is_completed",
         "tests::shared::jobs_memory::workers_that_were_refused_close",
-        "tests::shared::jobs_memory::workers_that_were_refused_close_at_once",
         "tests::replicated::writes_nothing_where_it_is_refused",
     ),
 }
@@ -70,7 +66,6 @@ class Growths(ProgramTest):
                             # An assertion that fails ends the test by a signal.
                             said = (done.stdout + done.stderr).decode(errors="replace")
                             self.assertEqual((done.returncode, said[:7]), (101, "error: "), f"growth {number}: {said}")
-                            self.assertFalse(said[7:].startswith(WRONG), f"growth {number}: {said}")
                     else:
                         self.fail("each run met a refusal")
                     self.assertEqual(done.returncode, 0, done)

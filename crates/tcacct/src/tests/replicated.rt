@@ -163,28 +163,6 @@ fn with_a_cut(alloc: Global) -> Result<Vec<Input>, AllocError> {
     Ok(inputs)
 }
 
-// Whether a bill with an export is refused with this fault, and neither writer took an octet.
-fn writes_nothing<R: Threads + Wait + Sync>(
-    rt: &R,
-    alloc: Global,
-    inputs: &[Input],
-    (replicas, workers): (u32, u32),
-    fault: RunFault,
-) -> bool {
-    if inputs.len() != 4 || replicas < 1 || replicas > 16 || workers < 1 || workers > 64 {
-        return false;
-    }
-    let mut export = Host::new(Vec::new(alloc));
-    let mut out = Host::new(Vec::new(alloc));
-    let plan = PLAN.as_bytes();
-    let asked = Some(&mut export);
-    let refused = run_bill(
-        rt, alloc, plan, inputs, replicas, workers, &NoGate, asked, &mut out,
-    );
-    let is_empty = export.into_inner().is_empty() && out.into_inner().is_empty();
-    refused.err() == Some(fault) && is_empty
-}
-
 #[test]
 fn refuses_the_first_input_with_a_fault(rt: HostRuntime) {
     let alloc = rt.alloc();
@@ -197,7 +175,8 @@ fn refuses_the_first_input_with_a_fault(rt: HostRuntime) {
         number: 1,
     };
     for numbers in NUMBERS {
-        assert!(rt; writes_nothing(&rt, alloc, &inputs, numbers, fault));
+        let refused = billed(&rt, alloc, PLAN, &inputs, numbers);
+        assert!(rt; refused.err() == Some(fault));
     }
 }
 
@@ -226,19 +205,15 @@ fn over_full_writers<R: Threads + Wait + Sync>(rt: &R, alloc: Global) -> bool {
     exported == failed && stated == failed && out.into_inner().is_empty()
 }
 
-// A writer with room for some octets, which takes one at a time. Then it fails, or takes none.
+// A writer with room for some octets, which takes one at a time.
 #[derive(Drop)]
 struct Narrow {
     taken: Vec<u8>,
     room: usize,
-    fails: bool,
 }
 
 impl io::Write for Narrow {
     fn write(&mut self, octets: &[u8]) -> io::Result<usize> {
-        if self.fails && self.room == 0 {
-            return Err(io::Error::from(io::ErrorKind::Other));
-        }
         let n = octets.len().min(1).min(self.room);
         self.taken.extend_from_slice(&octets[..n])?;
         self.room -= n;
@@ -255,7 +230,7 @@ fn is_cut_off<R: Threads + Wait + Sync>(
     rt: &R,
     alloc: Global,
     inputs: &[Input],
-    (room, fails): (usize, bool),
+    room: usize,
 ) -> bool {
     let Ok(text) = format!(in alloc; "{OPENING}{THREE_REPORTS}") else {
         return false;
@@ -264,7 +239,7 @@ fn is_cut_off<R: Threads + Wait + Sync>(
         return false;
     }
     let taken = Vec::new(alloc);
-    let mut out = Host::new(Narrow { taken, room, fails });
+    let mut out = Host::new(Narrow { taken, room });
     let export: Option<&mut Host<Vec<u8>>> = None;
     let plan = PLAN.as_bytes();
     let refused = run_bill(rt, alloc, plan, inputs, 2, 2, &NoGate, export, &mut out).err();
@@ -279,15 +254,8 @@ fn refuses_a_write_that_fails(rt: HostRuntime) {
     let Ok(inputs) = export_of_each(rt.alloc(), &[FIRST, SECOND, THIRD]) else {
         panic!(rt; "inputs");
     };
-    for (room, fails) in [
-        (14, false),
-        (14, true),
-        (143, false),
-        (143, true),
-        (0, false),
-    ] {
-        let cut = is_cut_off(&rt, rt.alloc(), &inputs, (room, fails));
-        assert!(rt; cut, "{room} {fails}");
+    for room in [14, 143, 0] {
+        assert!(rt; is_cut_off(&rt, rt.alloc(), &inputs, room), "{room}");
     }
 }
 

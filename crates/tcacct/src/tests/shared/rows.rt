@@ -20,7 +20,7 @@ fn asks<L: Side, R: Wait>(rt: &R, alloc: Global, shared: &Shared<L>) -> bool {
     let Ok(said) = shared.statement(rt, &mut pass) else {
         return false;
     };
-    let stated = said.entry.pass() == 0 && states_three(alloc, &said.entry);
+    let stated = said.entry.pass() == 0 && states_three(&said.entry);
     taken == Some(1) && said.front == 2 && stated
 }
 
