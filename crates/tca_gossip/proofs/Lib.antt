@@ -25,6 +25,7 @@ pub mod Clashing
 pub mod MergeBounds
 pub mod RunSteps
 pub mod AtOnce
+pub mod Newcomers
 pub mod RunsAtOnce
 pub mod Stops
 pub mod Equals

@@ -1,70 +1,92 @@
 //! Many reports at once.
 //!
-//! A copy of the chains gets them all, then the log, or a copy of it, does, and then the copies take their place, without a book. The
-//! log sorts them once, and they are metered when the bill is asked, where one by one each report is searched for, put in its place
-//! and noted in its lane. Where there is no room for that nothing has changed, so the reports can still be taken one by one, which
-//! names the first that has no room.
-ghost use Rattle.std.specs.Prelude.{◌≡◌, ℕ, ◌+◌, ◌≤◌, ◌++◌, length, true, false, IfOk, OnErr, OnOk, None};
-ghost use Rattle.tca_gossip.specs.Replicas.{appended, chain_of, fresh_of, of, reports_in, with_origin};
+//! A copy of the chains gets those that are new, then the log does, and then the copy takes the place of the chains, without a book.
+//! They are sorted once, and metered when the bill is asked, where one by one each report is searched for, put in its place and noted
+//! in its lane. Where there is no room for that nothing has changed, so the reports can still be taken one by one, which names the
+//! first that has no room.
+ghost use Rattle.std.specs.Prelude.{◌≡◌, ℕ, ◌+◌, ◌≤◌, ◌++◌, length, true, false, IfOk, IfSome, OnErr, OnOk, None};
+ghost use Rattle.tca_join.specs.Sets.{in_order};
+ghost use Rattle.tca_report.specs.report.Reports.{report_cmp};
+ghost use Rattle.tca_gossip.specs.Replicas.{appended, chain_of, fresh_of, of, reports_in, taken, with_origin};
 ghost use Rattle.tca_gossip.specs.Runs.{AreRuns, first_fault, rest_of, rests};
 ghost use Rattle.tca_gossip.specs.inside.Storage.{held_of};
 ghost use Rattle.tca_join.specs.Chains.{most_items};
 
 use crate::chains::{extend, held_of};
 use crate::contents::Contents;
+use crate::fresh::{fresh_among, set_of};
 use crate::run::Run;
 use std::alloc::{AllocError, Global};
 use tca_join::{ByKey, Chain, Join};
+use tca_log::rows::LIMIT;
 use tca_log::{Log, LogFault};
 use tca_report::Report;
 
 /// The least list that is taken at once, whatever the log is.
 const LEAST: usize = 1_024;
 
-// The least list that is taken at once beside a log: a quarter of it, since the whole log is copied and metered for the list.
+// The least list that is taken at once beside a log: an eighth of it, since the chains are copied, and the whole
+// log is merged and metered, for the list.
 fn least_beside(log: &Log) -> usize
     ensures { 1024 ≤ result }
 {
-    LEAST.max(log.len() as usize / 4)
+    LEAST.max(log.len() as usize / 8)
 }
 
 // A `let _rises` or `let _count` is a call for its clause alone: that keys ascend, or how many reports there may be.
 impl Contents {
-    /// Takes reports at once, and answers whether it did. It doesn't where the list is short beside the log, where a report is there
-    /// already or stands twice, or where there is no room, and then nothing has changed.
-    pub(crate) fn take_at_once(&mut self, reports: &[Report]) -> bool
-        ensures state { result ≡ true → self.new.replica ≡ appended self.old.replica (with_origin self.old.replica.name reports.now) }
-        ensures fresh { result ≡ true → fresh_of self.old.replica.log reports.now ≡ reports.now }
-        ensures same { result ≡ false → self.new.replica ≡ self.old.replica }
+    /// Takes reports at once, and answers how many were new at their turn. `None` says that it took none, where the list is short beside
+    /// the log or there is no room, and then nothing has changed.
+    pub(crate) fn take_at_once(&mut self, reports: &[Report]) -> Option<u64>
+        ensures state { IfSome result (λ _. self.new.replica ≡ taken self.old.replica reports.now) }
+        ensures fresh { IfSome result (λ n. n ≡ length (fresh_of self.old.replica.log reports.now)) }
+        ensures same { result ≡ None → self.new.replica ≡ self.old.replica }
     {
         if reports.len() < least_beside(&self.log) {
-            return false;
+            return None;
         }
-        match self.take_new(reports) {
-            Ok(all) => all,
-            Err(_) => false,
+        match self.take_whole(reports) {
+            Ok(fresh) => Some(fresh),
+            Err(_) => None,
         }
     }
 
-    // Takes reports of which each is new and none stands twice, and answers whether they are so.
-    fn take_new(&mut self, reports: &[Report]) -> Result<bool, LogFault>
-        ensures state { IfOk result (λ all. all ≡ true → self.new.replica ≡ appended self.old.replica (with_origin self.old.replica.name reports.now)) }
-        ensures fresh { IfOk result (λ all. all ≡ true → fresh_of self.old.replica.log reports.now ≡ reports.now) }
-        ensures same { IfOk result (λ all. all ≡ false → self.new.replica ≡ self.old.replica) }
+    // Takes all reports, or none where there is no room, and answers how many were new at their turn.
+    fn take_whole(&mut self, reports: &[Report]) -> Result<u64, LogFault>
+        ensures state { OnOk result (self.new.replica ≡ taken self.old.replica reports.now) }
+        ensures fresh { IfOk result (λ n. n ≡ length (fresh_of self.old.replica.log reports.now)) }
         ensures err { OnErr result (self.new.replica ≡ self.old.replica) }
     {
-        let list = Vec::from_slice(self.alloc, reports)?;
-        let mut log = self.log.copy()?;
-        let new = log.add_all(list)?;
-        let _count = log.len();
-        if (new as usize) < reports.len() {
-            return Ok(false);
+        let set = set_of(self.alloc, reports)?;
+        if self.log.len() == 0 && set.len() == reports.len() {
+            return self.put_fresh(reports, set);
+        }
+        let fresh = fresh_among(self.alloc, &self.log, &set, reports)?;
+        if fresh.is_empty() {
+            return Ok(0);
+        }
+        self.put_fresh(&fresh, set)
+    }
+
+    // Puts reports that are new at the end of the own chain, and their set, which may have more that is held already, into the log; all
+    // of that, or nothing. Answers how many they were.
+    fn put_fresh(&mut self, fresh: &[Report], set: Vec<Report>) -> Result<u64, LogFault>
+        requires same { in_order report_cmp (self.old.replica.log ++ set.items) ≡ in_order report_cmp (self.old.replica.log ++ fresh.now) }
+        requires new { length fresh.now + length self.old.replica.log ≤ length (in_order report_cmp (self.old.replica.log ++ fresh.now)) }
+        ensures state { OnOk result (self.new.replica ≡ appended self.old.replica (with_origin self.old.replica.name fresh.now)) }
+        ensures count { IfOk result (λ n. n ≡ length fresh.now) }
+        ensures err { OnErr result (self.new.replica ≡ self.old.replica) }
+    {
+        if fresh.len() > LIMIT - self.log.len() as usize {
+            return Err(LogFault::Full);
         }
         let mut chains = self.chains.copy()?;
-        extend(self.alloc, &mut chains, self.name, reports)?;
+        extend(self.alloc, &mut chains, self.name, fresh)?;
         let _rises = chains.keys();
-        self.refill(log, chains);
-        Ok(true)
+        self.log.add_all(set)?;
+        self.billing.release(self.alloc);
+        self.chains = chains;
+        Ok(fresh.len() as u64)
     }
 
     /// Appends what runs have past the chains at once, where this is how many reports that is, and answers whether it did. It doesn't

@@ -7,7 +7,8 @@
 //!
 //! - `replica`: its calls; `contents`: log, chains and bill, which agree after each; `chains`: the chains by origin; `billing`: the bill
 //!   of the log, by a book or from the log;
-//! - `at_once`: many reports at once, which is faster than one by one where a list is long beside the log;
+//! - `at_once`: many reports at once, which is faster than one by one where a list is long beside the log; `fresh`: which of them are
+//!   new;
 //! - `run`: what replicas send each other; `summary` and `delta`: what one sends; `absorb`: what one does with what comes;
 //! - `world`: replicas that are run by a list of steps; `step`: what is done there, and what comes of it; `message`: what is sent
 //!   there;
@@ -22,6 +23,7 @@ mod chains;
 mod contents;
 mod delta;
 mod fault;
+mod fresh;
 mod laws;
 mod message;
 mod replica;

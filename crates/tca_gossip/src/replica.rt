@@ -80,7 +80,7 @@ impl Replica {
     /// changes nothing. It stops before a report that the log doesn't take: `Full` where the log has 4,194,304 reports and not
     /// this one, `Memory` where a growth was refused. What was taken until then stays.
     ///
-    /// A list that is long beside the log, and new throughout, is taken at once, which costs less and answers the same.
+    /// A list that is long beside the log is taken at once, which costs less and answers the same.
     pub fn take(&mut self, reports: &[Report]) -> Taken
         ensures within { result.taken ≤ length reports.now }
         ensures state { self.new ≡ taken self.old (take result.taken reports.now) }
@@ -188,19 +188,18 @@ fn absorb_runs(contents: &mut Contents, runs: &[Run]) -> Result<u64, AbsorbFault
 }
 
 // Takes reports: all at once where that serves, else one by one. At once the log is sorted and metered once for all of them, but it
-// says nothing of how far it came; where a report isn't new, or there is no room for all, one by one finds the first that the log
-// doesn't take. Both ways leave the same, and a list that went one by one has changed nothing before.
+// says nothing of how far it came; where there is no room for all, one by one finds the first that the log doesn't take. Both ways
+// leave the same, and a list that went one by one has changed nothing before.
 fn take_list(contents: &mut Contents, reports: &[Report]) -> Taken
     ensures within { result.taken ≤ length reports.now }
     ensures state { contents.new.replica ≡ taken contents.old.replica (take result.taken reports.now) }
     ensures fresh { result.fresh ≡ length (fresh_of contents.old.replica.log (take result.taken reports.now)) }
     ensures stop { IsStopAt contents.new.replica.log reports.now result.taken result.stop }
 {
-    if contents.take_at_once(reports) {
-        let count = reports.len() as u64;
+    if let Some(fresh) = contents.take_at_once(reports) {
         return Taken {
-            taken: count,
-            fresh: count,
+            taken: reports.len() as u64,
+            fresh,
             stop: None,
         };
     }

@@ -1,0 +1,69 @@
+//! Which reports of a list are new to a log at their turn.
+ghost use Rattle.std.specs.Prelude.{◌≡◌, ◌<◌, IfOk, Some, length, map, not, slice_get, true};
+ghost use Rattle.std.specs.List.Sorted.{IsStrictlySortedBy};
+ghost use Rattle.tca_join.specs.Sets.{has, in_order};
+ghost use Rattle.tca_report.specs.report.Reports.{report_cmp};
+ghost use Rattle.tca_gossip.specs.Replicas.{fresh_of};
+
+use std::alloc::{AllocError, Global};
+use tca_log::Log;
+use tca_report::Report;
+
+/// The reports of a list in order, each once.
+pub(crate) fn set_of(alloc: Global, reports: &[Report]) -> Result<Vec<Report>, AllocError>
+    ensures { IfOk result (λ set. set.items ≡ in_order report_cmp reports.now) }
+{
+    let mut set = Vec::from_slice(alloc, reports)?;
+    set.sort_unstable();
+    set.dedup();
+    Ok(set)
+}
+
+// Of each report of a set, whether a log doesn't have it.
+fn news_in(alloc: Global, log: &Log, set: &[Report]) -> Result<Vec<bool>, AllocError>
+    ensures { IfOk result (λ is_new. is_new.items ≡ map (λ q. not (has report_cmp log.now q)) set.now) }
+{
+    let mut is_new = Vec::with_capacity(alloc, set.len())?;
+    for report in set {
+        is_new.push(!log.contains(report))?;
+    }
+    Ok(is_new)
+}
+
+// Where a report of a set stands. It is looked for at a likely place first.
+fn place_of(set: &[Report], likely: usize, report: &Report) -> usize
+    requires rises { IsStrictlySortedBy report_cmp set.now }
+    requires there { has report_cmp set.now report.now ≡ true }
+    ensures within { result < length set.now }
+    ensures at { slice_get set.now result ≡ Some report.now }
+{
+    if likely < set.len() && set[likely] == *report {
+        return likely;
+    }
+    set.binary_search(report).unwrap()
+}
+
+/// The reports of a list that are neither in a log nor at an earlier place of the list, as they stand there. `set` has the
+/// reports of the list in order, each once.
+pub(crate) fn fresh_among(
+    alloc: Global,
+    log: &Log,
+    set: &[Report],
+    reports: &[Report],
+) -> Result<Vec<Report>, AllocError>
+    requires { set.now ≡ in_order report_cmp reports.now }
+    ensures { IfOk result (λ fresh. fresh.items ≡ fresh_of log.now reports.now) }
+{
+    let mut is_new = news_in(alloc, log, set)?;
+    let mut fresh = Vec::new(alloc);
+    let mut next = 0;
+    for report in reports {
+        let at = place_of(set, next, report);
+        if is_new[at] {
+            fresh.push(*report)?;
+        }
+        is_new[at] = false;
+        next = at + 1;
+    }
+    Ok(fresh)
+}
