@@ -1,9 +1,8 @@
 -- What is left of the tokens that are due, while they are let in one at a time.
-use Rattle.std.proofs.Common.{◌≡◌, ℕ, zero, suc, ◌+◌, ◌-◌, ◌*◌, ◌/◌, ◌<◌, ◌≤◌, ◌^◌, true, false, refl, sym, ap, ◌∙◌, arith}
+use Rattle.std.proofs.Common.{◌≡◌, ℕ, zero, suc, ◌+◌, ◌-◌, ◌*◌, ◌/◌, ◌<◌, ◌≤◌, ◌^◌, refl, sym, ap, ◌∙◌, arith}
 use Rattle.std.proofs.Math.Nat.{mul-le-mul_left}
-use Rattle.std.proofs.lemmas.Bool.{lt-ltb, le-ltb, leb-true}
-use Rattle.std.proofs.lemmas.Bool.Decides.{nat_tests}
-use Rattle.tca_buckets.specs.Tokens.{due, has_come, most_rate}
+use Rattle.std.proofs.lemmas.Bool.{lt-ltb, le-ltb}
+use Rattle.tca_buckets.specs.Tokens.{due, most_rate}
 use Rattle.tca_buckets.specs.Buckets.{TokenBucket, gain, one_more, repeated, spill}
 use Rattle.tca_buckets.proofs.Due.{due_quotients}
 
@@ -26,37 +25,34 @@ module _ (rate to : ℕ) where
   all_left from h = rw (due_quotients rate from to h) (omega arith)
 
   -- no number of a token is long
-  pub short : rate ≤ most_rate → to < 2 ^ 48 → (token : ℕ) → token ≤ come rate to + 1 → token < 2 ^ 90
-  short low time token h =
+  pub short : rate ≤ most_rate → to < 2 ^ 48 → come rate to < 2 ^ 90
+  short low time =
       let up : rate * to ≤ rate * 2 ^ 48 = mul-le-mul_left rate (omega arith) in
       omega (arith, up)
 
-  pub within : (token : ℕ) → has_come rate token to ≡ true → token ≤ come rate to
-  within token e = let le : 1000 * token ≤ rate * to = leb-true _ _ e in omega (arith, le)
+  one_less : (token : ℕ) → token ≤ come rate to → left rate to token ≡ suc (left rate to (token + 1))
+  one_less token h = omega (arith, h)
 
-  pub one_less : (token : ℕ) → has_come rate token to ≡ true → left rate to token ≡ suc (left rate to (token + 1))
-  one_less token e = let le = within token e in omega (arith, le)
-
-  pub none_left : (token : ℕ) → has_come rate token to ≡ false → left rate to token ≡ 0
-  none_left token e = let past : rate * to < 1000 * token = grind (arith, nat_tests, e) in omega (arith, past)
+  none_left : (token : ℕ) → come rate to < token → left rate to token ≡ 0
+  none_left token h = omega (arith, h)
 
   -- one token more in one bucket
-  pub gain_next : (token : ℕ) (b : TokenBucket) → b.level < b.cap → has_come rate token to ≡ true → repeated (left rate to (token + 1)) gain (one_more b) ≡ repeated (left rate to token) gain b
+  pub gain_next : (token : ℕ) (b : TokenBucket) → b.level < b.cap → token ≤ come rate to → repeated (left rate to (token + 1)) gain (one_more b) ≡ repeated (left rate to token) gain b
   unfolding repeated
   gain_next token b room e =
       let step : gain b ≡ one_more b = rw (lt-ltb b.level b.cap room) refl in
       sym (ap (λ n. repeated n gain b) (one_less token e) ∙ ap (repeated (left rate to (token + 1)) gain) step)
 
-  pub gain_none : (token : ℕ) (b : TokenBucket) → has_come rate token to ≡ false → repeated (left rate to token) gain b ≡ b
+  pub gain_none : (token : ℕ) (b : TokenBucket) → come rate to < token → repeated (left rate to token) gain b ≡ b
   unfolding repeated
   gain_none token b e = rw (none_left token e) refl
 
   -- and in two
-  pub spill_next : (token : ℕ) (p : TokenBucket × TokenBucket) → has_come rate token to ≡ true → repeated (left rate to (token + 1)) spill (spill p) ≡ repeated (left rate to token) spill p
+  pub spill_next : (token : ℕ) (p : TokenBucket × TokenBucket) → token ≤ come rate to → repeated (left rate to (token + 1)) spill (spill p) ≡ repeated (left rate to token) spill p
   unfolding repeated
   spill_next token p e = sym (ap (λ n. repeated n spill p) (one_less token e))
 
-  pub spill_none : (token : ℕ) (p : TokenBucket × TokenBucket) → has_come rate token to ≡ false → repeated (left rate to token) spill p ≡ p
+  pub spill_none : (token : ℕ) (p : TokenBucket × TokenBucket) → come rate to < token → repeated (left rate to token) spill p ≡ p
   unfolding repeated
   spill_none token p e = rw (none_left token e) refl
 

@@ -7,7 +7,7 @@ ghost use Rattle.tca_meters.specs.SrTcm.{filled_levels, judged_packet, opening_l
 ghost use Rattle.tca_audit.specs.inside.Metering.{levels_of};
 ghost use Rattle.tca_report.specs.report.Reports.{time_end};
 
-use crate::arrivals::{first_after, has_come};
+use crate::arrivals::come_by;
 use crate::buckets::{Bucket, Buckets};
 use tca_meters::{Colour, SrTcm};
 
@@ -49,10 +49,11 @@ pub(crate) fn filled(meter: &SrTcm, buckets: Buckets, from: u64, to: u64) -> Buc
     ensures { levels_of result ≡ filled_levels meter.now from to (levels_of buckets) }
 {
     let cir = meter.cir();
+    let last = come_by(cir, to);
     let mut committed = buckets.committed;
     let mut excess = buckets.excess;
-    let mut token = first_after(cir, from);
-    while have_room(&committed, &excess) && has_come(cir, token, to) {
+    let mut token = come_by(cir, from) + 1;
+    while have_room(&committed, &excess) && token <= last {
         spill(&mut committed, &mut excess);
         token += 1;
     }
