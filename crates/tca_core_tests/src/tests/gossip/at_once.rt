@@ -1,4 +1,4 @@
-//! Long lists of reports: new throughout, with some that are there, and of another origin. After each the bill is the plain one.
+//! Long lists of reports: new throughout, with some that are there, with each twice, and of another origin. After each the bill is the plain one.
 use super::outcomes::{Outcome, absorbed, holds, took};
 use super::random::has_all;
 use super::{replica_under, report};
@@ -86,6 +86,46 @@ fn long_lists_are_taken(rt: HostRuntime) {
     assert!(rt; goes(rt.alloc()) == Some(true));
 }
 
+// A list from its end to its front, and then from its front to its end.
+fn there_and_back(alloc: Global, list: &[Report]) -> Option<Vec<Report>> {
+    let mut all = Vec::new(alloc);
+    for report in list.iter().rev() {
+        if all.push(*report).is_err() {
+            return None;
+        }
+    }
+    if all.extend_from_slice(list).is_err() {
+        return None;
+    }
+    Some(all)
+}
+
+// Of reports that stand twice in a long list each goes once into the chain, in the order in which they came first.
+fn takes_twice(alloc: Global, one: &mut Replica) -> bool {
+    let Some(list) = long_list(alloc, 0, 600) else {
+        return false;
+    };
+    let Some(all) = there_and_back(alloc, &list) else {
+        return false;
+    };
+    took(&one.take(&all)) == Outcome::Took(1200, 600, None)
+        && one.chain(1).len() == 600
+        && all.starts_with(one.chain(1))
+        && bills(alloc, one, 600)
+}
+
+fn goes_twice(alloc: Global) -> Option<bool> {
+    let Some(mut one) = replica_under(alloc, PLAN, 1) else {
+        return None;
+    };
+    Some(takes_twice(alloc, &mut one))
+}
+
+#[test]
+fn a_long_list_with_each_report_twice_is_taken(rt: HostRuntime) {
+    assert!(rt; goes_twice(rt.alloc()) == Some(true));
+}
+
 // Whether no book is kept, one is once it is asked for, and the bill stays.
 fn gets_book(one: &mut Replica) -> bool {
     let Ok(before) = one.totals() else {
@@ -116,12 +156,14 @@ fn absorbs_more(alloc: Global, one: &mut Replica) -> bool {
     absorbed(&one.absorb(&sent)) == Outcome::Absorbed(2000)
 }
 
-// Whether a book is kept where one is asked for: after a long list, a long run and a merge there is none before.
+// Whether a book is kept where one is asked for: after a long list, a long run and a merge there is none before. A long list with
+// nothing new changes nothing, so it stays.
 fn keeps_books(alloc: Global, one: &mut Replica, two: &Replica) -> bool {
     let long = takes(alloc, one, 0) == Some(Outcome::Took(1024, 1024, None)) && gets_book(one);
+    let again = takes(alloc, one, 0) == Some(Outcome::Took(1024, 0, None)) && one.keeps_book();
     let absorbs = absorbs_more(alloc, one) && gets_book(one);
     let merges = one.merge(two).is_ok() && gets_book(one);
-    long && absorbs && merges
+    long && again && absorbs && merges
 }
 
 fn books(alloc: Global) -> Option<bool> {
