@@ -1,7 +1,7 @@
 //! When the tokens of a rate come. Rates are in tokens a second, times in milliseconds: token `k`, counted from 1,
 //! comes at the least millisecond `t` at which `rate * t` is at least `1000 * k`, so by a time `t` the tokens up to
 //! `rate * t / 1000` have come.
-ghost use Rattle.std.specs.Prelude.{◌≡◌, ◌<◌, ◌≤◌, ◌*◌, ◌/◌, ◌^◌};
+ghost use Rattle.std.specs.Prelude.{◌≡◌, ◌⊎◌, ◌+◌, ◌<◌, ◌≤◌, ◌*◌, ◌/◌, ◌^◌};
 ghost use Rattle.tca_buckets.specs.Buckets.{gain, repeated};
 ghost use Rattle.tca_buckets.specs.Tokens.{due, most_rate};
 ghost use Rattle.tca_report.specs.report.Reports.{time_end};
@@ -18,6 +18,25 @@ pub(crate) fn come_by(rate: u64, time: u64) -> u128
     rate as u128 * time as u128 / 1000
 }
 
+/// Lets tokens in, one at a time: from one on up to the last that has come, while the bucket has room. Answers the first token
+/// that was not let in.
+pub(crate) fn let_in(bucket: &mut Bucket, token: u128, last: u128) -> u128
+    requires order { token ≤ last + 1 }
+    requires few { last < 2 ^ 90 }
+    ensures order { (token ≤ result) × (result ≤ last + 1) }
+    ensures level { bucket.new.level + token ≡ bucket.old.level + result }
+    ensures size { bucket.new.cap ≡ bucket.old.cap }
+    ensures within { bucket.new.level ≤ bucket.new.cap }
+    ensures end { (result ≡ last + 1) ⊎ (bucket.new.level ≡ bucket.new.cap) }
+{
+    let mut next = token;
+    while !bucket.is_full() && next <= last {
+        bucket.gain();
+        next += 1;
+    }
+    next
+}
+
 /// A bucket once the tokens that come after `from` and at or before `to` were let in, one at a time. Those that it
 /// has no room for are lost.
 pub(crate) fn filled(bucket: Bucket, rate: u64, from: u64, to: u64) -> Bucket
@@ -26,12 +45,8 @@ pub(crate) fn filled(bucket: Bucket, rate: u64, from: u64, to: u64) -> Bucket
     requires time { to < time_end }
     ensures { result ≡ repeated (due rate from to) gain bucket }
 {
-    let last = come_by(rate, to);
     let mut next = bucket;
-    let mut token = come_by(rate, from) + 1;
-    while !next.is_full() && token <= last {
-        next.gain();
-        token += 1;
-    }
+    let first = come_by(rate, from) + 1;
+    let _ = let_in(&mut next, first, come_by(rate, to));
     next
 }

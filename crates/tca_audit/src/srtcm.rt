@@ -1,13 +1,12 @@
 //! The single rate three color marker of RFC 2697: tokens of one rate go to the committed bucket, and those that it has
 //! no room for to the excess bucket.
-ghost use Rattle.std.specs.Prelude.{◌≡◌, ◌⊎◌, ◌<◌, ◌≤◌, MatchBool};
-ghost use Rattle.tca_buckets.specs.Buckets.{spill};
+ghost use Rattle.std.specs.Prelude.{◌≡◌, ◌<◌, ◌≤◌};
 ghost use Rattle.tca_meters.specs.Colours.{counted};
 ghost use Rattle.tca_meters.specs.SrTcm.{filled_levels, judged_packet, opening_levels};
 ghost use Rattle.tca_audit.specs.inside.Metering.{levels_of};
 ghost use Rattle.tca_report.specs.report.Reports.{time_end};
 
-use crate::arrivals::come_by;
+use crate::arrivals::{come_by, let_in};
 use crate::buckets::{Bucket, Buckets};
 use tca_meters::{Colour, SrTcm};
 
@@ -21,28 +20,8 @@ pub(crate) fn opening(meter: &SrTcm) -> Buckets
     }
 }
 
-// One token: if Tc is less than CBS, Tc gains it; else if Te is less than EBS, Te gains it; else neither does
-// (RFC 2697 section 3).
-fn spill(committed: &mut Bucket, excess: &mut Bucket)
-    ensures { (committed.new, excess.new) ≡ spill (committed.old, excess.old) }
-{
-    if !committed.is_full() {
-        committed.gain();
-    } else if !excess.is_full() {
-        excess.gain();
-    }
-}
-
-// Whether one of the buckets has room for a token.
-fn have_room(committed: &Bucket, excess: &Bucket) -> bool
-    ensures { MatchBool result
-        ((committed.now.level < committed.now.cap) ⊎ (excess.now.level < excess.now.cap))
-        ((committed.now.level ≡ committed.now.cap) × (excess.now.level ≡ excess.now.cap)) }
-{
-    !committed.is_full() || !excess.is_full()
-}
-
-/// The buckets once the tokens that come after `from` and at or before `to` were let in, one at a time.
+/// The buckets once the tokens that come after `from` and at or before `to` were let in, one at a time: while Tc is less than CBS,
+/// Tc gains a token; then, while Te is less than EBS, Te does; then neither (RFC 2697 section 3).
 pub(crate) fn filled(meter: &SrTcm, buckets: Buckets, from: u64, to: u64) -> Buckets
     requires order { from ≤ to }
     requires time { to < time_end }
@@ -50,14 +29,11 @@ pub(crate) fn filled(meter: &SrTcm, buckets: Buckets, from: u64, to: u64) -> Buc
 {
     let cir = meter.cir();
     let last = come_by(cir, to);
-    let mut committed = buckets.committed;
-    let mut excess = buckets.excess;
-    let mut token = come_by(cir, from) + 1;
-    while have_room(&committed, &excess) && token <= last {
-        spill(&mut committed, &mut excess);
-        token += 1;
-    }
-    Buckets { committed, excess }
+    let mut next = buckets;
+    let first = come_by(cir, from) + 1;
+    let left = let_in(&mut next.committed, first, last);
+    let _ = let_in(&mut next.excess, left, last);
+    next
 }
 
 /// The colour of a packet of `octets`, and the buckets after it: green if Tc has a token for each octet, which Tc
