@@ -184,6 +184,16 @@ class Bills(ProgramTest):
             self.assert_done(self.run_program("bill", *options, "plan", *names), statement(PLAN, rows))
         self.assert_wrong_line(self.run_program("bill", "plan", *names, names[0]))
 
+    def test_256_accounts_of_the_longest_names(self):
+        meter = PLAN.accounts[0].meter
+        accounts = [Account(f"account_{n:024}", meter, [(7, n)]) for n in range(256)]
+        rows = [(TIME + n, 7, 0, n, 100 + n, 0, n) for n in range(256)]
+        self.write("plan", Plan(1000, accounts).toml())
+        self.write("a", export(rows))
+        self.assert_done(self.run_program("bill", "plan", "a"), statement(Plan(1000, accounts), rows))
+        self.write("plan", Plan(1000, [*accounts, Account("more", meter, [(8, 1)])]).toml())
+        self.assert_refused(self.run_program("bill", "plan", "a"), "plan", "plan", 7)
+
     def test_notes_of_each_input(self):
         words, lines = [], []
         for n in range(7):

@@ -85,6 +85,14 @@ class Files(ProgramTest):
         self.assert_done(self.run_program("bill", "--export", "y", "plan", "y", "x"), STATEMENT)
         self.assertEqual(self.read("y"), THREE_2)
 
+    def test_out_that_was_longer(self):
+        self.write("out", bytes(10_000))
+        self.assert_done(self.run_program("combine", "out", "three"), b"reports 3\n")
+        self.assertEqual(self.read("out"), THREE_2)
+        self.write("out", bytes(10_000))
+        self.assert_done(self.run_program("bill", "--export", "out", "plan", "three"), STATEMENT)
+        self.assertEqual(self.read("out"), THREE_2)
+
     def test_out_where_the_run_is_refused(self):
         """Untouched where a file can't be read, and empty where an input or the plan is refused."""
         self.write("out", b"before")

@@ -72,7 +72,8 @@ class Growths(ProgramTest):
                     self.assertGreater(held, 0)
 
     def check_run(self, words, out, files, all_after, program=PROGRAM, err=b""):
-        """Each growth of this run refused: it writes what it writes, or says that it lacks memory and has written nothing."""
+        """Each growth of this run refused: it writes what it writes, or says in its own name that it lacks memory and has written nothing."""
+        name_of_it = b"tcatool: " if program == TOOL else b"tcacct: "
         for number in range(1, MOST_GROWTHS):
             for name in files:
                 (self.folder / name).unlink(missing_ok=True)
@@ -87,6 +88,7 @@ class Growths(ProgramTest):
             else:
                 self.assertEqual(done.stdout, b"", number)
                 self.assertTrue(not done.stderr or done.stderr.rstrip().endswith(FAMILIES), done.stderr)
+                self.assertTrue(not done.stderr or done.stderr.startswith(name_of_it), done.stderr)
                 for name in files:
                     self.assertIn(self.read(name) if self.has(name) else b"", (b"",), number)
         else:

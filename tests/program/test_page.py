@@ -15,6 +15,7 @@ COLOURS = ("green", "yellow", "red")
 HEADER = "account,span,start,green_octets,green_packets,yellow_octets,yellow_packets,red_octets,red_packets".split(",")
 ROW = [("alpha", [(472222, (1500, 1, 1000, 1, 800, 1))])]
 ONE = ROW[0][1][0][1]
+UNITS = {unit: 1024**n for n, unit in enumerate(("octets", "KiB", "MiB", "GiB", "TiB", "PiB", "EiB"))}
 # The last second for which a moment is shown.
 LAST = 253_402_207_200
 
@@ -101,6 +102,27 @@ class AnyStatements(ToolTest):
         self.assert_tells(octets, "table", table(1, accounts))
         self.assert_tells(octets, "json", as_json(1, accounts))
 
+    def test_most_accounts_of_the_longest_names(self):
+        accounts = [(f"account_{n:024}", [(n, ONE)]) for n in range(256)]
+        octets = statement(3_600_000, accounts)
+        self.assert_tells(octets, "table", table(3_600_000, accounts))
+        self.assert_tells(octets, "json", as_json(3_600_000, accounts))
+        self.assert_tells(octets, "add", octets)
+        twice = [(name, [(index, tuple(2 * number for number in sums)) for index, sums in spans]) for name, spans in accounts]
+        run = self.run_tool("add", "statement", "statement")
+        self.assert_done(run, statement(3_600_000, twice, reports=6))
+        self.write("more", statement(3_600_000, accounts + [("more", [])]))
+        self.assert_tool_refused(self.run_tool("add", "more"), "more", "statement", 1)
+
+    def test_the_longest_period(self):
+        accounts = [("alpha", [(0, ONE), (1, ONE)])]
+        octets = statement(2**48 - 1, accounts)
+        self.assert_tells(octets, "table", table(2**48 - 1, accounts))
+        self.assert_tells(octets, "add", octets)
+        for period, index in ((2**48, 0), (2**48 - 1, 2), (3_600_000, 2**64 - 1)):
+            self.write("statement", statement(period, [("alpha", [(index, ONE)])]))
+            self.assert_tool_refused(self.run_tool("table", "statement"), "statement", "statement", 1)
+
 
 class WholePages(ToolTest):
     def page_of(self, octets):
@@ -148,3 +170,26 @@ class WholePages(ToolTest):
                 self.assertEqual(int(piece["y"]) + int(piece["height"]), floor)
                 floor = int(piece["y"])
             self.assertGreaterEqual(floor, int(column["y"]))
+
+    def test_units(self):
+        """Of each unit one, one and a half, and three quarters, which are told in the unit below; of the least one these are octets."""
+        wholes = list(UNITS.items())
+        accounts = [(unit, [(0, (octets, 1, octets * 3 // 2, 1, octets * 3 // 4, 1))]) for unit, octets in wholes[1:]]
+        sections = self.tree_of(statement(3_600_000, accounts)).findall(".//section")
+        for n, (section, (_, [(_, sums)])) in enumerate(zip(sections, accounts, strict=True)):
+            unit, below = wholes[n + 1][0], wholes[n][0]
+            texts = ["1.00 " + unit, "1.50 " + unit, "768.00 " + below, "3.25 " + unit]
+            found = [small.text.replace("\u00a0", " ") for small in section.findall(".//tbody/tr/td/small")]
+            self.assertEqual(found, texts if n else texts[:2] + texts[3:])
+            self.assert_scaled(section, sums)
+
+    def assert_scaled(self, section, sums):
+        """The words of the axis ascend in equal steps, reach all octets of the one bar, and fit the heights of its pieces."""
+        picture = section.find("figure/svg")
+        words = [text.text.split() for text in picture.findall("text") if text.get("class") == "end"]
+        steps = [int(number) * UNITS[unit] for number, unit in words]
+        self.assertEqual(steps, [n * steps[1] for n in range(len(steps))])
+        self.assertGreaterEqual(steps[-1], sums[0] + sums[2] + sums[4])
+        column, *pieces = picture.findall("g/rect")
+        for piece, octets in zip(pieces, sums[::2], strict=True):
+            self.assertAlmostEqual(int(piece.get("height")), octets * int(column.get("height")) / steps[-1], delta=1)

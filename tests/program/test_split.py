@@ -4,6 +4,8 @@ import random
 import resource
 import signal
 import struct
+import subprocess
+from pathlib import Path
 
 from model import capture
 from program import TOOL, ProgramTest
@@ -70,6 +72,23 @@ class Splitting(ProgramTest):
         run = self.split("parts", "capture")
         self.assertEqual((run.status, run.out, run.err), (1, b"", b"tcatool: split: write 1\n"))
         self.assertEqual(os.listdir(self.folder / "parts"), ["7.ipfix"])
+
+    def split_beside(self, **settings):
+        """A split beside another program, which a small library before the C library is."""
+        library = self.folder / "between.so"
+        source = Path(__file__).resolve().parent / "between.c"
+        subprocess.run(["cc", "-shared", "-fPIC", "-O1", "-o", library, source], check=True)
+        return self.split("parts", "capture", env={**os.environ, "LD_PRELOAD": str(library), **settings})
+
+    def test_a_file_that_is_made_in_between(self):
+        self.write("capture", M10 + M21)
+        self.assert_refused_by(self.split_beside(), "split", "write", 1, {"7.ipfix": b"mine"})
+
+    def test_a_capture_that_changes_in_between(self):
+        """Its second reading has a domain that the first had none of."""
+        self.write("capture", M10)
+        self.write("later", M21)
+        self.assert_refused_by(self.split_beside(CHANGED="capture"), "capture", "read", 1, {"7.ipfix": b""})
 
     def test_a_folder_that_is_not_there(self):
         self.write("capture", M10)

@@ -127,11 +127,14 @@ class Sums(ToolTest):
         self.write("s", STATEMENT)
         self.write("period", STATEMENT.replace(b"period 3600000", b"period 3600001"))
         self.write("name", STATEMENT.replace(b"account alpha", b"account beta"))
+        self.write("behind", STATEMENT.replace(b"end\n", b"account beta\ntotal 0 0 0 0 0 0\nend\n"))
         self.write("cut", STATEMENT[:-1])
         most = str(2**64 - 1).encode()
         self.write("most", STATEMENT.replace(b"1500 1", most + b" 1"))
         self.assert_tool_refused(self.run_tool("add", "s", "period", "cut"), "period", "statement", 3)
         self.assert_tool_refused(self.run_tool("add", "s", "name"), "name", "statement", 3)
+        self.assert_tool_refused(self.run_tool("add", "s", "behind"), "behind", "statement", 3)
+        self.assert_tool_refused(self.run_tool("add", "behind", "s"), "s", "statement", 3)
         self.assert_tool_refused(self.run_tool("add", "s", "cut", "period"), "cut", "statement", 1)
         self.assert_tool_refused(self.run_tool("add", "s", "most", "cut"), "most", "statement", 4)
         self.assert_tool_refused(self.run_tool("add", "s", "missing"), "missing", "read", 1)
@@ -151,6 +154,12 @@ class Statements(ToolTest):
             (STATEMENT.replace(b"period 3600000", b"period 0"), 1),
             (STATEMENT.replace(b"800 1", b"800 0"), 1),
             (WIDE.replace(b"span 6800000003", b"span 0"), 1),
+            (EMPTY.replace(b"alpha", b"a" * 33), 1),
+            (EMPTY.replace(b"alpha", b""), 1),
+            (STATEMENT.replace(b"end\n", b""), 1),
+            (STATEMENT.replace(b"end\n", b"end \n"), 1),
+            # A line that may not stand there is told before the wrong total of the account in front of it.
+            (STATEMENT.replace(b"total 1500", b"total 1501").replace(b"end\n", b"account alpha\ntotal 0 0 0 0 0 0\nend\n"), 1),
         )
         for text, number in rows:
             self.write("s", text)

@@ -1,8 +1,9 @@
 """The second program, over real files: what only one of two inputs has, and which pairs of domain and interface there are."""
 import random
+import subprocess
 
 from model import export
-from program import TOOL, ProgramTest
+from program import SECONDS, TOOL, ProgramTest
 from rows import FIRST, LATE, ONE, SECOND, THIRD, THREE, THREE_1, THREE_2, TIME
 
 PAIRS = b"domain,interface,reports,packets,octets,first,last\n"
@@ -86,11 +87,21 @@ class Differences(ToolTest):
         self.assertEqual((run.status, run.err), (0, b""))
         self.assertIn(b"Example: tcatool diff", run.out)
 
+    def test_a_word_that_is_no_text(self):
+        self.write("a", THREE_1)
+        done = subprocess.run([str(TOOL), b"pairs", b"a", b"\xff"], cwd=self.folder, capture_output=True, timeout=SECONDS)
+        self.assertEqual((done.returncode, done.stdout), (2, b""))
+        self.assertIn(b"UTF-8", done.stderr)
+
 
 class Pairs(ToolTest):
     def test_one_pair(self):
         self.write("a", THREE_1)
         self.assert_done(self.run_tool("pairs", "a"), PAIRS + b"7,1,3,3,3300,1700000000000,1700000000200\n")
+
+    def test_the_first_millisecond(self):
+        self.write("a", export([(0, 7, 0, 0, 100, 0, 1), (5, 7, 0, 1, 200, 0, 1), (9, 7, 0, 2, 300, 0, 1), (0, 8, 0, 0, 400, 0, 1)]))
+        self.assert_done(self.run_tool("pairs", "a"), PAIRS + b"7,1,3,3,600,0,9\n8,1,1,1,400,0,0\n")
 
     def test_no_reports(self):
         self.write("a", export([]))

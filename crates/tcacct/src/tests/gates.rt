@@ -1,7 +1,7 @@
-//! Bills whose workers are held or watched by gates: two jobs are begun before either is done, and each replica has workers of its own.
-//! Each wait has a limit, so that the tests end where it is not so.
+//! Bills whose workers are held or watched by gates: two jobs are begun before either is done, each replica has workers of its own, and the
+//! inputs go round the replicas. Each wait has a limit, so that the tests end where it is not so.
 use crate::replicated::run_bill;
-use crate::tests::commands::{FIRST, OPENING, PLAN, SECOND, THIRD, THREE_REPORTS};
+use crate::tests::commands::{FIRST, OPENING, PLAN, Row, SECOND, THIRD, THREE_REPORTS};
 use crate::tests::meeting::Meeting;
 use crate::tests::replicated::export_of_each;
 use std::alloc::Global;
@@ -37,24 +37,28 @@ impl Gate for Watch {
     fn after(&self, _job: u32) {}
 }
 
-// Whether three inputs of a report each are billed by so many replicas of two workers each.
+// Whether inputs of a report each, which hold the three reports, are billed by so many replicas, each of so many workers.
 fn bills<R: Threads + Wait + Sync, G: Gate>(
     rt: &R,
     alloc: Global,
-    replicas: u32,
+    rows: &[Row],
+    (replicas, workers): (u32, u32),
     gate: &G,
 ) -> bool {
-    let Ok(inputs) = export_of_each(alloc, &[FIRST, SECOND, THIRD]) else {
+    let Ok(inputs) = export_of_each(alloc, rows) else {
         return false;
     };
-    if inputs.len() != 3 || replicas < 1 || replicas > 2 {
+    if inputs.len() < 1 || inputs.len() > 256 {
+        return false;
+    }
+    if replicas < 1 || replicas > 16 || workers < 1 || workers > 64 {
         return false;
     }
     let mut out = Host::new(Vec::new(alloc));
     let export: Option<&mut Host<Vec<u8>>> = None;
     let plan = PLAN.as_bytes();
     let billed = run_bill(
-        rt, alloc, plan, &inputs, replicas, 2, gate, export, &mut out,
+        rt, alloc, plan, &inputs, replicas, workers, gate, export, &mut out,
     );
     let Ok(text) = format!(in alloc; "{OPENING}{THREE_REPORTS}") else {
         return false;
@@ -65,7 +69,7 @@ fn bills<R: Threads + Wait + Sync, G: Gate>(
 #[test]
 fn two_jobs_meet(rt: HostRuntime) {
     let gate = Meeting::new(&rt);
-    assert!(rt; bills(&rt, rt.alloc(), 1, &gate));
+    assert!(rt; bills(&rt, rt.alloc(), &[FIRST, SECOND, THIRD], (1, 2), &gate));
     assert!(rt; gate.came_about());
 }
 
@@ -78,11 +82,40 @@ fn each_replica_has_its_own_jobs(rt: HostRuntime) {
         second: AtomicU64::new(0),
         third: AtomicU64::new(0),
     };
-    assert!(rt; bills(&rt, rt.alloc(), 2, &gate));
+    assert!(rt; bills(&rt, rt.alloc(), &[FIRST, SECOND, THIRD], (2, 2), &gate));
     let first = gate.first.load(Ordering::SeqCst);
     let second = gate.second.load(Ordering::SeqCst);
     let third = gate.third.load(Ordering::SeqCst);
     assert!(rt; gate.came.load(Ordering::SeqCst) == 3);
     assert!(rt; (first == 1 && second == 2) || (first == 2 && second == 1));
     assert!(rt; third == 1);
+}
+
+// The jobs in the order in which they came, each a digit counted from 1.
+#[derive(Drop)]
+struct Order {
+    jobs: AtomicU64,
+}
+
+impl Gate for Order {
+    fn before(&self, job: u32) {
+        let before = self.jobs.load(Ordering::SeqCst).wrapping_mul(10);
+        let job = u64::from(job).wrapping_add(1);
+        self.jobs.store(before.wrapping_add(job), Ordering::SeqCst);
+    }
+
+    fn inside(&self, _job: u32) {}
+
+    fn after(&self, _job: u32) {}
+}
+
+// Of five inputs the first replica of three has two, as has the second, and the third has one.
+#[test]
+fn inputs_go_round_the_replicas(rt: HostRuntime) {
+    let gate = Order {
+        jobs: AtomicU64::new(0),
+    };
+    let rows = [FIRST, SECOND, THIRD, FIRST, SECOND];
+    assert!(rt; bills(&rt, rt.alloc(), &rows, (3, 1), &gate));
+    assert!(rt; gate.jobs.load(Ordering::SeqCst) == 12_121);
 }
