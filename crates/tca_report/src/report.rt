@@ -4,7 +4,7 @@ ghost use Rattle.std.specs.Ordering.{is_eq};
 ghost use Rattle.std.specs.Cmp.{IsTotalOrder, eq_by_cmp_equiv, partial_order_from_agreeing_total, partial_equiv_from_equiv};
 ghost use Rattle.std.proofs.Common.{refl, Some};
 ghost use Rattle.std.specs.declared.cmp.Ordering.TheVariants.{Equal};
-ghost use Rattle.tca_report.specs.report.Reports.{PacketReport, InRange, reported, ranged, report_cmp};
+ghost use Rattle.tca_report.specs.report.Reports.{PacketReport, InRange, reported, ranged, report_cmp, report_total};
 ghost use Rattle.tca_report.specs.report.Identities.{identity_cmp, identity_of, identity_total};
 ghost use Rattle.tca_report.specs.declared.report.Identity.{Identity};
 
@@ -100,32 +100,44 @@ pub(crate) const MOST_DSCP: u8 = 63;
 // The most reports of a log, and so of an export.
 pub(crate) const MOST_REPORTS: u32 = 4_194_304;
 
-/// A report of one packet. Reports are ordered by time, domain, session, place, octets, code point and
+// A time is kept as its upper 16 bits and its lower 32.
+const LOW_END: u64 = 1 << 32;
+
+/// A report of one packet, in 28 octets of memory. Reports are ordered by time, domain, session, place, octets, code point and
 /// interface, each ascending.
-#[derive(Clone, Copy, Debug, PartialEq, Eq, PartialOrd, Ord)]
+#[derive(Clone, Copy, Debug)]
 pub struct Report {
-    time: u64,
+    time_low: u32,
     domain: u32,
     session: u32,
     place: u32,
     octets: u32,
-    dscp: u8,
     iface: u32,
+    time_high: u16,
+    dscp: u8,
 }
 
 impl Model for Report {
     ghost use Rattle.tca_report.specs.report.Reports.{PacketReport, InRange};
+    ghost use Rattle.std.specs.Prelude.{◌+◌, ◌*◌, ◌/◌, ◌%◌, ◌<◌};
 
     ghost Value = { PacketReport };
 
-    ghost view = { λ r. record { time = r.time; domain = r.domain; session = r.session; place = r.place; octets = r.octets; dscp = r.dscp; iface = r.iface } };
+    ghost view = { λ r. record { time = r.time_high * 4294967296 + r.time_low; domain = r.domain; session = r.session; place = r.place; octets = r.octets; dscp = r.dscp; iface = r.iface } };
 
-    ghost invariant = { λ r. InRange (record { time = r.time; domain = r.domain; session = r.session; place = r.place; octets = r.octets; dscp = r.dscp; iface = r.iface }) };
+    ghost invariant = { λ r. InRange (record { time = r.time_high * 4294967296 + r.time_low; domain = r.domain; session = r.session; place = r.place; octets = r.octets; dscp = r.dscp; iface = r.iface }) × (r.time_low < 4294967296) };
 
-    ghost inverse = { λ r. record { time = r.time; domain = r.domain; session = r.session; place = r.place; octets = r.octets; dscp = r.dscp; iface = r.iface } };
+    ghost inverse = { λ r. record { time_low = r.time % 4294967296; domain = r.domain; session = r.session; place = r.place; octets = r.octets; iface = r.iface; time_high = r.time / 4294967296; dscp = r.dscp } };
 }
 
 impl Report {
+    // The time, in milliseconds from 1970 UTC.
+    fn time(&self) -> u64
+        ensures { result ≡ self.now.time }
+    {
+        self.time_high as u64 * LOW_END + self.time_low as u64
+    }
+
     /// The report of this content; None where the content is out of range.
     pub fn new(identity: Identity, content: Content) -> Option<Report>
         ensures { result ≡ ranged (reported identity content) }
@@ -136,13 +148,14 @@ impl Report {
             && content.dscp <= MOST_DSCP
         {
             Some(Report {
-                time: content.time,
+                time_low: (content.time % LOW_END) as u32,
                 domain: identity.domain,
                 session: identity.session,
                 place: identity.place,
                 octets: content.octets,
-                dscp: content.dscp,
                 iface: content.iface,
+                time_high: (content.time / LOW_END) as u16,
+                dscp: content.dscp,
             })
         } else {
             None
@@ -166,11 +179,57 @@ impl Report {
         ensures range { InRange self.now }
     {
         Content {
-            time: self.time,
+            time: self.time(),
             octets: self.octets,
             dscp: self.dscp,
             iface: self.iface,
         }
+    }
+}
+
+impl PartialEq for Report {
+    ghost eq = { λ a b. is_eq (report_cmp a b) };
+
+    ghost laws = { partial_equiv_from_equiv (eq_by_cmp_equiv report_total) };
+
+    fn eq(&self, other: &Report) -> bool {
+        self.cmp(other).is_eq()
+    }
+}
+
+impl Eq for Report {
+    ghost laws = { eq_by_cmp_equiv report_total };
+}
+
+impl PartialOrd for Report {
+    ghost partial_cmp = { λ a b. Some (report_cmp a b) };
+
+    ghost laws = { partial_order_from_agreeing_total report_cmp report_total (λ _ _. refl) (λ _ _. refl) };
+
+    fn partial_cmp(&self, other: &Report) -> Option<Ordering> {
+        Some(self.cmp(other))
+    }
+}
+
+impl Ord for Report {
+    ghost cmp = { report_cmp };
+
+    ghost total = { report_total };
+
+    ghost matches_partial_cmp = { λ _ _. refl };
+
+    ghost matches_eq = { λ _ _. refl };
+
+    fn cmp(&self, other: &Report) -> Ordering {
+        let by_time = self.time().cmp(&other.time());
+        if by_time.is_ne() {
+            return by_time;
+        }
+        self.identity()
+            .cmp(&other.identity())
+            .then(self.octets.cmp(&other.octets))
+            .then(self.dscp.cmp(&other.dscp))
+            .then(self.iface.cmp(&other.iface))
     }
 }
 

@@ -1,6 +1,8 @@
 -- A report of one packet, and the order of reports.
 use Rattle.std.specs.Prelude.{ℕ, ◌<◌, ◌≤◌, ◌^◌, Bool, ◌&&◌, nat_lt, nat_le, Option, Some, None, if◌then◌else◌}
 use Rattle.std.specs.Ordering.{nat_cmp, ordering_then}
+use Rattle.std.specs.Cmp.{IsTotalOrder, nat_cmp_total}
+use Rattle.std.proofs.lemmas.Cmp.{on_total, then_total}
 use Rattle.std.specs.declared.cmp.Ordering.{Ordering}
 use Rattle.tca_report.specs.declared.report.Identity.{Identity}
 use Rattle.tca_report.specs.declared.report.Content.{Content}
@@ -63,3 +65,13 @@ report_cmp a b =
     (ordering_then (nat_cmp a.place b.place)
     (ordering_then (nat_cmp a.octets b.octets)
     (ordering_then (nat_cmp a.dscp b.dscp) (nat_cmp a.iface b.iface))))))
+
+-- that order is total
+pub report_total : IsTotalOrder report_cmp
+report_total =
+    then_total (on_total (λ r. r.time) nat_cmp_total)
+    (then_total (on_total (λ r. r.domain) nat_cmp_total)
+    (then_total (on_total (λ r. r.session) nat_cmp_total)
+    (then_total (on_total (λ r. r.place) nat_cmp_total)
+    (then_total (on_total (λ r. r.octets) nat_cmp_total)
+    (then_total (on_total (λ r. r.dscp) nat_cmp_total) (on_total (λ r. r.iface) nat_cmp_total))))))
