@@ -1,5 +1,5 @@
 -- The faults of command lines.
-use Rattle.std.specs.Prelude.{ℕ}
+use Rattle.std.specs.Prelude.{ℕ, List, [], string_bytes}
 use Rattle.tca_program.specs.declared.line_fault.LineFault.{LineFault}
 use Rattle.tca_program.specs.declared.line_fault.LineFault.TheVariants.{Usage, Help, Memory}
 
@@ -14,3 +14,9 @@ abbrev pub line_status : LineFault → ℕ
 line_status (Usage text) = 2
 line_status (Help text) = 0
 line_status Memory = 1
+
+-- what goes to standard output where a command line asks for no command: the text of help, where it asks for that
+abbrev pub help_text : LineFault → List ℕ
+help_text (Usage text) = []
+help_text (Help text) = string_bytes text
+help_text Memory = []

@@ -1,8 +1,9 @@
 //! How a run of a program ends: what goes to standard error, and the exit status.
-ghost use Rattle.std.specs.Prelude.{◌≡◌, ◌≤◌, Some, IfErr, IfOk, map, string_bytes};
+ghost use Rattle.std.specs.Prelude.{◌≡◌, ◌≢◌, ◌≤◌, ◌⊎◌, Some, IfErr, IfOk, map, string_bytes};
 ghost use Rattle.std.specs.Fmt.{DisplaysOnOk};
+ghost use Rattle.tca_program.specs.Devices.{IsCutOff, Receives, device};
 ghost use Rattle.tca_program.specs.Endings.{error_text, fault_line, status_of};
-ghost use Rattle.tca_program.specs.LineFaults.{line_status};
+ghost use Rattle.tca_program.specs.LineFaults.{help_text, line_number, line_status};
 
 use crate::fault::RunFault;
 use crate::line_fault::LineFault;
@@ -106,8 +107,12 @@ pub fn end<V: io::Write>(ending: &Ending<'_>, errors: &mut V) -> u8
     ending.status()
 }
 
-/// Prints the text of help that was asked for, as far as that goes.
-pub fn print_help<W: Write>(fault: &LineFault, out: &mut W) {
+/// Prints the text of help that was asked for, as far as that goes. Any other fault prints nothing.
+pub fn print_help<W: Write>(fault: &LineFault, out: &mut W)
+    ensures help { Receives (help_text fault.now) (device W.written W.failures out.old) (device W.written W.failures out.new)
+        ⊎ IsCutOff (help_text fault.now) (device W.written W.failures out.old) (device W.written W.failures out.new) }
+    ensures quiet { line_number fault.now ≢ 2 → out.new ≡ out.old }
+{
     if let LineFault::Help { text } = fault {
         let _unwritten = put_all(text.as_bytes(), out);
     }

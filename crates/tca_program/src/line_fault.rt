@@ -1,7 +1,7 @@
 //! Why the words of a command line ask for nothing.
-ghost use Rattle.std.specs.Prelude.{◌≡◌, ◌≢◌};
+ghost use Rattle.std.specs.Prelude.{◌≡◌, ◌≢◌, ◌≤◌, ◌⊎◌};
 ghost use Rattle.clap.specs.Words.{kind_of};
-ghost use Rattle.tca_program.specs.LineFaults.{line_number};
+ghost use Rattle.tca_program.specs.LineFaults.{line_number, line_status};
 
 use clap::error::ErrorKind;
 use std::alloc::{AllocError, AllocFailed, Global};
@@ -34,16 +34,18 @@ impl LineFault {
 
     /// What no command line gives, since clap has found each word that is required.
     pub fn nothing_asked(alloc: Global) -> LineFault
-        ensures { result ≢ LineFault.Memory }
+        ensures other { result ≢ LineFault.Memory }
+        ensures wrong { line_number result ≡ 1 }
     {
-        LineFault::Usage {
-            text: String::new(alloc),
-        }
+        let text = String::new(alloc);
+        LineFault::Usage { text }
     }
 
     /// The fault of an error of clap.
     pub fn of(alloc: Global, error: &clap::Error) -> LineFault
-        ensures { kind_of error.now ≡ ErrorKind.OutOfMemory → result ≡ LineFault.Memory }
+        ensures memory { kind_of error.now ≡ ErrorKind.OutOfMemory → result ≡ LineFault.Memory }
+        ensures wrong { kind_of error.now ≢ ErrorKind.DisplayHelp → kind_of error.now ≢ ErrorKind.DisplayVersion → 1 ≤ line_status result }
+        ensures help { (kind_of error.now ≡ ErrorKind.DisplayHelp) ⊎ (kind_of error.now ≡ ErrorKind.DisplayVersion) → line_number result ≢ 1 }
     {
         if error.kind() == ErrorKind::OutOfMemory {
             return LineFault::Memory;

@@ -145,10 +145,19 @@ const AT_THE_TOP: &[Refused] = &[
     ),
 ];
 
+// Whether 100,000 octets that are no document are refused as such.
+fn refuses_a_long_text(alloc: Global) -> bool {
+    let Ok(text) = vec![in alloc; b'='; 100_000] else {
+        return false;
+    };
+    Plan::from_text(alloc, &text).err() == Some(PlanFault::Syntax)
+}
+
 #[test]
 fn refuses_what_stands_at_the_top_in_order(rt: HostRuntime) {
     let alloc = rt.alloc();
     assert!(rt; Plan::from_text(alloc, b"\xff").err() == Some(PlanFault::Syntax));
+    assert!(rt; refuses_a_long_text(alloc));
     for (parts, fault) in AT_THE_TOP {
         assert!(rt; is_refused(alloc, *parts, *fault), "{parts:?}");
     }
@@ -649,6 +658,14 @@ fn report(place: u32, time: u64, octets: u32, iface: u32) -> Option<Report> {
     Report::new(identity, content)
 }
 
+// Whether a plan bills a log that has no report.
+fn bills_nothing(alloc: Global, plan: &Plan) -> bool {
+    match bill_all(alloc, plan, &Log::new(alloc)) {
+        Ok(bill) => bill.accounts.as_slice().len() == plan.accounts() as usize,
+        Err(_) => false,
+    }
+}
+
 fn takes_the_most(alloc: Global) -> bool {
     let Some(known) = report(0, START, 1, 15) else {
         return false;
@@ -663,7 +680,7 @@ fn takes_the_most(alloc: Global) -> bool {
         return false;
     };
     let found = (plan.account_of(&known), plan.account_of(&unknown));
-    plan.accounts() == 256 && found == (Some(7), None)
+    plan.accounts() == 256 && found == (Some(7), None) && bills_nothing(alloc, &plan)
 }
 
 fn is_too_wide(alloc: Global, accounts: u32, pairs: u32) -> bool {

@@ -602,8 +602,8 @@ fn faults_have_texts_and_numbers(rt: HostRuntime) {
     assert!(rt; fault.number() == 1 && says(rt.alloc(), fault, text));
 }
 
-// A device that takes or gives at most 700 octets a call. Each third call fails, and each fifth write takes nothing.
-// It counts its own failures.
+// A device that takes or gives at most 700 octets a call. Each third call is interrupted, and each fifth write takes
+// nothing. It counts its own failures.
 #[derive(Drop)]
 struct Faulty {
     calls: u64,
@@ -615,7 +615,7 @@ impl Faulty {
         self.calls = self.calls.saturating_add(1);
         if self.calls % 3 == 0 {
             self.failures = self.failures.saturating_add(1);
-            return Err(io::Error::from(io::ErrorKind::Other));
+            return Err(io::Error::from(io::ErrorKind::Interrupted));
         }
         Ok(self.calls % 5 == 0)
     }

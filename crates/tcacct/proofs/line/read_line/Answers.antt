@@ -18,7 +18,7 @@ returns-in-Err-try_get_matches_from-clause-refused c = λ other.
     let error = c.in-Err-try_get_matches_from.error in
     let kinds = c.in-Err-try_get_matches_from.ensures.kinds (ap is_simple_and_free c.in-Ok.ensures ∙ is_plain) in
     let words = map (λ s. s.now) c.args.words.now in
-    ap (λ (a : App). order_met order_from (fault_of a words) (subcommand_of program words)) (sym c.in-Ok.ensures) ∙ none_met order_from _ error _ kinds (λ e. other (c.of.ensures e))
+    ap (λ (a : App). order_met order_from (fault_of a words) (subcommand_of program words)) (sym c.in-Ok.ensures) ∙ none_met order_from _ error _ kinds (λ e. other (c.of.ensures.memory e))
 
 pub returns-in-Ok-Some-clause-ok : goal.returns-in-Ok-Some-clause-ok
 returns-in-Ok-Some-clause-ok c =

@@ -1,14 +1,16 @@
 //! As many passes as there may be, and as many entries.
 ghost use Rattle.std.specs.Prelude.{◌≡◌};
 
-use super::{PARTS, alone, lengths, plan, with_one_more};
+use super::jobs::exports;
+use super::{FIRST, PARTS, alone, lengths, plan, with_one_more};
 use std::alloc::Global;
 use std::marker::Brand;
 use std::sync::Wait;
 use std::sync::ledger::Blank;
+use std::thread::Threads;
 use tca_accounts::Plan;
 use tca_gossip::{Delta, Summary};
-use tca_ingest::{Pass, ShareFault, Shared, Side};
+use tca_ingest::{JobFault, NoGate, Pass, ShareFault, Shared, Side, exchange, work};
 use tca_join::ByKey;
 
 // Makes passes, and answers whether they have the numbers from 0 on.
@@ -127,36 +129,103 @@ fn filled<L: Side, R: Wait>(rt: &R, alloc: Global, shared: &Shared<L>) -> Option
     with_one_more(one, second).ok()
 }
 
-// Two passes fill the journal, and close.
-fn fills<L: Side, R: Wait>(rt: &R, alloc: Global, shared: Shared<L>) -> bool {
-    let Some(passes) = filled(rt, alloc, &shared) else {
-        return false;
-    };
-    lengths(shared, passes) == Some((1_048_576, 0))
-}
-
-fn fills_the_journal<L: Side, R: Wait>(
+// Whether a worker's job, whose input is good, is refused for the journal.
+fn refuses_a_job<L: Side + Send + Sync, R: Threads + Wait + Sync>(
     rt: &R,
     alloc: Global,
-    blank: Blank,
-    name: u32,
-    plan: Plan,
-) -> bool
-    requires name { blank.name ≡ L.name }
-    requires parts { (blank.parts ≡ L.parts) × (L.parts ≡ 65537) }
-    requires called { name ≡ L.called }
-    requires plan { plan ≡ L.plan }
-{
-    let Ok(shared) = Shared::<L>::new(alloc, blank, name, plan) else {
+    shared: &Shared<L>,
+) -> bool {
+    let Some(inputs) = exports(alloc, &[FIRST]) else {
         return false;
     };
-    fills(rt, alloc, shared)
+    let Ok(worked) = work(rt, alloc, shared, &inputs, &NoGate, 1) else {
+        return false;
+    };
+    match worked.done.as_slice() {
+        [done] => match &done.result {
+            Err(fault) => *fault == JobFault::Share(ShareFault::JournalFull),
+            Ok(_) => false,
+        },
+        _ => false,
+    }
+}
+
+// Whether an exchange is refused for the journal of the replica that is to send, and for that of one that is to ask.
+fn refuses_exchanges<I: Side, F: Side, R: Wait>(
+    rt: &R,
+    full: (&Shared<I>, &mut Pass<I>),
+    empty: (&Shared<F>, &mut Pass<F>),
+) -> bool {
+    let ((shared, pass), (other, mine)) = (full, empty);
+    let sends = exchange(rt, other, mine, shared, pass).err();
+    let asks = exchange(rt, shared, pass, other, mine).err();
+    [sends, asks] == [Some(ShareFault::JournalFull); 2] && mine.calls().len() == 1
+}
+
+// Whether an empty replica is refused for the journal of this one, and closes with the summary that it asked by.
+fn exchanges_with_none<I: Side, F: Side, R: Wait>(
+    rt: &R,
+    alloc: Global,
+    full: (&Shared<I>, &mut Pass<I>),
+    empty: Shared<F>,
+) -> bool {
+    let Ok(mut mine) = empty.pass(rt) else {
+        return false;
+    };
+    let refused = refuses_exchanges(rt, full, (&empty, &mut mine));
+    let Ok(passes) = alone(alloc, mine) else {
+        return false;
+    };
+    refused && lengths(empty, passes) == Some((1, 0))
+}
+
+// Two passes fill the journal, no job and no exchange gets by it, and they close.
+fn fills<I: Side + Send + Sync, F: Side, R: Threads + Wait + Sync>(
+    rt: &R,
+    alloc: Global,
+    shared: Shared<I>,
+    empty: Shared<F>,
+) -> bool {
+    let Some(mut passes) = filled(rt, alloc, &shared) else {
+        return false;
+    };
+    let refused = refuses_a_job(rt, alloc, &shared);
+    let told = match passes.first_mut() {
+        Some(pass) => exchanges_with_none(rt, alloc, (&shared, pass), empty),
+        None => false,
+    };
+    refused && told && lengths(shared, passes) == Some((1_048_576, 0))
+}
+
+fn fills_the_journal<I: Side + Send + Sync, F: Side, R: Threads + Wait + Sync>(
+    rt: &R,
+    alloc: Global,
+    one: (Blank, u32, Plan),
+    two: (Blank, u32, Plan),
+) -> bool
+    requires name { (one.0.name ≡ I.name) × (two.0.name ≡ F.name) }
+    requires parts { (one.0.parts ≡ I.parts) × (I.parts ≡ 65537) × (two.0.parts ≡ F.parts) × (F.parts ≡ 65537) }
+    requires called { (one.1 ≡ I.called) × (two.1 ≡ F.called) }
+    requires plan { (one.2 ≡ I.plan) × (two.2 ≡ F.plan) }
+{
+    let Ok(shared) = Shared::<I>::new(alloc, one.0, one.1, one.2) else {
+        return false;
+    };
+    let Ok(empty) = Shared::<F>::new(alloc, two.0, two.1, two.2) else {
+        return false;
+    };
+    fills(rt, alloc, shared, empty)
 }
 
 #[test]
 fn a_journal_is_full_at_its_limit(rt: HostRuntime) {
-    let Ok(plan) = plan(rt.alloc()) else {
+    let Ok(first) = plan(rt.alloc()) else {
         panic!(rt; "a plan");
     };
-    assert!(rt; fills_the_journal::<Brand, _>(&rt, rt.alloc(), Blank::new(PARTS), 1, plan));
+    let Ok(second) = plan(rt.alloc()) else {
+        panic!(rt; "a plan");
+    };
+    let one = (Blank::new(PARTS), 1, first);
+    let two = (Blank::new(PARTS), 2, second);
+    assert!(rt; fills_the_journal::<Brand, Brand, _>(&rt, rt.alloc(), one, two));
 }
