@@ -94,6 +94,16 @@ no_want r d x y is not told = absurd (not (told_is r d Memory is told))
 pub write_no_want : (d : SplitFault) → d ≡ Write → d ≡ Memory → ⊥
 write_no_want d is told = let bad : Write ≡ Memory = sym is ∙ told in absurd cc
 
+-- nor is a file that was there or couldn't be looked for a want of memory
+pub look_no_want : (d : SplitFault) → (d ≡ Exists) ⊎ (d ≡ Write) → d ≡ Memory → ⊥
+look_no_want d (inl is) told = let bad : Exists ≡ Memory = sym is ∙ told in absurd cc
+look_no_want d (inr is) told = write_no_want d is told
+
+-- memory that the first reading wanted
+pub first_wanted : {A B C : Type 0} → A ⊎ B → A ⊎ B ⊎ C
+first_wanted (inl a) = inl a
+first_wanted (inr b) = inr (inl b)
+
 -- a count that didn't rise, since no failed read was told
 pub calm_read : (e : SplitFault) (old new : ℕ) → CountsReadFault e old new → (e ≡ Read read.Read → ⊥) → new ≡ old
 calm_read (Read read.Read) old new h not = absurd (not refl)

@@ -1,8 +1,8 @@
 -- A first reading, message by message and piece by piece.
-use Rattle.std.proofs.Common.{◌≡◌, ℕ, ◌+◌, ◌-◌, ◌^◌, ◌<◌, ◌≤◌, true, false, cond, List, [], ◌∷◌, ◌++◌, length, Option, Some, None, Ok, Err, refl, sym, ap, ap₂, subst, ◌∙◌, arith, ◌⊎◌, inl, inr}
-use Rattle.std.specs.Prelude.{nat_lt, nat_eq, min}
+use Rattle.std.proofs.Common.{◌≡◌, Bool, ℕ, ◌+◌, ◌-◌, ◌^◌, ◌<◌, ◌≤◌, true, false, cond, List, [], ◌∷◌, ◌++◌, length, Option, Some, None, Ok, Err, refl, sym, ap, ap₂, subst, ◌∙◌, arith, drop, ◌⊎◌, inl, inr}
+use Rattle.std.specs.Prelude.{nat_lt, nat_eq, min, Result, IfOk, IfErr, IsErrOf}
 use Rattle.std.proofs.lemmas.Bool.Decides.{nat_tests}
-use Rattle.std.proofs.lemmas.List.{length-append}
+use Rattle.std.proofs.lemmas.List.{length-append, drop_at}
 use Rattle.indexmap.specs.IndexSet.{insert_key}
 use Rattle.tca_wire.specs.Frames.{Framing, Holds, Failed, IsStream, Feeds, HoldsPart, fault_of, ending, frames_of}
 use Rattle.tca_wire.specs.declared.fault.WireFault.{WireFault}
@@ -12,11 +12,11 @@ use Rattle.tca_wire.proofs.FramesOf.{frames_are, is_stream}
 use Rattle.tca_report.specs.device.Devices.{read_size}
 use Rattle.tca_report.proofs.lemmas.input.CaptureParts.{fails_on, in_longer}
 use Rattle.tca_split.specs.Parts.{domain_of, domains_of}
-use Rattle.tca_split.specs.Surveys.{most_domains, surveyed, surveyed_as, unless_cut}
+use Rattle.tca_split.specs.Surveys.{most_domains, is_among, surveyed, surveyed_as, unless_cut}
 use Rattle.tca_split.specs.Faults.{framing_fault}
 use Rattle.tca_split.specs.inside.Surveying.{Surveys, IsFramed, AreTooMany, IsFirstRefused, IsOfFraming}
 use Rattle.tca_split.specs.Failures.{CountsReadFault}
-use Rattle.tca_split.specs.Wants.{BringMore, WantsMemory}
+use Rattle.tca_split.specs.Wants.{ending_in, IsNewDomain, BringDomain, BringMore, WantsMemory}
 use Rattle.tca_report.specs.declared.device.octets.ReadFault.TheVariants as read
 use Rattle.tca_split.specs.declared.survey.Survey.{Survey}
 use Rattle.tca_split.specs.declared.fault.SplitFault.{SplitFault}
@@ -37,11 +37,27 @@ survey_push ms m s t h keys few count =
       count = count ∙ counted_one (length ms) s.messages h.count ∙ ap (λ n. min n (2 ^ 64 - 1)) (sym (length-append ms (m ∷ [])));
     }
 
--- a domain too many
-pub survey_full : (ms : List (List ℕ)) (m : List ℕ) (s : Survey) (keys : List ℕ) → Surveys ms s → keys ≡ insert_key nat_eq s.domains.keys (domain_of m) → 4096 < length keys → most_domains < length (domains_of (ms ++ m ∷ []))
-survey_full ms m s keys h e many =
-    let is : keys ≡ domains_of (ms ++ m ∷ []) = e ∙ ap (λ (l : List ℕ). insert_key nat_eq l (domain_of m)) h.domains ∙ sym (domains_push ms m) in
-    omega (arith, many, ap (λ (l : List ℕ). length l) is)
+-- a domain more than there may be
+pub survey_full : (ms : List (List ℕ)) (m : List ℕ) (s : Survey) → Surveys ms s → 4096 ≤ length s.domains.keys → is_among (domain_of m) s.domains.keys ≡ false → most_domains < length (domains_of (ms ++ m ∷ []))
+survey_full ms m s h many new =
+    let keys = s.domains.keys in
+    let d = domain_of m in
+    let is : domains_of (ms ++ m ∷ []) ≡ keys ++ d ∷ [] =
+    domains_push ms m ∙ ap (λ (l : List ℕ). insert_key nat_eq l d) (sym h.domains) ∙ ap (λ b. cond b keys (keys ++ d ∷ [])) new in
+    omega (arith, many, ap (λ (l : List ℕ). length l) is, length-append keys (d ∷ []))
+
+-- the first message of a domain, where fewer than the most have come
+pub survey_first : (ms : List (List ℕ)) (m : List ℕ) (s : Survey) → Surveys ms s → length s.domains.keys < 4096 → is_among (domain_of m) s.domains.keys ≡ false → IsNewDomain ms m
+survey_first ms m s h few new = (ap (is_among (domain_of m)) (sym h.domains) ∙ new, omega (arith, few, ap (λ (l : List ℕ). length l) h.domains))
+
+-- no more domains than there may be
+pub survey_room : (keys : List ℕ) (d : ℕ) → length keys ≤ 4096 → (length keys < 4096) ⊎ (is_among d keys ≡ true) → length (insert_key nat_eq keys d) ≤ 4096
+survey_room keys d most (inl few) = go (is_among d keys)
+  where
+    go : (b : Bool) → length (cond b keys (keys ++ d ∷ [])) ≤ 4096
+    go true = most
+    go false = omega (arith, few, length-append keys (d ∷ []))
+survey_room keys d most (inr there) = omega (arith, most, ap (λ b. length (cond b keys (keys ++ d ∷ []))) there)
 
 -- what is too many stays so with more messages
 pub still_many : (a b : List (List ℕ)) (e : SplitFault) → AreTooMany a e → AreTooMany (a ++ b) e
@@ -170,6 +186,30 @@ pub cut_fault : (octets : List ℕ) (ms : List (List ℕ)) (framer : Framing) (f
 cut_fault octets ms framer fault f e is =
     end_fault f.held (ap ending (sym f.holds) ∙ e ∙ ap (λ (x : WireFault). Err x) (want_of_memory fault is))
 
+abbrev IsEndFault : Framing → SplitFault → Type 0
+IsEndFault framer e = (fault : WireFault) × (ending framer ≡ Err fault) × (e ≡ framing_fault fault)
+
+-- the survey at the end of a capture
+pub end_ok : (octets : List ℕ) (ms : List (List ℕ)) (framer : Framing) (s : Survey) (r : Result Survey SplitFault) → IsFramed octets ms framer → Surveys ms s
+    → IfOk r (λ t. (t ≡ s) × (ending framer ≡ Ok tt)) → IfOk r (λ t. Surveys (frames_of octets).0 t × (ending (frames_of octets).1 ≡ Ok tt))
+end_ok octets ms framer s (Ok t) f h e = ended_surveys octets ms framer t f (subst (λ (x : Survey). Surveys ms x) (sym e.0) h) e.1
+end_ok octets ms framer s (Err x) f h e = tt
+
+-- the fault at the end of a capture
+pub end_err : (octets : List ℕ) (ms : List (List ℕ)) (framer : Framing) (s : Survey) (r : Result Survey SplitFault) → IsFramed octets ms framer → Surveys ms s
+    → IfErr r (IsEndFault framer) → IfErr r (IsFirstRefused octets)
+end_err octets ms framer s (Ok t) f h e = tt
+end_err octets ms framer s (Err x) f h e =
+    subst (λ (y : SplitFault). IsFirstRefused octets y) (sym e.2) (refused_by_fault octets e.0 (ended_badly octets ms framer e.0 f h.few e.1))
+
+-- it is no want of memory
+pub end_memory : (octets all : List ℕ) (left : Option (List ℕ)) (old new : ℕ) (ms : List (List ℕ)) (framer : Framing) (r : Result Survey SplitFault) → IsFramed octets ms framer
+    → IfErr r (IsEndFault framer) → IsErrOf r Memory → (new ≡ old) ⊎ WantsMemory all left
+end_memory octets all left old new ms framer (Ok t) f e is = absurd cc
+end_memory octets all left old new ms framer (Err x) f e is =
+    let told : x ≡ Memory = cc in
+    absurd (cut_fault octets ms framer e.0 f e.1 (sym e.2 ∙ told))
+
 -- a piece gives some messages
 pub some_feed : (octets piece : List ℕ) (ms : List (List ℕ)) (framer : Framing) → IsFramed octets ms framer → (ns : List (List ℕ)) × (after : Framing) × Feeds framer piece ns after
 some_feed octets piece ms framer f = (
@@ -178,30 +218,36 @@ some_feed octets piece ms framer f = (
   subst (λ x. Feeds x piece (frames_of (f.held ++ piece)).0 (frames_of (f.held ++ piece)).1) (sym f.holds) (is_stream (f.held ++ piece)),
 )
 
--- a piece that brings memory to be wanted
-pub brought_by : (octets piece : List ℕ) (ms ns : List (List ℕ)) (framer after : Framing) → IsFramed octets ms framer → Feeds framer piece ns after → (0 < length ns) ⊎ HoldsPart after → BringMore octets piece
-brought_by octets piece ms ns framer after f feeds why = go why
-  where
-    front : (frames_of octets).0 ≡ ms × ((frames_of octets).1 ≡ framer)
-    front = framed_whole octets ms framer f
+-- the messages that end in a piece
+ending_is : (octets piece : List ℕ) (ms ns : List (List ℕ)) (framer after : Framing) → IsFramed octets ms framer → Feeds framer piece ns after
+    → (ending_in octets piece ≡ ns) × ((frames_of (octets ++ piece)).1 ≡ after)
+ending_is octets piece ms ns framer after f feeds =
+    let front = framed_whole octets ms framer f in
+    let both = frames_are (octets ++ piece) (ms ++ ns) after (fed octets piece ms ns framer after f feeds) in
+    (ap (drop (length (frames_of octets).0)) both.0 ∙ drop_at ms ns (length (frames_of octets).0) (ap (λ (l : List (List ℕ)). length l) (sym front.0)), both.1)
 
-    both : (frames_of (octets ++ piece)).0 ≡ (ms ++ ns) × ((frames_of (octets ++ piece)).1 ≡ after)
-    both = frames_are (octets ++ piece) (ms ++ ns) after (fed octets piece ms ns framer after f feeds)
-
-    go : (0 < length ns) ⊎ HoldsPart after → BringMore octets piece
-    go (inl some) = inl (omega (arith, some, ap (λ (l : List (List ℕ)). length l) front.0, ap (λ (l : List (List ℕ)). length l) both.0, length-append ms ns))
-    go (inr part) = inr (subst (λ x. HoldsPart x) (sym both.1) part)
-
--- memory that a framer wants
+-- memory that a framer wants for part of a message
 pub wanted_by : (octets piece : List ℕ) (ms : List (List ℕ)) (framer : Framing) → IsFramed octets ms framer
     → ((frames : List (List ℕ)) (after : Framing) → Feeds framer piece frames after → (HoldsPart framer × (0 < length frames)) ⊎ HoldsPart after) → BringMore octets piece
 wanted_by octets piece ms framer f needed =
     let feed = some_feed octets piece ms framer f in
     go feed.0 feed.1 feed.2 (needed feed.0 feed.1 feed.2)
   where
+    front : (frames_of octets).1 ≡ framer
+    front = (framed_whole octets ms framer f).1
+
     go : (ns : List (List ℕ)) (after : Framing) → Feeds framer piece ns after → (HoldsPart framer × (0 < length ns)) ⊎ HoldsPart after → BringMore octets piece
-    go ns after feeds (inl both) = brought_by octets piece ms ns framer after f feeds (inl both.1)
-    go ns after feeds (inr part) = brought_by octets piece ms ns framer after f feeds (inr part)
+    go ns after feeds (inl both) =
+        let is = ending_is octets piece ms ns framer after f feeds in
+        inl (inl (subst (λ x. HoldsPart x) (sym front) both.0, subst (λ (l : List (List ℕ)). 0 < length l) (sym is.0) both.1))
+    go ns after feeds (inr part) = inl (inr (subst (λ x. HoldsPart x) (sym (ending_is octets piece ms ns framer after f feeds).1) part))
+
+-- memory that is wanted for the domain of a message
+pub brought_by : (octets piece : List ℕ) (ms ns : List (List ℕ)) (framer after : Framing) → IsFramed octets ms framer → Feeds framer piece ns after → BringDomain ms ns → BringMore octets piece
+brought_by octets piece ms ns framer after f feeds first =
+    let front = framed_whole octets ms framer f in
+    let is = ending_is octets piece ms ns framer after f feeds in
+    inr (subst (λ (l : List (List ℕ)). BringDomain l (ending_in octets piece)) (sym front.0) (subst (λ (l : List (List ℕ)). BringDomain ms l) (sym is.0) first))
 
 -- memory that the first reading wants for a piece
 pub wants_memory : (octets front piece rest : List ℕ) (ms : List (List ℕ)) (framer : Framing) (s : Survey) (left : Option (List ℕ)) → IsFramed front ms framer → Surveys ms s

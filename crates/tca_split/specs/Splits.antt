@@ -17,6 +17,10 @@ has_part octets domain = is_among domain (domains_of (frames_of octets).0)
 abbrev pub IsFree : List ℕ → Files → Type 0
 IsFree octets files = (domain : ℕ) → has_part octets domain ≡ true → files domain ≡ None
 
+-- Nothing refuses the capture: its framing has no fault, its domains are few enough, and no file of them is there, where the files are known.
+abbrev pub IsReady : List ℕ → Option Files → Type 0
+IsReady octets before = IsRight octets × ((files : Files) → before ≡ Some files → IsFree octets files)
+
 -- The domain's file holds its messages, where there are some; else it is as it was.
 abbrev pub split_file : List ℕ → Files → ℕ → Option (List ℕ)
 split_file octets files domain = if has_part octets domain then Some (part_of domain octets) else files domain

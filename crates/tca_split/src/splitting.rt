@@ -3,10 +3,9 @@ ghost use Rattle.std.specs.Prelude.{◌≡◌, ◌≢◌, ◌⊎◌, ◌+◌, �
 ghost use Rattle.tca_wire.specs.Frames.{frames_of};
 ghost use Rattle.tca_report.specs.device.Devices.{Rises};
 ghost use Rattle.tca_split.specs.Parts.{domains_of};
-ghost use Rattle.tca_split.specs.Surveys.{IsRight};
 ghost use Rattle.tca_split.specs.Failures.{CountsRead, CountsWrite, most_turns};
 ghost use Rattle.tca_split.specs.Folders.{Files};
-ghost use Rattle.tca_split.specs.Splits.{IsFree, AreSplit, AreBegun, IsSplit, IsRefused};
+ghost use Rattle.tca_split.specs.Splits.{IsFree, IsReady, AreSplit, AreBegun, IsSplit, IsRefused};
 ghost use Rattle.tca_split.specs.Wants.{WantsMemory};
 ghost use Rattle.tca_split.specs.inside.Buffering.{IsWritingRefused};
 
@@ -92,7 +91,7 @@ pub fn split<R: Read, S: Read, F: Folder>(
 
     // Where memory is told, nothing in front was to be refused.
     ensures memory { IsErrOf result SplitFault.Memory → (octets : List ℕ) → R.left first.old ≡ Some octets
-        → (R.reads first.new ≡ R.reads first.old) ⊎ WantsMemory octets (R.left first.new) ⊎ IsRight octets }
+        → (R.reads first.new ≡ R.reads first.old) ⊎ WantsMemory octets (R.left first.new) ⊎ IsReady octets (F.files folder.old) }
 
     // And no file was made.
     ensures untouched { IsErrOf result SplitFault.Memory → F.files folder.new ≡ F.files folder.old }

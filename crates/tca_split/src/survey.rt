@@ -1,10 +1,12 @@
 //! The first reading of a capture: which observation domains it has messages of, and whether its framing is right.
-ghost use Rattle.std.specs.Prelude.{◌≡◌, ◌⊎◌, ◌<◌, ◌≤◌, ◌+◌, ◌++◌, ◌∷◌, [], ℕ, List, Some, Ok, length, IfOk, IfErr, OnErr, IsErrOf};
+ghost use Rattle.std.specs.Prelude.{◌≡◌, ◌⊎◌, ◌<◌, ◌≤◌, ◌+◌, ◌++◌, ◌∷◌, [], ℕ, List, Some, Ok, Err, length, IfOk, IfErr, IsErrOf};
 ghost use Rattle.std.specs.List.{AllByRecursion};
 ghost use Rattle.tca_wire.specs.Frames.{IsFrame, frames_of, ending};
+ghost use Rattle.tca_wire.specs.declared.fault.WireFault.{WireFault};
 ghost use Rattle.tca_split.specs.Parts.{domain_of};
 ghost use Rattle.tca_split.specs.Failures.{CountsRead, most_turns};
-ghost use Rattle.tca_split.specs.Wants.{BringMore, WantsMemory};
+ghost use Rattle.tca_split.specs.Faults.{framing_fault};
+ghost use Rattle.tca_split.specs.Wants.{IsNewDomain, BringDomain, BringMore, WantsMemory};
 ghost use Rattle.tca_split.specs.inside.Surveying.{Surveys, IsFramed, AreTooMany, IsFirstRefused, IsOfFraming, IsOfReading};
 
 use crate::fault::{SplitFault, framing_fault};
@@ -61,14 +63,15 @@ impl Survey {
         ensures ok { (ms : List (List ℕ)) → Surveys ms self → IfOk result (Surveys (ms ++ message.now ∷ [])) }
         ensures err { (ms : List (List ℕ)) → Surveys ms self → IfErr result (AreTooMany (ms ++ message.now ∷ [])) }
         ensures kind { IfErr result IsOfFraming }
+        ensures memory { IsErrOf result SplitFault.Memory → (ms : List (List ℕ)) → Surveys ms self → IsNewDomain ms message.now }
     {
         let domain = domain_of(message);
         let mut domains = self.domains;
-        let messages = self.messages.saturating_add(1);
-        domains.insert(domain)?;
-        if domains.len() > MOST_DOMAINS {
+        if domains.len() >= MOST_DOMAINS && !domains.contains(&domain) {
             return Err(SplitFault::Limits);
         }
+        domains.insert(domain)?;
+        let messages = self.messages.saturating_add(1);
         Ok(Survey { domains, messages })
     }
 
@@ -78,7 +81,7 @@ impl Survey {
         ensures ok { (ms : List (List ℕ)) → Surveys ms self → IfOk result (Surveys (ms ++ messages.entry)) }
         ensures err { (ms : List (List ℕ)) → Surveys ms self → IfErr result (AreTooMany (ms ++ messages.entry)) }
         ensures kind { IfErr result IsOfFraming }
-        ensures some { OnErr result (0 < length messages.entry) }
+        ensures memory { IsErrOf result SplitFault.Memory → (ms : List (List ℕ)) → Surveys ms self → BringDomain ms messages.entry }
     {
         let mut survey = self;
         for message in messages {
@@ -95,7 +98,7 @@ impl Survey {
             → IfErr result (IsFirstRefused ((octets ++ piece.now) ++ behind)) }
         ensures kind { IfErr result IsOfFraming }
         ensures memory { IsErrOf result SplitFault.Memory → (octets : List ℕ) (ms : List (List ℕ)) → IsFramed octets ms framer.old
-            → BringMore octets piece.now }
+            → Surveys ms self → BringMore octets piece.now }
     {
         let lent = match framer.lend(piece) {
             Ok(lent) => lent,
@@ -105,6 +108,18 @@ impl Survey {
         match lent.fault {
             Some(fault) => Err(framing_fault(fault)),
             None => Ok(survey),
+        }
+    }
+
+    // The survey of a capture that ends here, unless part of a message is left.
+    fn finish(self, framer: &Framer) -> Result<Survey, SplitFault>
+        ensures ok { IfOk result (λ s. (s ≡ self) × (ending framer.now ≡ Ok tt)) }
+        ensures fault { IfErr result (λ e. (fault : WireFault) × (ending framer.now ≡ Err fault) × (e ≡ framing_fault fault)) }
+        ensures kind { IfErr result IsOfFraming }
+    {
+        match framer.finish() {
+            Ok(()) => Ok(self),
+            Err(fault) => Err(framing_fault(fault)),
         }
     }
 }
@@ -125,12 +140,7 @@ pub(crate) fn first_reading<R: Read>(alloc: Global, reader: &mut R) -> Result<Su
     let mut survey = Survey::new(alloc);
     for _turn in 0..u64::MAX {
         match reader.read(piece.as_mut_slice()) {
-            Ok(0) => {
-                return match framer.finish() {
-                    Ok(()) => Ok(survey),
-                    Err(fault) => Err(framing_fault(fault)),
-                };
-            }
+            Ok(0) => return survey.finish(&framer),
             Ok(n) => survey = survey.take_piece(&mut framer, &piece[..n])?,
             Err(_) => return Err(SplitFault::Read(ReadFault::Read)),
         }

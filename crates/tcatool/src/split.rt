@@ -2,7 +2,7 @@
 ghost use Rattle.std.specs.Prelude.{◌≡◌, ◌≢◌, ◌⊎◌, ◌<◌, ◌≤◌, ◌+◌, ℕ, List, Some, Err, IfOk, IfErr, OnOk, IsErrOf, length};
 ghost use Rattle.tca_report.specs.device.Devices.{Rises};
 ghost use Rattle.tca_split.specs.Failures.{most_turns};
-ghost use Rattle.tca_split.specs.Surveys.{IsRight};
+ghost use Rattle.tca_split.specs.Splits.{IsReady};
 ghost use Rattle.tca_split.specs.Wants.{WantsMemory};
 ghost use Rattle.tca_program.specs.declared.fault.Family.TheVariants as family;
 ghost use Rattle.tca_program.specs.Devices.{IsCutOff, Receives, device};
@@ -259,7 +259,7 @@ pub fn run_split<A: Read, B: Read, F: Folder, W: Write>(
 
     // Where memory is told, nothing in front was to be refused.
     ensures memory { IsErrOf result memory_refusal → (octets : List ℕ) → A.left first.old ≡ Some octets
-        → (A.reads first.new ≡ A.reads first.old) ⊎ WantsMemory octets (A.left first.new) ⊎ IsRight octets }
+        → (A.reads first.new ≡ A.reads first.old) ⊎ WantsMemory octets (A.left first.new) ⊎ IsReady octets (F.files folder.old) }
 
     // And no file was made.
     ensures untouched { IsErrOf result memory_refusal → F.files folder.new ≡ F.files folder.old }

@@ -8,10 +8,9 @@ use Rattle.tca_split.specs.Wants.{BringMore}
 use Rattle.std.specs.Prelude.{IsErrOf}
 use Rattle.std.proofs.lemmas.List.{length-take}
 use Rattle.tca_split.specs.declared.survey.Survey.{Survey}
-use Rattle.tca_split.proofs.SurveySteps.{framed_none, ended_surveys, ended_badly, refused_by_fault, wants_memory}
+use Rattle.tca_split.proofs.SurveySteps.{framed_none, end_ok, end_err, end_memory, wants_memory}
 use Rattle.tca_split.proofs.ReadSteps.{read_on, read_end, whole, same_front}
 use Rattle.tca_split.proofs.survey.first_reading.Goals as goal
-use Rattle.tca_split.proofs.survey.first_reading.Goals.{in-Ok-finish, in-Err-finish}
 
 pub loop-turn-init : goal.loop-turn-init
 loop-turn-init g c = record {
@@ -49,7 +48,7 @@ returns-in-Ok-eq0-clause-ok g c = λ octets e.
     let zero : c.in-Ok-eq0.field-0 ≡ 0 = grind (arith, nat_tests, c.in-Ok-eq0.field-0-test) in
     let none = read_end (g.R.Read.left c.loop-turn.reader) (g.R.Read.left c.read.new.self) t.1 (take c.in-Ok-eq0.field-0 c.read.new.into) t.4 (ap (λ n. take n c.read.new.into) zero) c.in-Ok-eq0.ensures.octets.0 (c.in-Ok-eq0.ensures.octets.1 zero room) in
     let framed = subst (λ (l : List ℕ). IsFramed l t.2 c.loop-turn.framer) (whole octets t.0 t.1 t.3 none) t.5 in
-    elim c.match-finish.branch [ in-Ok-finish w ↦ rw (w.result-is) (ended_surveys octets t.2 c.loop-turn.framer c.loop-turn.survey framed t.6 (sym w.in-Ok-finish.ensures)) | in-Err-finish w ↦ rw (w.result-is) tt ]
+    end_ok octets t.2 c.loop-turn.framer c.loop-turn.survey c.finish.result framed t.6 c.finish.ensures.ok
 
 pub returns-in-Ok-eq0-clause-err : goal.returns-in-Ok-eq0-clause-err
 returns-in-Ok-eq0-clause-err g c = λ octets e.
@@ -58,12 +57,12 @@ returns-in-Ok-eq0-clause-err g c = λ octets e.
     let zero : c.in-Ok-eq0.field-0 ≡ 0 = grind (arith, nat_tests, c.in-Ok-eq0.field-0-test) in
     let none = read_end (g.R.Read.left c.loop-turn.reader) (g.R.Read.left c.read.new.self) t.1 (take c.in-Ok-eq0.field-0 c.read.new.into) t.4 (ap (λ n. take n c.read.new.into) zero) c.in-Ok-eq0.ensures.octets.0 (c.in-Ok-eq0.ensures.octets.1 zero room) in
     let framed = subst (λ (l : List ℕ). IsFramed l t.2 c.loop-turn.framer) (whole octets t.0 t.1 t.3 none) t.5 in
-    elim c.match-finish.branch [
-      | in-Ok-finish w ↦ rw (w.result-is) tt
-      | in-Err-finish w ↦
-          let told = ended_badly octets t.2 c.loop-turn.framer w.in-Err-finish.fault framed t.6.few (sym w.in-Err-finish.ensures) in
-          rw (w.result-is, w.framing_fault.ensures) (refused_by_fault octets w.in-Err-finish.fault told)
-    ]
+    end_err octets t.2 c.loop-turn.framer c.loop-turn.survey c.finish.result framed t.6 c.finish.ensures.fault
+
+pub returns-in-Ok-eq0-clause-memory : goal.returns-in-Ok-eq0-clause-memory
+returns-in-Ok-eq0-clause-memory g c = λ is octets e.
+    let t = c.loop-turn.invariant.so_far octets e in
+    end_memory t.0 octets (g.R.Read.left c.read.new.self) (g.R.Read.reads c.args.reader.now) (g.R.Read.reads c.read.new.self) t.2 c.loop-turn.framer c.finish.result t.5 c.finish.ensures.fault is
 
 pub returns-in_err-survey-in-Ok-clause-err : goal.returns-in_err-survey-in-Ok-clause-err
 returns-in_err-survey-in-Ok-clause-err g c = λ octets e.
@@ -87,4 +86,4 @@ returns-in_err-survey-in-Ok-clause-memory g c = λ is octets e.
     let p = err_from_is_err_and c.from_residual-in_err-survey-in-Ok.result c.from_residual-in_err-survey-in-Ok.ensures.1 in
     let told : IsErrOf {T = Survey} {E = SplitFault} (Err c.in_err-survey-in-Ok.field-0.0) Memory = ap (λ (x : SplitFault). Err x) (sym p.2) ∙ sym p.1 ∙ is in
     inr (wants_memory octets t.0 own r.0 t.2 c.loop-turn.framer c.loop-turn.survey (g.R.Read.left c.read.new.self) t.5 t.6 all r.1 (omega (arith, length-take c.in-Ok.n c.read.new.into))
-    (subst (λ (l : List ℕ). BringMore t.0 l) same (c.in_err-survey-in-Ok.ensures.memory told t.0 t.2 t.5)))
+    (subst (λ (l : List ℕ). BringMore t.0 l) same (c.in_err-survey-in-Ok.ensures.memory told t.0 t.2 t.5 t.6)))

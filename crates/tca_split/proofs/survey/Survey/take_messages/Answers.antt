@@ -1,9 +1,12 @@
-use Rattle.std.proofs.Common.{◌≡◌, ◌∷◌, [], ◌++◌, ◌∙◌, sym, ap, subst, ℕ, List, append_assoc, append-nil, arith, length}
+use Rattle.std.proofs.Common.{◌≡◌, ◌∷◌, [], ◌++◌, ◌∙◌, Err, sym, ap, subst, ℕ, List, append_assoc, append-nil}
+use Rattle.std.specs.Prelude.{IsErrOf}
 use Rattle.std.specs.List.{AllByRecursion}
 use Rattle.std.proofs.lemmas.Result.{err_from_is_err_and}
-use Rattle.std.proofs.lemmas.List.{length-append}
 use Rattle.tca_wire.specs.Frames.{IsFrame}
 use Rattle.tca_split.specs.inside.Surveying.{Surveys, AreTooMany}
+use Rattle.tca_split.specs.declared.survey.Survey.{Survey}
+use Rattle.tca_split.specs.declared.fault.SplitFault.{SplitFault}
+use Rattle.tca_split.specs.declared.fault.SplitFault.TheVariants.{Memory}
 use Rattle.tca_split.proofs.SurveySteps.{still_many}
 use Rattle.tca_split.proofs.survey.Survey.take_messages.Goals as goal
 
@@ -48,15 +51,20 @@ returns-in_err-survey-clause-err c = λ ms h.
     append_assoc (ms ++ t.0) (m ∷ []) rest ∙ append_assoc ms t.0 (m ∷ rest) ∙ ap (λ (l : List (List ℕ)). ms ++ l) (ap (λ (l : List (List ℕ)). t.0 ++ l) (sym parts) ∙ sym t.1) in
     rw (p.1, p.2) (subst (λ (l : List (List ℕ)). AreTooMany l c.in_err-survey.field-0.0) whole (still_many ((ms ++ t.0) ++ m ∷ []) rest c.in_err-survey.field-0.0 (c.in_err-survey.ensures.err (ms ++ t.0) (t.2 ms h))))
 
-pub returns-in_err-survey-clause-some : goal.returns-in_err-survey-clause-some
-returns-in_err-survey-clause-some c =
-    let m = c.in-Some.message.now in
+pub returns-in_err-survey-clause-memory : goal.returns-in_err-survey-clause-memory
+returns-in_err-survey-clause-memory c = λ is ms h.
     let rest = c.next.new.self in
-    let parts : c.loop-message.message-iterator ≡ m ∷ rest = c.in-Some.ensures.steps in
+    let parts : c.loop-message.message-iterator ≡ c.in-Some.message.now ∷ rest = c.in-Some.ensures.steps in
     let t = c.loop-message.invariant.so_far in
     let p = err_from_is_err_and c.from_residual.result c.from_residual.ensures.1 in
-    let whole : c.args.messages ≡ t.0 ++ m ∷ rest = t.1 ∙ ap (λ (l : List (List ℕ)). t.0 ++ l) parts in
-    rw (p.1) (omega (arith, ap (λ (l : List (List ℕ)). length l) whole, length-append t.0 (m ∷ rest)))
+    let told : IsErrOf {T = Survey} {E = SplitFault} (Err c.in_err-survey.field-0.0) Memory = ap (λ (x : SplitFault). Err x) (sym p.2) ∙ sym p.1 ∙ is in
+    record {
+      before = t.0;
+      message = c.in-Some.message.now;
+      behind = rest;
+      parts = t.1 ∙ ap (λ (l : List (List ℕ)). t.0 ++ l) parts;
+      new = c.in_err-survey.ensures.memory told (ms ++ t.0) (t.2 ms h);
+    }
 
 pub returns-clause-ok : goal.returns-clause-ok
 returns-clause-ok c = λ ms h.

@@ -1,9 +1,11 @@
-use Rattle.std.proofs.Common.{◌≡◌, ◌++◌, ◌∙◌, sym, ap, subst, ℕ, List, [], inl}
+use Rattle.std.proofs.Common.{◌≡◌, ◌++◌, ◌∙◌, sym, ap, subst, ℕ, List, [], Err}
+use Rattle.std.specs.Prelude.{IsErrOf}
 use Rattle.std.proofs.lemmas.Result.{err_from_is_err_and}
 use Rattle.tca_wire.specs.Frames.{Failed, Feeds}
 use Rattle.tca_wire.specs.declared.fault.WireFault.TheVariants as wire
 use Rattle.tca_split.specs.Faults.{framing_fault}
 use Rattle.tca_split.specs.inside.Surveying.{IsFirstRefused, IsOfFraming}
+use Rattle.tca_split.specs.declared.survey.Survey.{Survey}
 use Rattle.tca_split.specs.declared.fault.SplitFault.{SplitFault}
 use Rattle.tca_split.specs.declared.fault.SplitFault.TheVariants.{Memory}
 use Rattle.tca_split.proofs.LentFrames.{both_frames}
@@ -44,19 +46,21 @@ returns-clause-ok c = λ octets ms f h.
     (ms ++ ns, framed_on (octets ++ c.args.piece.now) (ms ++ ns) c.lend.new.self s (sym c.in-Ok.ensures.fault ∙ c.in-None.is), c.in_ok-survey.ensures.ok ms h)
 
 pub returns-in-Err-clause-memory : goal.returns-in-Err-clause-memory
-returns-in-Err-clause-memory c = λ is octets ms f. wanted_by octets c.args.piece.now ms c.args.framer.now f c.in-Err.ensures.needed
+returns-in-Err-clause-memory c = λ is octets ms f h. wanted_by octets c.args.piece.now ms c.args.framer.now f c.in-Err.ensures.needed
 
 pub returns-in-Err-clause-kind : goal.returns-in-Err-clause-kind
 returns-in-Err-clause-kind c = subst (λ (e : SplitFault). IsOfFraming e) (sym c.framing_fault.ensures) (framing_kind c.in-Err.fault)
 
 pub returns-in_err-survey-clause-memory : goal.returns-in_err-survey-clause-memory
-returns-in_err-survey-clause-memory c = λ is octets ms f.
+returns-in_err-survey-clause-memory c = λ is octets ms f h.
+    let p = err_from_is_err_and c.from_residual.result c.from_residual.ensures.1 in
+    let told : IsErrOf {T = Survey} {E = SplitFault} (Err c.in_err-survey.field-0.0) Memory = ap (λ (x : SplitFault). Err x) (sym p.2) ∙ sym p.1 ∙ is in
     let ns = c.messages.result in
     let feeds = subst (λ (l : List (List ℕ)). Feeds c.args.framer.now c.args.piece.now l c.lend.new.self) (sym c.messages.ensures) c.in-Ok.ensures.stream in
-    brought_by octets c.args.piece.now ms ns c.args.framer.now c.lend.new.self f feeds (inl c.in_err-survey.ensures.some)
+    brought_by octets c.args.piece.now ms ns c.args.framer.now c.lend.new.self f feeds (c.in_err-survey.ensures.memory told ms h)
 
 pub returns-in-Some-clause-memory : goal.returns-in-Some-clause-memory
-returns-in-Some-clause-memory c = λ is octets ms f.
+returns-in-Some-clause-memory c = λ is octets ms f h.
     let ns = c.messages.result in
     let feeds = subst (λ (l : List (List ℕ)). Feeds c.args.framer.now c.args.piece.now l c.lend.new.self) (sym c.messages.ensures) c.in-Ok.ensures.stream in
     let s = fed octets c.args.piece.now ms ns c.args.framer.now c.lend.new.self f feeds in
