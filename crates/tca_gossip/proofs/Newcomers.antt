@@ -199,6 +199,15 @@ open_next log xs (s ∷ ss) r zero sorted e =
 open_next log xs (s ∷ ss) r (suc at) sorted e =
     λ i. as_before log xs r s (below s r (all_at (λ y. report_cmp s y ≡ Less) ss at r sorted.0 e)).0 i ∷ open_next log xs ss r at sorted.1 e i
 
+-- a report that equals one of a set stands there
+tied : (o : Ordering) → is_eq o ≡ true → o ≡ Equal
+tied Less e = absurd cc
+tied Equal e = refl
+tied Greater e = absurd cc
+
+pub place_same : (set : List PacketReport) (x r : PacketReport) (at : ℕ) → at < length set → x ≡ get_or set at x → eq_by_cmp report_cmp x r ≡ true → slice_get set at ≡ Some r
+place_same set x r at within is same = slice_get-get_or set at x within ∙ ap Some (sym is ∙ report_exact x r (tied (report_cmp x r) same))
+
 -- where a report of a set stands
 pub place_found : (set : List PacketReport) (r : PacketReport) (at : Result ℕ ℕ) → IsStrictlySortedBy report_cmp set → has report_cmp set r ≡ true → IsSearchInRange at (length set) → IsBinarySearchResult (λ y. report_cmp y r) set at → IsOk at
 place_found set r (Ok at) sorted there bound found = refl
