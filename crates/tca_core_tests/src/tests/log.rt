@@ -649,7 +649,7 @@ fn logs_join_to_their_union(rt: HostRuntime) {
 
 // No growth in the sweeps below takes less, so that heaps that differ by it refuse each in turn. The least is that of
 // the order by identity of three reports.
-const STEP: usize = 96;
+const STEP: usize = 80;
 
 // What the sweeps below came to in a heap of some size.
 #[derive(Clone, Copy)]
@@ -1013,7 +1013,7 @@ fn calls_within(
     list: &[Report],
 ) -> Result<Vec<Step>, AllocError> {
     let mut met = Vec::new(alloc);
-    for size in 320..1024 {
+    for size in 256..1024 {
         let step = call_within(alloc, STEP * size, call, parts, list)?;
         met.push(step)?;
         if is_done(&step) {
