@@ -68,3 +68,9 @@ longer_extends a b = ap (λ l. a ++ l) (rest_is b (length a)) ∙ sym (longer_is
 
 pub longer_extends_at : {T : Type 0} (a b : List T) (n : ℕ) → n ≡ length a → a ++ take (length b - n) (drop n b) ≡ longer a b
 longer_extends_at a b n is = ap (λ m. a ++ take (length b - m) (drop m b)) is ∙ longer_extends a b
+
+-- and with that rest it is no longer than the other
+pub rest_fits : {T : Type 0} (a b : List T) (n limit : ℕ) → n ≡ length a → n ≤ length b → length b ≤ limit → length a + length (take (length b - n) (drop n b)) ≤ limit
+rest_fits a b n limit is h few =
+    let rest : length (take (length b - n) (drop n b)) ≡ length (drop n b) = ap length (rest_is b n) in
+    omega (arith, is, h, few, rest, length-drop n b)

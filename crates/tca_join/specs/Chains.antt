@@ -23,11 +23,6 @@ most_items = 4194304
 abbrev pub IsChain : {T : Type 0} → ChainView T → Type 0
 IsChain c = length c.items ≤ most_items
 
--- what holds of a chain's fields: it is within the limit, and room that was reserved is there
-pub record IsKept (count capacity : ℕ) (ready : Bool) : Type 0 where
-  pub within : count ≤ most_items
-  pub spare : ready ≡ true → count < capacity
-
 -- an index counted from one item further on
 abbrev pub next : Option ℕ → Option ℕ
 next None = None

@@ -7,4 +7,5 @@ pub mod Counts
 pub mod Chains
 pub mod Maps
 pub mod Lends
+pub mod inside
 pub mod laws

@@ -7,31 +7,35 @@ ghost use Rattle.tca_join.specs.Faults.{IsJoinFault};
 ghost use Rattle.tca_join.specs.declared.fault.JoinFault.TheVariants.{Memory};
 
 use crate::fault::JoinFault;
+use crate::items::Items;
 use crate::join::Join;
+use crate::store::Store;
 use std::alloc::{AllocError, Allocator, Global};
 use std::marker::Model;
 
 /// Items in the order in which they came, at most 4,194,304. Of two chains, one of which begins with the other, the
 /// longer is kept.
 ///
+/// A chain may be made of a list that others hold too. It has a list of its own from its first change on.
+///
 /// Contracts see the items, and whether room for one more was reserved.
 #[derive(Drop)]
 pub struct Chain<T: Copy + Eq, A: Allocator + Clone = Global> {
-    items: Vec<T, A>,
+    items: Store<T, A>,
     ready: bool,
 }
 
 impl<T: Copy + Eq, A: Allocator + Clone> Model for Chain<T, A> {
-    ghost use Rattle.std.specs.Prelude.{vec_len, vec_capacity};
-    ghost use Rattle.tca_join.specs.Chains.{ChainView, chain, chain_code, IsKept};
+    ghost use Rattle.tca_join.specs.Chains.{ChainView, chain, chain_code};
+    ghost use Rattle.tca_join.specs.inside.Stores.{IsKept, stored};
 
     ghost Value = { ChainView T };
 
     ghost coded = { chain_code T.code };
 
-    ghost view = { λ c. chain c.items.items c.ready };
+    ghost view = { λ c. chain (stored c.items) c.ready };
 
-    ghost invariant = { λ c. IsKept (vec_len c.items) (vec_capacity c.items) c.ready };
+    ghost invariant = { λ c. IsKept c.items c.ready };
 }
 
 impl<T: Copy + Eq, A: Allocator + Clone> Chain<T, A> {
@@ -40,7 +44,18 @@ impl<T: Copy + Eq, A: Allocator + Clone> Chain<T, A> {
         ensures { result ≡ chain [] false }
     {
         Chain {
-            items: Vec::new(alloc),
+            items: Store::Own(Vec::new(alloc)),
+            ready: false,
+        }
+    }
+
+    /// A chain of these items, which stay where they are until it changes. It takes no memory.
+    pub fn of(items: Items<T, A>) -> Chain<T, A>
+        requires { length items ≤ most_items }
+        ensures { result ≡ chain items false }
+    {
+        Chain {
+            items: Store::Shared(items),
             ready: false,
         }
     }
@@ -50,21 +65,21 @@ impl<T: Copy + Eq, A: Allocator + Clone> Chain<T, A> {
         ensures length { result ≡ length self.now.items }
         ensures limit { IsChain self.now }
     {
-        self.items.len() as u32
+        self.items.as_slice().len() as u32
     }
 
     /// The item at an index, counted from 0; `None` at the end and past it.
     pub fn item(&self, at: u32) -> Option<T>
         ensures { result ≡ slice_get self.now.items at }
     {
-        self.items.get(at as usize).copied()
+        self.items.as_slice().get(at as usize).copied()
     }
 
     /// The items, first to last.
     pub fn items(&self) -> &[T]
         ensures { result.now ≡ self.now.items }
     {
-        &self.items
+        self.items.as_slice()
     }
 
     /// Makes room for one more item. Where room was reserved before, there is nothing to do and no refusal.
@@ -84,8 +99,19 @@ impl<T: Copy + Eq, A: Allocator + Clone> Chain<T, A> {
         requires limit { length self.old.items < most_items }
         ensures { self.new ≡ chain (self.old.items ++ item ∷ []) false }
     {
-        self.items.push(item).unwrap();
+        self.items.push(item);
         self.ready = false;
+    }
+
+    /// Adds items at the end. Where memory was refused the chain is as before.
+    pub fn extend(&mut self, items: &[T]) -> Result<(), AllocError>
+        requires { length self.old.items + length items.now ≤ most_items }
+        ensures ok { OnOk result (self.new ≡ chain (self.old.items ++ items.now) false) }
+        ensures err { OnErr result (self.new ≡ self.old) }
+    {
+        self.items.extend(items)?;
+        self.ready = false;
+        Ok(())
     }
 }
 
@@ -122,7 +148,7 @@ impl<T: Copy + Eq + Drop, A: Allocator + Clone> Join for Chain<T, A> {
     }
 
     fn refusal(&self, other: &Chain<T, A>) -> Option<JoinFault> {
-        match difference(&self.items, &other.items) {
+        match difference(self.items.as_slice(), other.items.as_slice()) {
             Some(at) => Some(JoinFault::Clash { key: at as u32 }),
             None => None,
         }
@@ -138,16 +164,18 @@ impl<T: Copy + Eq + Drop, A: Allocator + Clone> Join for Chain<T, A> {
         if let Some(fault) = self.refusal(other) {
             return Err(fault);
         }
-        if self.items.len() < other.items.len() {
-            self.items
-                .extend_from_slice(&other.items[self.items.len()..])?;
+        let have = self.items().len();
+        let theirs = other.items.as_slice();
+        if theirs.len() <= have {
+            self.ready = false;
+            return Ok(());
         }
-        self.ready = false;
+        self.extend(&theirs[have..])?;
         Ok(())
     }
 
     fn copy(&self) -> Result<Chain<T, A>, AllocError> {
-        let mut items = Vec::from_slice(self.items.allocator().clone()?, &self.items)?;
+        let mut items = self.items.copy()?;
         if self.ready {
             items.reserve(1)?;
         }

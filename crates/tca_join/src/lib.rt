@@ -10,6 +10,7 @@
 //!
 //! - `join`: what a join is; `fault`: why two values were not joined;
 //! - `count`, `chain`, `by_key`: the types of values that join; `keys`: the keys of a map;
+//! - `items`: a list that several owners share; `store`: where the items of a chain stand;
 //! - `laws`: what the words of sets, chains and maps come to.
 #![tactic(auto)]
 
@@ -17,14 +18,17 @@ mod by_key;
 mod chain;
 mod count;
 mod fault;
+mod items;
 mod join;
 mod keys;
 mod laws;
+mod store;
 
 pub use by_key::ByKey;
 pub use chain::Chain;
 pub use count::MaxOf;
 pub use fault::JoinFault;
+pub use items::Items;
 pub use join::{Join, join_laws};
 pub use keys::Keys;
 pub use laws::{chain_join_laws, map_join_laws, set_laws};

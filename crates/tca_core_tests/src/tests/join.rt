@@ -3,7 +3,7 @@ ghost use Rattle.std.specs.Prelude.{◌≡◌, true};
 
 use linked_list_allocator::LocalHeap;
 use std::alloc::{AllocError, Allocator, Global};
-use tca_join::{ByKey, Chain, Join, JoinFault, MaxOf};
+use tca_join::{ByKey, Chain, Items, Join, JoinFault, MaxOf};
 
 // What a step of the sweeps below was refused memory for.
 #[derive(Clone, Copy, PartialEq, Eq)]
@@ -363,6 +363,102 @@ fn takes_no_memory(alloc: Global) -> bool {
 #[test]
 fn a_push_into_reserved_room_takes_no_memory(rt: HostRuntime) {
     assert!(rt; takes_no_memory(rt.alloc()));
+}
+
+// Adds these at once, where the chain has room for them below its limit.
+fn add_all<A: Allocator + Clone>(
+    chain: &mut Chain<u32, A>,
+    items: &[u32],
+) -> Result<(), AllocError> {
+    let room = 4_194_304 - chain.len() as usize;
+    if items.len() <= room {
+        chain.extend(items)?;
+    }
+    Ok(())
+}
+
+// A list that is shared, and a chain of it.
+fn chain_of_list<'a>(
+    heap: &'a LocalHeap,
+    items: &[u32],
+) -> Result<(Items<u32, &'a LocalHeap>, Chain<u32, &'a LocalHeap>), AllocError> {
+    let list = Items::of(heap, Vec::from_slice(heap, items)?)?;
+    if list.len() > 4_194_304 {
+        return Err(AllocError);
+    }
+    let chain = Chain::of(list.share()?);
+    Ok((list, chain))
+}
+
+// Whether a copy takes nothing of the heap, and what is added to the chain is neither in the copy nor in the list.
+fn changes_alone<'a>(
+    heap: &'a LocalHeap,
+    list: &Items<u32, &'a LocalHeap>,
+    chain: &mut Chain<u32, &'a LocalHeap>,
+) -> bool {
+    let used = heap.used();
+    let Ok(copy) = chain.copy() else {
+        return false;
+    };
+    if heap.used() != used || add_all(chain, &[9, 9]).is_err() || add(chain, 7).is_err() {
+        return false;
+    }
+    chain.items() == [4, 6, 9, 9, 7].as_slice()
+        && copy.items() == [4, 6].as_slice()
+        && list.as_slice() == [4, 6].as_slice()
+}
+
+// Whether a chain of a list stays where there is no memory for a list of its own.
+fn stays_shared<'a>(heap: &'a LocalHeap, chain: &mut Chain<u32, &'a LocalHeap>) -> bool {
+    let used = heap.used();
+    chain.reserve().is_err()
+        && add_all(chain, &[9]).is_err()
+        && chain.items() == [4, 6].as_slice()
+        && heap.used() == used
+}
+
+fn lists_are_shared(alloc: Global, heap: &LocalHeap) -> bool {
+    let Ok((list, mut chain)) = chain_of_list(heap, &[4, 6]) else {
+        return false;
+    };
+    let Ok((_list, mut other)) = chain_of_list(heap, &[4, 6]) else {
+        return false;
+    };
+    if !changes_alone(heap, &list, &mut chain) {
+        return false;
+    }
+    let Ok(taken) = exhausted(alloc, heap) else {
+        return false;
+    };
+    stays_shared(heap, &mut other) && taken.len() > 0
+}
+
+fn shares_lists(alloc: Global) -> bool {
+    match LocalHeap::new(alloc, 1 << 12) {
+        Ok(heap) => lists_are_shared(alloc, &heap),
+        Err(_) => false,
+    }
+}
+
+#[test]
+fn a_chain_of_a_shared_list_changes_alone(rt: HostRuntime) {
+    assert!(rt; shares_lists(rt.alloc()));
+}
+
+// The first of a list that another owner holds, as a list, and all of one that nobody else holds.
+fn lists_again(alloc: Global) -> Result<bool, AllocError> {
+    let list = Items::of(alloc, Vec::from_slice(alloc, &ITEMS)?)?;
+    if list.len() < 2 {
+        return Ok(false);
+    }
+    let first = list.share()?.first(2).into_vec(alloc)?;
+    let all = list.into_vec(alloc)?;
+    Ok(first.as_slice() == [10, 11].as_slice() && all.as_slice() == ITEMS.as_slice())
+}
+
+#[test]
+fn a_shared_list_is_a_list_again(rt: HostRuntime) {
+    assert!(rt; lists_again(rt.alloc()) == Ok(true));
 }
 
 type SmallMap<'a> = ByKey<Chain<u32, &'a LocalHeap>, &'a LocalHeap>;

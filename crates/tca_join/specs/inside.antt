@@ -1,0 +1,2 @@
+-- What private functions and the types' invariants alone cite.
+pub mod Stores
