@@ -1,7 +1,6 @@
 -- Many reports at once: what a log and chains that got them come to, beside appending one by one.
-use Rattle.std.proofs.Common.{◌≡◌, ℕ, suc, ◌+◌, ◌<◌, ◌≤◌, true, false, ◌||◌, cond, Option, None, Some, Result, Ok, Err, OnOk, List, [], ◌∷◌, ◌++◌, ◌==◌, length, take, get_or, refl, sym, ap, ◌∙◌, subst, arith, append_assoc, length-append}
+use Rattle.std.proofs.Common.{◌≡◌, ℕ, suc, ◌+◌, ◌≤◌, true, false, ◌||◌, cond, Option, None, Some, Result, Ok, Err, OnOk, List, [], ◌∷◌, ◌++◌, ◌==◌, length, refl, sym, ap, ◌∙◌, subst, arith, length-append}
 use Rattle.std.proofs.lemmas.List.{append-nil}
-use Rattle.std.proofs.lemmas.List.{take_all as take_whole}
 use Rattle.std.proofs.lemmas.Bool.{eqb-true, eqb-false}
 use Rattle.std.specs.List.Sorted.{IsStrictlySortedBy}
 use Rattle.std.specs.Ordering.{eq_by_cmp}
@@ -22,8 +21,6 @@ use Rattle.tca_gossip.specs.inside.Storage.{AreContents, IsOwnWithin, chain_item
 use Rattle.tca_gossip.proofs.Appends.{appended_name, appended_plan, appended_rises, chain_appended, log_appended, of_tagged, of_other, reports_tagged}
 use Rattle.tca_gossip.proofs.Plains.{some_chain, rises_held, get_held, chain_held, kept_set}
 use Rattle.tca_gossip.proofs.Sizes.{put_new}
-use Rattle.tca_gossip.proofs.TakeSteps.{take_next}
-use Rattle.tca_gossip.proofs.Worlds.{length_take}
 use Rattle.tca_gossip.proofs.Members.{replica_appended}
 
 -- reports at the end of a chain that is kept
@@ -39,38 +36,16 @@ module _ (es : List (ℕ × ChainView PacketReport)) (rises : Rises es) (o : ℕ
       ] refl
 
   -- in a chain that is there
-  pub extended_there : {A E : Type 0} (old new : ChainView PacketReport) (r : Result A E) → Some old ≡ get es o → OnOk r (new.items ≡ old.items ++ rs) → OnOk r ((q : ℕ) → held_of (with_value o new es) q ≡ held_of es q ++ of q (with_origin o rs))
-  extended_there old new (Ok x) there ok = more_kept new (ok ∙ ap (λ z. chain_items z ++ rs) there)
+  pub extended_there : {A E : Type 0} (old new : ChainView PacketReport) (r : Result A E) → Some old ≡ get es o → OnOk r (new ≡ chain (old.items ++ rs) false) → OnOk r ((q : ℕ) → held_of (with_value o new es) q ≡ held_of es q ++ of q (with_origin o rs))
+  extended_there old new (Ok x) there ok = more_kept new (ap (λ (z : ChainView PacketReport). z.items) ok ∙ ap (λ z. chain_items z ++ rs) there)
   extended_there old new (Err e) there ok = tt
 
   -- in a new chain
-  pub extended_added : {A E : Type 0} (first c : ChainView PacketReport) (new : List (ℕ × ChainView PacketReport)) (r : Result A E) → None ≡ get es o → first ≡ chain [] false → c.items ≡ first.items ++ rs → OnOk r (new ≡ with_value o c es) → OnOk r ((q : ℕ) → held_of new q ≡ held_of es q ++ of q (with_origin o rs))
+  pub extended_added : {A E : Type 0} (first c : ChainView PacketReport) (new : List (ℕ × ChainView PacketReport)) (r : Result A E) → None ≡ get es o → first ≡ chain [] false → c ≡ chain (first.items ++ rs) false → OnOk r (new ≡ with_value o c es) → OnOk r ((q : ℕ) → held_of new q ≡ held_of es q ++ of q (with_origin o rs))
   extended_added first c new (Ok x) none empty is ok = λ q.
       ap (λ (l : List (ℕ × ChainView PacketReport)). held_of l q) ok
-      ∙ more_kept c (is ∙ ap (λ (z : ChainView PacketReport). z.items ++ rs) empty ∙ ap (λ z. chain_items z ++ rs) none) q
+      ∙ more_kept c (ap (λ (z : ChainView PacketReport). z.items) is ∙ ap (λ (z : ChainView PacketReport). z.items ++ rs) empty ∙ ap (λ z. chain_items z ++ rs) none) q
   extended_added first c new (Err e) none empty is ok = tt
-
--- a report more in a chain, which there is room for
-module _ (old now ready : ChainView PacketReport) (rs : List PacketReport) (i : ℕ) (h : i < length rs) (so_far : now.items ≡ old.items ++ take i rs) (room : ready ≡ chain now.items true) where
-  pub chain_next : (new : ChainView PacketReport) (r : PacketReport) → r ≡ get_or rs i r → new ≡ chain (ready.items ++ r ∷ []) false → new.items ≡ old.items ++ take (i + 1) rs
-  chain_next new r is e =
-      ap (λ (c : ChainView PacketReport). c.items) e
-      ∙ ap (λ (c : ChainView PacketReport). c.items ++ r ∷ []) room
-      ∙ ap (λ (l : List PacketReport). l ++ r ∷ []) so_far
-      ∙ append_assoc old.items (take i rs) (r ∷ [])
-      ∙ ap (λ (l : List PacketReport). old.items ++ l) (sym (take_next rs i r h is))
-
-  pub chain_few : length old.items + length rs ≤ 4194304 → length ready.items < 4194304
-  chain_few few =
-      let count : length ready.items ≡ length old.items + length (take i rs) = ap (λ (c : ChainView PacketReport). length c.items) room ∙ ap length so_far ∙ length-append old.items (take i rs) in
-      let taken_is : length (take i rs) ≡ i = length_take i rs (omega (arith, h)) in
-      omega (arith, count, taken_is, h, few)
-
-pub chain_first : (l rs : List PacketReport) → l ≡ l ++ take 0 rs
-chain_first l rs = sym (append-nil l)
-
-pub chain_last : (old now rs : List PacketReport) (i : ℕ) → length rs ≤ i → now ≡ old ++ take i rs → now ≡ old ++ rs
-chain_last old now rs i h so_far = so_far ∙ ap (λ (l : List PacketReport). old ++ l) (take_whole i rs h)
 
 -- a chain that may be missing is not there and empty
 abbrev pub HoldsSome : Option (List PacketReport) → Type 0

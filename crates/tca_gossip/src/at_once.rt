@@ -12,12 +12,12 @@ ghost use Rattle.tca_gossip.specs.Runs.{AreRuns, first_fault, rest_of, rests};
 ghost use Rattle.tca_gossip.specs.inside.Storage.{held_of};
 ghost use Rattle.tca_join.specs.Chains.{most_items};
 
-use crate::chains::{extend, held_of};
+use crate::chains::{extend, extend_shared, held_of};
 use crate::contents::Contents;
-use crate::fresh::{fresh_among, set_of};
+use crate::fresh::{fresh_in, set_of};
 use crate::run::Run;
 use std::alloc::{AllocError, Global};
-use tca_join::{ByKey, Chain, Join};
+use tca_join::{ByKey, Chain, Items, Join};
 use tca_log::rows::LIMIT;
 use tca_log::{Log, LogFault};
 use tca_report::Report;
@@ -35,9 +35,20 @@ fn least_beside(log: &Log) -> usize
 
 // A `let _rises` or `let _count` is a call for its clause alone: that keys ascend, or how many reports there may be.
 impl Contents {
-    /// Takes reports at once, and answers how many were new at their turn. `None` says that it took none, where the list is short beside
-    /// the log or there is no room, and then nothing has changed.
-    pub(crate) fn take_at_once(&mut self, reports: &[Report]) -> Option<u64>
+    /// A list of these reports, unless they are few beside the log or there is no room for it.
+    pub(crate) fn list_of(&self, reports: &[Report]) -> Option<Items<Report>>
+        ensures { IfSome result (λ list. list ≡ reports.now) }
+    {
+        if reports.len() < least_beside(&self.log) {
+            return None;
+        }
+        let list = Vec::from_slice(self.alloc, reports).ok()?;
+        Items::of(self.alloc, list).ok()
+    }
+
+    /// Takes the reports of a list at once, and answers how many were new at their turn. `None` says that it took none, where the list is
+    /// short beside the log or there is no room, and then nothing has changed.
+    pub(crate) fn take_at_once(&mut self, reports: &Items<Report>) -> Option<u64>
         ensures state { IfSome result (λ _. self.new.replica ≡ taken self.old.replica reports.now) }
         ensures fresh { IfSome result (λ n. n ≡ length (fresh_of self.old.replica.log reports.now)) }
         ensures same { result ≡ None → self.new.replica ≡ self.old.replica }
@@ -52,41 +63,39 @@ impl Contents {
     }
 
     // Takes all reports, or none where there is no room, and answers how many were new at their turn.
-    fn take_whole(&mut self, reports: &[Report]) -> Result<u64, LogFault>
+    fn take_whole(&mut self, reports: &Items<Report>) -> Result<u64, LogFault>
         ensures state { OnOk result (self.new.replica ≡ taken self.old.replica reports.now) }
         ensures fresh { IfOk result (λ n. n ≡ length (fresh_of self.old.replica.log reports.now)) }
         ensures err { OnErr result (self.new.replica ≡ self.old.replica) }
     {
-        let set = set_of(self.alloc, reports)?;
-        if self.log.len() == 0 && set.len() == reports.len() {
-            return self.put_fresh(reports, set);
-        }
-        let fresh = fresh_among(self.alloc, &self.log, &set, reports)?;
-        if fresh.is_empty() {
+        let set = set_of(self.alloc, reports.as_slice())?;
+        let fresh = fresh_in(self.alloc, &self.log, &set, reports)?;
+        if fresh.len() == 0 {
             return Ok(0);
         }
-        self.put_fresh(&fresh, set)
+        self.put_fresh(fresh, set)
     }
 
     // Puts reports that are new at the end of the own chain, and their set, which may have more that is held already, into the log; all
     // of that, or nothing. Answers how many they were.
-    fn put_fresh(&mut self, fresh: &[Report], set: Vec<Report>) -> Result<u64, LogFault>
-        requires same { in_order report_cmp (self.old.replica.log ++ set.items) ≡ in_order report_cmp (self.old.replica.log ++ fresh.now) }
-        requires new { length fresh.now + length self.old.replica.log ≤ length (in_order report_cmp (self.old.replica.log ++ fresh.now)) }
-        ensures state { OnOk result (self.new.replica ≡ appended self.old.replica (with_origin self.old.replica.name fresh.now)) }
-        ensures count { IfOk result (λ n. n ≡ length fresh.now) }
+    fn put_fresh(&mut self, fresh: Items<Report>, set: Vec<Report>) -> Result<u64, LogFault>
+        requires same { in_order report_cmp (self.old.replica.log ++ set.items) ≡ in_order report_cmp (self.old.replica.log ++ fresh) }
+        requires new { length fresh + length self.old.replica.log ≤ length (in_order report_cmp (self.old.replica.log ++ fresh)) }
+        ensures state { OnOk result (self.new.replica ≡ appended self.old.replica (with_origin self.old.replica.name fresh)) }
+        ensures count { IfOk result (λ n. n ≡ length fresh) }
         ensures err { OnErr result (self.new.replica ≡ self.old.replica) }
     {
-        if fresh.len() > LIMIT - self.log.len() as usize {
+        let count = fresh.len();
+        if count > LIMIT - self.log.len() as usize {
             return Err(LogFault::Full);
         }
         let mut chains = self.chains.copy()?;
-        extend(self.alloc, &mut chains, self.name, fresh)?;
+        extend_shared(&mut chains, self.name, fresh)?;
         let _rises = chains.keys();
         self.log.add_all(set)?;
         self.billing.release(self.alloc);
         self.chains = chains;
-        Ok(fresh.len() as u64)
+        Ok(count as u64)
     }
 
     /// Appends what runs have past the chains at once, where this is how many reports that is, and answers whether it did. It doesn't

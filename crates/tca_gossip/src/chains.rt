@@ -6,7 +6,7 @@ ghost use Rattle.tca_gossip.specs.Replicas.{of, with_origin};
 ghost use Rattle.tca_gossip.specs.inside.Storage.{held_in, held_of};
 
 use std::alloc::{AllocError, Global};
-use tca_join::{ByKey, Chain};
+use tca_join::{ByKey, Chain, Items};
 use tca_report::Report;
 
 // A `let _rises` or `let _limit` is a call for its clause alone: that keys ascend, or how long a chain may be.
@@ -58,19 +58,7 @@ pub(crate) fn push(chains: &mut ByKey<Chain<Report>>, origin: u32, report: Repor
     }
 }
 
-// Appends reports to a chain. Where a growth is refused, the first of them are appended.
-fn extend_chain(chain: &mut Chain<Report>, reports: &[Report]) -> Result<(), AllocError>
-    requires { length chain.old.items + length reports.now ≤ most_items }
-    ensures { OnOk result (chain.new.items ≡ chain.old.items ++ reports.now) }
-{
-    for report in reports {
-        chain.reserve()?;
-        chain.push(*report);
-    }
-    Ok(())
-}
-
-/// Appends reports to the chain of an origin. Where a growth is refused, the first of them are appended.
+/// Appends reports to the chain of an origin.
 pub(crate) fn extend(
     alloc: Global,
     chains: &mut ByKey<Chain<Report>>,
@@ -82,9 +70,25 @@ pub(crate) fn extend(
 {
     let _rises = chains.keys();
     if let Some(chain) = chains.get_mut(origin) {
-        return extend_chain(chain, reports);
+        return chain.extend(reports);
     }
     let mut chain = Chain::new(alloc);
-    extend_chain(&mut chain, reports)?;
+    chain.extend(reports)?;
     chains.set(origin, chain)
+}
+
+/// Appends the reports of a list to the chain of an origin. Where it has no chain yet the list is its chain, and isn't copied.
+pub(crate) fn extend_shared(
+    chains: &mut ByKey<Chain<Report>>,
+    origin: u32,
+    reports: Items<Report>,
+) -> Result<(), AllocError>
+    requires { length (held_of chains.old origin) + length reports ≤ most_items }
+    ensures { OnOk result ((q : ℕ) → held_of chains.new q ≡ held_of chains.old q ++ of q (with_origin origin reports)) }
+{
+    let _rises = chains.keys();
+    if let Some(chain) = chains.get_mut(origin) {
+        return chain.extend(reports.as_slice());
+    }
+    chains.set(origin, Chain::of(reports))
 }

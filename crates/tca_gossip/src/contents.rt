@@ -73,6 +73,14 @@ impl Contents {
         held_of(&self.chains, origin)
     }
 
+    /// The log alone.
+    pub(crate) fn into_log(self) -> Log
+        ensures { result ≡ self.replica.log }
+    {
+        let Contents { log, .. } = self;
+        log
+    }
+
     /// Appends a report to the chain of an origin, and adds it to log and book: all of that, or nothing.
     pub(crate) fn append(&mut self, origin: u32, report: Report) -> Result<(), LogFault>
         requires own { origin ≡ self.old.replica.name → has report_cmp self.old.replica.log report ≡ false }

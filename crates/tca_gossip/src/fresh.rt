@@ -6,6 +6,7 @@ ghost use Rattle.tca_report.specs.report.Reports.{report_cmp};
 ghost use Rattle.tca_gossip.specs.Replicas.{fresh_of};
 
 use std::alloc::{AllocError, Global};
+use tca_join::Items;
 use tca_log::Log;
 use tca_report::Report;
 
@@ -58,9 +59,9 @@ fn place_of(set: &[Report], likely: usize, report: &Report) -> usize
     set.binary_search(report).unwrap()
 }
 
-/// The reports of a list that are neither in a log nor at an earlier place of the list, as they stand there. `set` has the
-/// reports of the list in order, each once.
-pub(crate) fn fresh_among(
+// The reports of a list that are neither in a log nor at an earlier place of the list, as they stand there. `set` has the
+// reports of the list in order, each once.
+fn fresh_among(
     alloc: Global,
     log: &Log,
     set: &[Report],
@@ -81,4 +82,23 @@ pub(crate) fn fresh_among(
         next = at + 1;
     }
     Ok(fresh)
+}
+
+/// The reports of a list that are neither in a log nor at an earlier place of the list, as they stand there, which is the list itself
+/// where the log is empty and none comes twice. `set` has the reports of the list in order, each once.
+pub(crate) fn fresh_in(
+    alloc: Global,
+    log: &Log,
+    set: &[Report],
+    reports: &Items<Report>,
+) -> Result<Items<Report>, AllocError>
+    requires { set.now ≡ in_order report_cmp reports.now }
+    ensures { IfOk result (λ fresh. fresh ≡ fresh_of log.now reports.now) }
+{
+    let list = reports.as_slice();
+    if log.len() == 0 && set.len() == list.len() {
+        return reports.share();
+    }
+    let fresh = fresh_among(alloc, log, set, list)?;
+    Ok(Items::of(alloc, fresh)?)
 }

@@ -16,7 +16,7 @@ use crate::run::{Delta, Run, Summary};
 use std::alloc::{AllocError, Global};
 use std::marker::Model;
 use tca_accounts::{Bill, Plan};
-use tca_join::JoinFault;
+use tca_join::{Items, JoinFault};
 use tca_log::Log;
 use tca_report::Report;
 
@@ -68,6 +68,14 @@ impl Replica {
         &self.contents.log
     }
 
+    /// The log alone. The chains go, and with them what they hold of lists that are shared.
+    pub fn into_log(self) -> Log
+        ensures { result ≡ self.log }
+    {
+        let Replica { contents } = self;
+        contents.into_log()
+    }
+
     /// The chain of an origin, empty where nothing is held.
     pub fn chain(&self, origin: u32) -> &[Report]
         ensures items { result.now ≡ chain_of self.now origin }
@@ -87,7 +95,20 @@ impl Replica {
         ensures fresh { result.fresh ≡ length (fresh_of self.old.log (take result.taken reports.now)) }
         ensures stop { IsStopAt self.new.log reports.now result.taken result.stop }
     {
-        let taken = take_list(&mut self.contents, reports);
+        let taken = take_slice(&mut self.contents, reports);
+        self.contents.settle();
+        taken
+    }
+
+    /// Takes the reports of a list as `take` does. Where the replica holds nothing and no report comes twice, a list that is taken at once
+    /// is its own chain, so that the reports aren't copied.
+    pub fn take_shared(&mut self, reports: Items<Report>) -> Taken
+        ensures within { result.taken ≤ length reports }
+        ensures state { self.new ≡ taken self.old (take result.taken reports) }
+        ensures fresh { result.fresh ≡ length (fresh_of self.old.log (take result.taken reports)) }
+        ensures stop { IsStopAt self.new.log reports result.taken result.stop }
+    {
+        let taken = take_list(&mut self.contents, &reports);
         self.contents.settle();
         taken
     }
@@ -187,10 +208,23 @@ fn absorb_runs(contents: &mut Contents, runs: &[Run]) -> Result<u64, AbsorbFault
     }
 }
 
-// Takes reports: all at once where that serves, else one by one. At once the log is sorted and metered once for all of them, but it
-// says nothing of how far it came; where there is no room for all, one by one finds the first that the log doesn't take. Both ways
-// leave the same, and a list that went one by one has changed nothing before.
-fn take_list(contents: &mut Contents, reports: &[Report]) -> Taken
+// Takes reports. A list of them is made only where they may be taken at once.
+fn take_slice(contents: &mut Contents, reports: &[Report]) -> Taken
+    ensures within { result.taken ≤ length reports.now }
+    ensures state { contents.new.replica ≡ taken contents.old.replica (take result.taken reports.now) }
+    ensures fresh { result.fresh ≡ length (fresh_of contents.old.replica.log (take result.taken reports.now)) }
+    ensures stop { IsStopAt contents.new.replica.log reports.now result.taken result.stop }
+{
+    match contents.list_of(reports) {
+        Some(list) => take_list(contents, &list),
+        None => take_each(contents, reports),
+    }
+}
+
+// Takes the reports of a list: all at once where that serves, else one by one. At once the log is sorted and metered once for all of
+// them, but it says nothing of how far it came; where there is no room for all, one by one finds the first that the log doesn't take.
+// Both ways leave the same, and a list that went one by one has changed nothing before.
+fn take_list(contents: &mut Contents, reports: &Items<Report>) -> Taken
     ensures within { result.taken ≤ length reports.now }
     ensures state { contents.new.replica ≡ taken contents.old.replica (take result.taken reports.now) }
     ensures fresh { result.fresh ≡ length (fresh_of contents.old.replica.log (take result.taken reports.now)) }
@@ -203,7 +237,7 @@ fn take_list(contents: &mut Contents, reports: &[Report]) -> Taken
             stop: None,
         };
     }
-    take_each(contents, reports)
+    take_each(contents, reports.as_slice())
 }
 
 // Takes reports one by one. A book that is kept stays.

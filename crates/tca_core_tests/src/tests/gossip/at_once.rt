@@ -5,6 +5,7 @@ use super::{replica_under, report};
 use crate::tests::plain::{PLAN, is_billed_settled};
 use std::alloc::Global;
 use tca_gossip::{Delta, Replica, Run};
+use tca_join::Items;
 use tca_report::Report;
 
 // Reports of these places on, each a millisecond after the one before, of one to eight octets.
@@ -84,6 +85,39 @@ fn goes(alloc: Global) -> Option<bool> {
 #[test]
 fn long_lists_are_taken(rt: HostRuntime) {
     assert!(rt; goes(rt.alloc()) == Some(true));
+}
+
+fn takes_shared(alloc: Global, replica: &mut Replica, from: u32, count: u32) -> Option<Outcome> {
+    let Some(list) = long_list(alloc, from, count) else {
+        return None;
+    };
+    let Ok(list) = Items::of(alloc, list) else {
+        return None;
+    };
+    Some(took(&replica.take_shared(list)))
+}
+
+// The first list is the chain itself, of the second one all but a report is appended to it, and the third is short.
+fn takes_lists(alloc: Global, one: &mut Replica) -> bool {
+    takes_shared(alloc, one, 0, 1024) == Some(Outcome::Took(1024, 1024, None))
+        && holds(one) == Outcome::Holds(1024, [1024, 0, 0])
+        && takes_shared(alloc, one, 1023, 1024) == Some(Outcome::Took(1024, 1023, None))
+        && takes_shared(alloc, one, 2046, 3) == Some(Outcome::Took(3, 2, None))
+        && holds(one) == Outcome::Holds(2049, [2049, 0, 0])
+        && bills(alloc, one, 2049)
+}
+
+// The log alone has what the replica held.
+fn goes_shared(alloc: Global) -> Option<bool> {
+    let Some(mut one) = replica_under(alloc, PLAN, 1) else {
+        return None;
+    };
+    Some(takes_lists(alloc, &mut one) && one.into_log().len() == 2049)
+}
+
+#[test]
+fn lists_that_are_shared_are_taken(rt: HostRuntime) {
+    assert!(rt; goes_shared(rt.alloc()) == Some(true));
 }
 
 // A list from its end to its front, and then from its front to its end.
