@@ -5,10 +5,10 @@ ghost use Rattle.tca_ingest.specs.Entries.{Absorbed, Took};
 ghost use Rattle.tca_ingest.specs.EntryViews.{entry_view};
 
 use crate::entry::Entry;
-use crate::reports::Reports;
 use std::alloc::{AllocError, Global};
 use std::marker::Model;
 use tca_gossip::{AbsorbFault, Run, Taken};
+use tca_join::Items;
 use tca_report::Report;
 
 /// An entry, three times.
@@ -49,9 +49,9 @@ impl EntryCopies {
 /// Reports for an entry that stands three times. The list itself stands once.
 #[derive(Drop)]
 pub(crate) struct ReportCopies {
-    journal: Reports,
-    pass: Reports,
-    receipt: Reports,
+    journal: Items<Report>,
+    pass: Items<Report>,
+    receipt: Items<Report>,
 }
 
 impl Model for ReportCopies {
@@ -70,7 +70,7 @@ impl ReportCopies {
     pub(crate) fn of(alloc: Global, reports: Vec<Report>) -> Result<ReportCopies, AllocError>
         ensures { IfOk result (λ c. c ≡ reports.items) }
     {
-        let journal = Reports::of(alloc, reports)?;
+        let journal = Items::of(alloc, reports)?;
         let pass = journal.share()?;
         let receipt = journal.share()?;
         Ok(ReportCopies {
@@ -80,11 +80,11 @@ impl ReportCopies {
         })
     }
 
-    /// The reports.
-    pub(crate) fn as_slice(&self) -> &[Report]
-        ensures { result.now ≡ self.now }
+    /// The reports for one owner more.
+    pub(crate) fn share(&self) -> Result<Items<Report>, AllocError>
+        ensures { IfOk result (λ reports. reports ≡ self.now) }
     {
-        self.journal.as_slice()
+        self.journal.share()
     }
 
     /// The entry of a take that went so far.
@@ -101,7 +101,7 @@ impl ReportCopies {
 }
 
 // The entry of a take of these reports that went so far.
-fn took(pass: u32, reports: Reports, taken: &Taken) -> Entry
+fn took(pass: u32, reports: Items<Report>, taken: &Taken) -> Entry
     requires { taken.now.taken ≤ length reports }
     ensures { entry_view result ≡ Took pass (take taken.now.taken reports) taken.now.fresh taken.now.stop }
 {

@@ -3,11 +3,10 @@ ghost use Rattle.std.specs.Prelude.{◌≡◌, ◌↔◌, IfOk, IsTrue};
 ghost use Rattle.tca_ingest.specs.Entries.{Absorbed, Answered, Asked, Sent, Took, pass_of};
 ghost use Rattle.tca_ingest.specs.EntryViews.{entry_view};
 
-use crate::reports::Reports;
 use std::alloc::{AllocError, Global};
 use tca_accounts::Bill;
 use tca_gossip::{AbsorbFault, Delta, Run, Summary, are_same_counts};
-use tca_join::Join;
+use tca_join::{Items, Join};
 use tca_log::LogFault;
 use tca_report::Report;
 
@@ -17,7 +16,7 @@ pub enum Entry {
     /// Reports that are held since, how many of them were new, and why the take stopped where it did.
     Took {
         pass: u32,
-        reports: Reports,
+        reports: Items<Report>,
         fresh: u64,
         stop: Option<LogFault>,
     },

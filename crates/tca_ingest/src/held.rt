@@ -141,7 +141,8 @@ impl<L: Side> Held<L> {
         self.take_list(mine, list)
     }
 
-    /// Takes the reports of a list as `take` does. The entry has the list itself, so that the reports aren't copied.
+    /// Takes the reports of a list as `take` does. The entry has the list itself, and so has the replica where it can, so that the
+    /// reports aren't copied.
     pub fn take_list(
         &mut self,
         mine: &mut Pass<L>,
@@ -157,8 +158,9 @@ impl<L: Side> Held<L> {
             return Err(ShareFault::JournalFull);
         }
         let copies = ReportCopies::of(self.alloc, reports)?;
+        let list = copies.share()?;
         reserve(&mut self.journal, &mut mine.calls, &mut mine.places)?;
-        let taken = self.replica.take(copies.as_slice());
+        let taken = self.replica.take_shared(list);
         let entry = copies.into_entries(mine.number, taken);
         Ok(note(
             &mut self.journal,

@@ -8,8 +8,8 @@
 //!
 //! Nothing is said of how long a call waits for the lock, or in which order calls that wait get it.
 //!
-//! - `entry`: one call with its answer; `reports`: the list of a take, which all places share; `copies`: the room for an entry in the three places
-//!   where it stands;
+//! - `entry`: one call with its answer; `copies`: the room for an entry in the three places where it stands, which share the list of a
+//!   take;
 //! - `held`: what lies under the lock, and the calls on it; `pass`: who calls; `side`: which replica it is;
 //! - `shared`: the calls by threads, and the exchange between two replicas;
 //! - `close`: what comes of passes that are given back; `fitting`: whether they are all that there were; `closed`: many replicas
@@ -33,7 +33,6 @@ mod job;
 mod laws;
 mod note;
 mod pass;
-mod reports;
 mod shared;
 mod side;
 mod worker;
@@ -48,7 +47,6 @@ pub use held::Held;
 pub use job::{Done, JobFault};
 pub use laws::{close_laws, closed_laws, entry_laws, history_laws, list_laws};
 pub use pass::Pass;
-pub use reports::Reports;
 pub use shared::{Shared, exchange};
 pub use side::Side;
 pub use workers::{WorkRefused, Worked, work, work_on};

@@ -10,14 +10,14 @@ pub invariant_of-self-2 : goal.invariant_of-self-2
 invariant_of-self-2 g c =
     let plan = g.L.Side.plan in
     let name = g.L.Side.called in
-    let t = c.take-taken.result in
+    let t = c.take_shared-taken.result in
     let number = c.mine.inside.number in
     let copies = c.in_ok-copies.copies in
-    let read = c.as_slice.ensures in
+    let read = c.in_ok-list.ensures in
     let given = c.into_entries-entry.result in
     let old = c.self.inside.journal.items in (
-      history_noted plan name c.take-taken.new.self old c.reserve.new.journal.items c.note.new.journal.items given (Took number (take t.taken copies) t.fresh t.stop)
-          (push_took plan name c.self.inside.replica (entry_views old) c.self.invariant.0 c.take-taken.new.self number copies t.taken t.fresh t.stop (rw read at c.take-taken.ensures.state) (rw read at c.take-taken.ensures.fresh) (rw read at c.take-taken.ensures.stop))
+      history_noted plan name c.take_shared-taken.new.self old c.reserve.new.journal.items c.note.new.journal.items given (Took number (take t.taken copies) t.fresh t.stop)
+          (push_took plan name c.self.inside.replica (entry_views old) c.self.invariant.0 c.take_shared-taken.new.self number copies t.taken t.fresh t.stop (rw read at c.take_shared-taken.ensures.state) (rw read at c.take_shared-taken.ensures.fresh) (rw read at c.take_shared-taken.ensures.stop))
           c.reserve.ensures.journal c.note.ensures.journal c.into_entries-entry.ensures,
       c.note.ensures.book,
       c.self.invariant.2,
@@ -34,16 +34,16 @@ invariant_of-mine-2 g c = (
 
 pub returns-clause-took : goal.returns-clause-took
 returns-clause-took g c =
-    let t = c.take-taken.result in
+    let t = c.take_shared-taken.result in
     let number = c.mine.inside.number in
-    let given : c.as_slice.result.now ≡ c.args.reports.items = c.as_slice.ensures ∙ c.in_ok-copies.ensures in
+    let given : c.in_ok-list.list ≡ c.args.reports.items = c.in_ok-list.ensures ∙ c.in_ok-copies.ensures in
     rw (← c.mine.view_is) (record {
       taken = t.taken;
       fresh = t.fresh;
       stop = t.stop;
       entry = c.note.ensures.entry ∙ c.into_entries-entry.ensures ∙ ap (λ rs. Took number (take t.taken rs) t.fresh t.stop) c.in_ok-copies.ensures;
-      within = rw given at c.take-taken.ensures.within;
-      stops = rw given at c.take-taken.ensures.stop;
+      within = rw given at c.take_shared-taken.ensures.within;
+      stops = rw given at c.take_shared-taken.ensures.stop;
     })
 
 pub same-self : goal.same-self
