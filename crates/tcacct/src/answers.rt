@@ -9,7 +9,8 @@ ghost use Rattle.tca_program.specs.Unions.{HoldsReports, views_of, union_of};
 
 use std::alloc::{AllocError, Global};
 use std::marker::Model;
-use tca_ingest::{Done, Entry, JobFault, Receipt, Reports};
+use tca_ingest::{Done, Entry, JobFault, Receipt};
+use tca_join::Items;
 use tca_program::RunFault;
 use tca_report::{Input, Notes, Report};
 
@@ -119,7 +120,7 @@ fn take_answer<'a>(
 }
 
 // The notes and the reports of input `n`, where all its reports were taken.
-fn read_answer(n: u32, answer: Answer<'_>) -> Result<(Notes, Reports), RunFault>
+fn read_answer(n: u32, answer: Answer<'_>) -> Result<(Notes, Items<Report>), RunFault>
     ensures noted { IfOk result (λ x. IsNoted answer.entry.input x.0) }
     ensures holds { IfOk result (λ x. HoldsReports answer.entry.input x.1) }
     ensures none { OnOk result (refusal_of n answer.entry.result ≡ None) }
@@ -149,7 +150,7 @@ fn read_answer(n: u32, answer: Answer<'_>) -> Result<(Notes, Reports), RunFault>
 #[derive(Drop)]
 pub(crate) struct Readings {
     pub(crate) notes: Vec<Notes>,
-    pub(crate) lists: Vec<Reports>,
+    pub(crate) lists: Vec<Items<Report>>,
 }
 
 /// What all inputs hold, unless one is refused: the first in order that has a fault, or whose reports a replica didn't take.
@@ -177,7 +178,7 @@ pub(crate) fn readings_of<'a>(
 }
 
 // How many reports these lists have, for room in advance.
-fn count_of(lists: &[Reports]) -> usize {
+fn count_of(lists: &[Items<Report>]) -> usize {
     let mut count: usize = 0;
     for reports in lists {
         count = count.saturating_add(reports.len());
@@ -186,7 +187,7 @@ fn count_of(lists: &[Reports]) -> usize {
 }
 
 // A list, and behind it the reports of others, one list after another.
-fn append_all(first: Vec<Report>, others: Vec<Reports>) -> Result<Vec<Report>, AllocError>
+fn append_all(first: Vec<Report>, others: Vec<Items<Report>>) -> Result<Vec<Report>, AllocError>
     ensures { IfOk result (λ all. all.items ≡ first.items ++ flat_map (λ rs. rs) others.items) }
 {
     let mut all = first;
@@ -198,7 +199,7 @@ fn append_all(first: Vec<Report>, others: Vec<Reports>) -> Result<Vec<Report>, A
 }
 
 /// The reports of these lists, one list after another. The first list isn't copied where nobody else holds it.
-pub(crate) fn chain_all(alloc: Global, lists: Vec<Reports>) -> Result<Vec<Report>, AllocError>
+pub(crate) fn chain_all(alloc: Global, lists: Vec<Items<Report>>) -> Result<Vec<Report>, AllocError>
     ensures { IfOk result (λ all. all.items ≡ flat_map (λ rs. rs) lists.items) }
 {
     let mut others = lists;
@@ -210,7 +211,7 @@ pub(crate) fn chain_all(alloc: Global, lists: Vec<Reports>) -> Result<Vec<Report
 }
 
 /// All reports of these lists in order, each once.
-pub(crate) fn union_of(alloc: Global, lists: Vec<Reports>) -> Result<Vec<Report>, AllocError>
+pub(crate) fn union_of(alloc: Global, lists: Vec<Items<Report>>) -> Result<Vec<Report>, AllocError>
     ensures { IfOk result (λ all. all.items ≡ union_of lists.items) }
 {
     let mut all = chain_all(alloc, lists)?;

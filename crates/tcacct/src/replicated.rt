@@ -23,7 +23,8 @@ use std::sync::ledger::Blank;
 use std::thread::Threads;
 use tca_accounts::Plan;
 use tca_gossip::Replica;
-use tca_ingest::{Closed, Gate, Reports};
+use tca_ingest::{Closed, Gate};
+use tca_join::Items;
 use tca_log::Log;
 use tca_log::rows::RowsIter;
 use tca_program::RunFault;
@@ -42,16 +43,15 @@ fn check_held(reports: Vec<Report>, log: &Log) -> Result<Vec<Report>, RunFault>
     Ok(reports)
 }
 
-// All reports in order, where they are what the replica holds.
-fn compare(alloc: Global, replica: &Replica, lists: Vec<Reports>) -> Result<Vec<Report>, RunFault>
+// All reports in order, where they are those of the log.
+fn compare(alloc: Global, log: &Log, lists: Vec<Items<Report>>) -> Result<Vec<Report>, RunFault>
     ensures whole { IfOk result (λ list. list.items ≡ union_of lists.items) }
-    ensures held { IfOk result (λ list. list.items ≡ replica.now.log) }
+    ensures held { IfOk result (λ list. list.items ≡ log.now) }
     ensures rises { IfOk result (λ list. IsStrictlySortedBy report_cmp list.items) }
     ensures limit { IfOk result (λ list. length list.items ≤ most_reports) }
-    ensures differs { IfErr result (λ e. e ≢ memory_refusal → (e ≡ refusal None family.Close 3) × (union_of lists.items ≢ replica.now.log)) }
+    ensures differs { IfErr result (λ e. e ≢ memory_refusal → (e ≡ refusal None family.Close 3) × (union_of lists.items ≢ log.now)) }
     ensures refused { IfErr result IsExchangeRefused }
 {
-    let log = replica.log();
     if are_log(&lists, log) {
         return Ok(chain_all(alloc, lists)?);
     }
@@ -60,7 +60,7 @@ fn compare(alloc: Global, replica: &Replica, lists: Vec<Reports>) -> Result<Vec<
 }
 
 // Whether the lists, one after another, are the reports of a log in their order. Then no union has to be made.
-fn are_log(lists: &[Reports], log: &Log) -> bool
+fn are_log(lists: &[Items<Report>], log: &Log) -> bool
     ensures chained { result ≡ true → flat_map (λ rs. rs) lists.now ≡ log.now }
     ensures union { result ≡ true → union_of lists.now ≡ log.now }
     ensures limit { length log.now ≤ most_reports }
@@ -117,7 +117,7 @@ fn statement_of(alloc: Global, plan: &Plan, replica: &Replica) -> Result<Stateme
     Ok(Statement::of(alloc, plan, &bill)?)
 }
 
-// A closed replica without its journal. The journals go, and the other replicas, so that nobody shares the lists of the answers.
+// A closed replica without its journal. The journals go, and the other replicas.
 fn without_journal(first: Closed, others: Vec<Closed>) -> Replica
     ensures { result ≡ first.replica }
 {
@@ -146,8 +146,10 @@ fn bill_replicas<R: Threads + Wait + Sync, G: Gate>(
         unreachable!();
     };
     let replica = without_journal(first, all);
-    let reports = compare(setting.alloc, &replica, readings.lists)?;
     let statement = statement_of(setting.alloc, &plan, &replica)?;
+    // The chains go, so that nobody else holds the lists of the answers.
+    let log = replica.into_log();
+    let reports = compare(setting.alloc, &log, readings.lists)?;
     Ok(Prepared {
         statement,
         reports,
