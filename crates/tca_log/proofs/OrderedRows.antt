@@ -1,4 +1,5 @@
 -- Chunks and lists of rows in order, whatever the rows are.
+pub mod Among
 pub mod Each
 pub mod Parts
 pub mod Passing

@@ -6,7 +6,7 @@
 //! so that no choice of identities or times by a stranger makes a log slow.
 //!
 //! - `rows`: the ordered container, with `chunk`, `locate` and `iter` beneath it;
-//! - `log`, `union`: the log, one report and many reports at a time;
+//! - `log`, `union`: the log, one report and many reports at a time; `sets`: the set of a list;
 //! - `disputes`, `ascending`, `marks`, `span`: which identities of a set are disputed; `index`, `additions`, `by_identity`:
 //!   the same as reports come one by one;
 //! - `settled`: the reports that no other disputes; `answer`, `fault`: what a log answers; `laws`: what one more report
@@ -25,6 +25,7 @@ mod laws;
 mod log;
 mod marks;
 pub mod rows;
+mod sets;
 mod settled;
 mod span;
 mod union;

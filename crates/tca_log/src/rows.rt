@@ -1,7 +1,8 @@
 //! An ordered set that makes room first, and then takes no memory. It knows nothing of reports.
 //!
 //! - `chunk`: rows that lie side by side in memory; `locate`: which chunk a row is in; `iter`: the rows one by one; `order`:
-//!   whether a list ascends; `left`, `merge`, `beyond`: two containers gone through at once.
+//!   whether a list ascends; `rising`: lists of which most rows ascend; `left`, `merge`, `beyond`: two containers gone through
+//!   at once.
 ghost use Rattle.std.specs.Prelude.{◌≡◌, ℕ, true, false, ◌+◌, ◌-◌, ◌<◌, ◌≤◌, [], ◌∷◌, ◌++◌, length, drop, OnOk, OnErr, IfOk, IsOk, IsTrue, Some, is_some, IfSome, vec_len, vec_capacity, option_copied};
 ghost use Rattle.std.specs.List.{All};
 ghost use Rattle.std.specs.List.Sorted.{IsStrictlySortedBy};
@@ -16,6 +17,7 @@ mod left;
 mod locate;
 mod merge;
 mod order;
+mod rising;
 
 pub(crate) use beyond::{count_beyond, difference};
 use chunk::{CHUNK, Chunk};
@@ -23,6 +25,7 @@ pub use iter::RowsIter;
 use locate::{count_of, from_row, position};
 pub(crate) use merge::merged;
 pub(crate) use order::ascend;
+pub(crate) use rising::{are_among, rising_first, sort_behind};
 use std::alloc::{AllocError, Allocator, Global};
 use std::marker::Model;
 

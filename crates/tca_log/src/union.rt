@@ -18,7 +18,8 @@ use crate::disputes::{disputes_of, disputes_where};
 use crate::fault::LogFault;
 use crate::index::index_of;
 use crate::log::Log;
-use crate::rows::{LIMIT, Rows, RowsIter, SHARE, ascend, count_beyond, difference, merged};
+use crate::rows::{LIMIT, Rows, RowsIter, SHARE, count_beyond, difference, merged};
+use crate::sets::set_of;
 use std::alloc::{AllocError, Allocator};
 use tca_report::{Identity, Report};
 
@@ -95,23 +96,6 @@ fn are_alone<A: Allocator + Copy>(rows: &Rows<Report, A>, reports: &[Report]) ->
     ensures alone { IsTrue result → disputes.disputed reports.now ≡ [] }
 {
     rows.len() == 0 && all_ascend(reports)
-}
-
-// The reports of a list in order, each once. A list that ascends is that already, which may be known.
-fn set_of<A: Allocator + Copy>(reports: Vec<Report, A>, ascends: bool) -> Vec<Report, A>
-    requires { IsTrue ascends → IsStrictlySortedBy report_cmp reports.items }
-    ensures { result.items ≡ in_order report_cmp reports.items }
-{
-    if ascends {
-        return reports;
-    }
-    if ascend(&reports) {
-        return reports;
-    }
-    let mut set = reports;
-    set.sort_unstable();
-    set.dedup();
-    set
 }
 
 // Those of a list, which may be known to ascend, that are not among the rows, unless both are too many together.

@@ -1,0 +1,9 @@
+use Rattle.std.proofs.Common.{sym, subst, ◌++◌}
+use Rattle.std.specs.List.Sorted.{IsPermutation}
+use Rattle.std.proofs.lemmas.List.Sorted.{IsPermutation-append_right}
+use Rattle.tca_log.proofs.rows.rising.sort_behind.Goals as goal
+
+pub returns-clause-permutation : goal.returns-clause-permutation
+returns-clause-permutation g c =
+    let front = c.split_at_mut-behind.result.0.now in
+    subst (λ l. IsPermutation l (front ++ c.sort_unstable.new.self)) (sym c.split_at_mut-behind.ensures.value) (IsPermutation-append_right front c.split_at_mut-behind.result.1.now c.sort_unstable.new.self c.sort_unstable.ensures.permutation)
