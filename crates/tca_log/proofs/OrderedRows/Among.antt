@@ -62,5 +62,5 @@ module _ {K : Type 0} (R : K → K → Ordering) (o : IsTotalOrder R) where
   unfolding has
   found_more keys rows left i key h is within found there q now =
       let parts : has R (take (i + 1) keys) q ≡ (has R (take i keys) q || (eq_by_cmp R q key || false)) =
-            ap (λ l. has R l q) (take_more keys i key h ∙ ap (λ k. take i keys ++ k ∷ []) (sym is)) ∙ has-append R o (take i keys) (key ∷ []) q in
+      ap (λ l. has R l q) (take_more keys i key h ∙ ap (λ k. take i keys ++ k ∷ []) (sym is)) ∙ has-append R o (take i keys) (key ∷ []) q in
       or_cases (has R (take i keys) q) (eq_by_cmp R q key || false) (found q) (or_cases (eq_by_cmp R q key) false (λ e. has_tied q key e rows ∙ within key there) (λ e. absurd (false≢true e))) (sym parts ∙ now)
