@@ -35,4 +35,5 @@ pub use fault::LogFault;
 pub use laws::one_more_report;
 pub use log::{Log, same_reports_make_one_log};
 pub use rows::RowsIter;
+pub use sets::set_of;
 pub use settled::Settled;

@@ -11,9 +11,19 @@ use tca_report::Report;
 // Where fewer than this part of a list ascend, the whole list is sorted.
 const PART: usize = 4;
 
-/// The reports of a list in order, each once. A list that ascends is that already, which may be known. Of one that ascends
-/// but for some reports, as where some come late or again, only those are sorted.
-pub(crate) fn set_of<A: Allocator + Copy>(reports: Vec<Report, A>, ascends: bool) -> Vec<Report, A>
+/// The reports of a list in order, each once. It takes no memory that it can't do without: a list that ascends is given back, of
+/// one that ascends but for some reports, as where some come late or again, only those are sorted.
+pub fn set_of<A: Allocator + Copy>(reports: Vec<Report, A>) -> Vec<Report, A>
+    ensures { result.items ≡ in_order report_cmp reports.items }
+{
+    set_where(reports, false)
+}
+
+/// The same, where it may be known that the list ascends.
+pub(crate) fn set_where<A: Allocator + Copy>(
+    reports: Vec<Report, A>,
+    ascends: bool,
+) -> Vec<Report, A>
     requires { IsTrue ascends → IsStrictlySortedBy report_cmp reports.items }
     ensures { result.items ≡ in_order report_cmp reports.items }
 {

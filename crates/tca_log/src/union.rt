@@ -19,7 +19,7 @@ use crate::fault::LogFault;
 use crate::index::index_of;
 use crate::log::Log;
 use crate::rows::{LIMIT, Rows, RowsIter, SHARE, count_beyond, difference, merged};
-use crate::sets::set_of;
+use crate::sets::set_where;
 use std::alloc::{AllocError, Allocator};
 use tca_report::{Identity, Report};
 
@@ -111,7 +111,7 @@ fn news_in<A: Allocator + Copy>(
     ensures fault { IfErr result (λ e. IsRefusedBy e (length rows.now.rows + length (without_each report_cmp rows.now.rows (in_order report_cmp reports.items)))) }
     ensures nothing { length (without_each report_cmp rows.now.rows (in_order report_cmp reports.items)) ≡ 0 → IsOk result }
 {
-    let set = set_of(reports, ascends);
+    let set = set_where(reports, ascends);
     let new = count_new(rows, &set);
     if new > LIMIT - rows.len() {
         return Err(LogFault::Full);

@@ -4,7 +4,7 @@ use Rattle.tca_join.proofs.Sets.{rises_in_order}
 use Rattle.tca_log.proofs.union.news_in.Goals as goal
 
 pub news_of-requires-clause-rises : goal.news_of-requires-clause-rises
-news_of-requires-clause-rises g c = rw c.set_of-set.ensures (rises_in_order report_cmp report_total c.args.reports.items)
+news_of-requires-clause-rises g c = rw c.set_where-set.ensures (rises_in_order report_cmp report_total c.args.reports.items)
 
 pub count_new-new-requires : goal.count_new-new-requires
-count_new-new-requires g c = rw (c.deref.ensures.value, c.set_of-set.ensures) (rises_in_order report_cmp report_total c.args.reports.items)
+count_new-new-requires g c = rw (c.deref.ensures.value, c.set_where-set.ensures) (rises_in_order report_cmp report_total c.args.reports.items)

@@ -6,7 +6,7 @@ use Rattle.tca_join.proofs.Merge.{in_order_of_rising}
 use Rattle.tca_report.specs.report.Reports.{report_cmp}
 use Rattle.tca_report.proofs.lemmas.report.Order.{report_total, report_exact}
 use Rattle.tca_log.proofs.Gathering.{seen, set_moved}
-use Rattle.tca_log.proofs.sets.set_of.Goals as goal
+use Rattle.tca_log.proofs.sets.set_where.Goals as goal
 
 pub returns-then-ascends : goal.returns-then-ascends
 returns-then-ascends g c = sym (in_order_of_rising report_cmp report_total report_exact c.args.reports.items (c.requires c.if-ascends.true))
