@@ -14,12 +14,12 @@ ghost use Rattle.tca_join.specs.Chains.{most_items};
 
 use crate::chains::{extend, extend_shared, held_of};
 use crate::contents::Contents;
-use crate::fresh::{fresh_in, set_of};
+use crate::fresh::fresh_in;
 use crate::run::Run;
 use std::alloc::{AllocError, Global};
 use tca_join::{ByKey, Chain, Items, Join};
 use tca_log::rows::LIMIT;
-use tca_log::{Log, LogFault};
+use tca_log::{Log, LogFault, set_of};
 use tca_report::Report;
 
 /// The least list that is taken at once, whatever the log is.
@@ -68,7 +68,8 @@ impl Contents {
         ensures fresh { IfOk result (λ n. n ≡ length (fresh_of self.old.replica.log reports.now)) }
         ensures err { OnErr result (self.new.replica ≡ self.old.replica) }
     {
-        let set = set_of(self.alloc, reports.as_slice())?;
+        let list = Vec::from_slice(self.alloc, reports.as_slice())?;
+        let set = set_of(list);
         let fresh = fresh_in(self.alloc, &self.log, &set, reports)?;
         if fresh.len() == 0 {
             return Ok(0);

@@ -1,5 +1,5 @@
 //! Which reports of a list are new to a log at their turn.
-ghost use Rattle.std.specs.Prelude.{◌≡◌, ◌<◌, IfOk, IsTrue, Some, length, map, not, slice_get, true};
+ghost use Rattle.std.specs.Prelude.{◌≡◌, ◌<◌, IfOk, Some, length, map, not, slice_get, true};
 ghost use Rattle.std.specs.List.Sorted.{IsStrictlySortedBy};
 ghost use Rattle.tca_join.specs.Sets.{has, in_order};
 ghost use Rattle.tca_report.specs.report.Reports.{report_cmp};
@@ -9,31 +9,6 @@ use std::alloc::{AllocError, Global};
 use tca_join::Items;
 use tca_log::Log;
 use tca_report::Report;
-
-// Whether each report comes before the next.
-fn ascend(reports: &[Report]) -> bool
-    ensures { IsTrue result → IsStrictlySortedBy report_cmp reports.now }
-{
-    for at in 1..reports.len() {
-        if !reports[at - 1].cmp(&reports[at]).is_lt() {
-            return false;
-        }
-    }
-    true
-}
-
-/// The reports of a list in order, each once. A list that ascends is that already.
-pub(crate) fn set_of(alloc: Global, reports: &[Report]) -> Result<Vec<Report>, AllocError>
-    ensures { IfOk result (λ set. set.items ≡ in_order report_cmp reports.now) }
-{
-    let mut set = Vec::from_slice(alloc, reports)?;
-    if ascend(reports) {
-        return Ok(set);
-    }
-    set.sort_unstable();
-    set.dedup();
-    Ok(set)
-}
 
 // Of each report of a set, whether a log doesn't have it.
 fn news_in(alloc: Global, log: &Log, set: &[Report]) -> Result<Vec<bool>, AllocError>

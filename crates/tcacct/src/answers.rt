@@ -11,6 +11,7 @@ use std::alloc::{AllocError, Global};
 use std::marker::Model;
 use tca_ingest::{Done, Entry, JobFault, Receipt};
 use tca_join::Items;
+use tca_log::set_of;
 use tca_program::RunFault;
 use tca_report::{Input, Notes, Report};
 
@@ -214,8 +215,6 @@ pub(crate) fn chain_all(alloc: Global, lists: Vec<Items<Report>>) -> Result<Vec<
 pub(crate) fn union_of(alloc: Global, lists: Vec<Items<Report>>) -> Result<Vec<Report>, AllocError>
     ensures { IfOk result (λ all. all.items ≡ union_of lists.items) }
 {
-    let mut all = chain_all(alloc, lists)?;
-    all.sort_unstable();
-    all.dedup();
-    Ok(all)
+    let all = chain_all(alloc, lists)?;
+    Ok(set_of(all))
 }

@@ -12,7 +12,7 @@ use crate::report_line::report_cells;
 use crate::row::{Row, put_rows};
 use std::alloc::{AllocError, Global};
 use std::fmt;
-use tca_log::Log;
+use tca_log::{Log, set_of};
 use tca_program::{RunFault, add_input};
 use tca_report::{Input, Report, Write};
 
@@ -110,9 +110,7 @@ fn united(alloc: Global, a: &Log, b: &Log) -> Result<Vec<Report>, AllocError>
     let mut all = Vec::with_capacity(alloc, a.len() as usize + b.len() as usize)?;
     push_all(a, &mut all)?;
     push_all(b, &mut all)?;
-    all.sort_unstable();
-    all.dedup();
-    Ok(all)
+    Ok(set_of(all))
 }
 
 // Which reports just one of two sets has, and how many there are of each kind.

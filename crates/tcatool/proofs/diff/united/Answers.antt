@@ -1,13 +1,9 @@
 use Rattle.std.proofs.Common.{◌≡◌, ◌∙◌, ◌++◌, ap, rules}
-use Rattle.std.proofs.lemmas.List.Filters.{dedup_is}
 use Rattle.tca_join.specs.Sets.{in_order}
 use Rattle.tca_report.specs.report.Reports.{report_cmp}
-use Rattle.tca_report.proofs.lemmas.report.Order.{report_total, report_exact, report_eq, same_report_is}
-use Rattle.tca_log.proofs.Gathering.{set_is}
 use Rattle.tcatool.proofs.diff.united.Goals as goal
 
 pub returns : goal.returns
 returns c =
     let all : c.push_all-2.new.all.items ≡ c.args.a.now ++ c.args.b.now = search rules in
-    set_is report_cmp report_total report_exact report_eq same_report_is c.push_all-2.new.all.items c.sort_unstable.new.self.items c.dedup.new.self.items c.sort_unstable.ensures.permutation c.sort_unstable.ensures.sorted (dedup_is report_eq c.sort_unstable.new.self.items c.dedup.new.self.items c.dedup.ensures.filtered)
-    ∙ ap (in_order report_cmp) all
+    c.set_of.ensures ∙ ap (in_order report_cmp) all

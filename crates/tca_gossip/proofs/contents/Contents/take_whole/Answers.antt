@@ -9,10 +9,10 @@ returns-then-len-eq0-clause-state c = none_taken c.args.self.now.replica c.args.
 
 pub put_fresh-requires-clause-same : goal.put_fresh-requires-clause-same
 put_fresh-requires-clause-same c =
-    let set : c.in_ok-set.set.items ≡ in_order report_cmp c.args.reports.now = c.in_ok-set.ensures ∙ ap (λ (l : List PacketReport). in_order report_cmp l) c.as_slice.ensures in
-    rw (← c.self.view_is) (set_brings c.self.inside.log c.in_ok-set.set.items c.args.reports.now set c.in_ok-fresh.fresh c.self.invariant.replica.log_rises c.in_ok-fresh.ensures)
+    let set : c.set_of-set.result.items ≡ in_order report_cmp c.args.reports.now = c.set_of-set.ensures ∙ ap (λ (l : List PacketReport). in_order report_cmp l) (c.in_ok-list.ensures.items ∙ c.as_slice.ensures) in
+    rw (← c.self.view_is) (set_brings c.self.inside.log c.set_of-set.result.items c.args.reports.now set c.in_ok-fresh.fresh c.self.invariant.replica.log_rises c.in_ok-fresh.ensures)
 
 pub put_fresh-requires-clause-new : goal.put_fresh-requires-clause-new
 put_fresh-requires-clause-new c =
-    let set : c.in_ok-set.set.items ≡ in_order report_cmp c.args.reports.now = c.in_ok-set.ensures ∙ ap (λ (l : List PacketReport). in_order report_cmp l) c.as_slice.ensures in
-    rw (← c.self.view_is) (fresh_bring c.self.inside.log c.in_ok-set.set.items c.args.reports.now set c.in_ok-fresh.fresh c.self.invariant.replica.log_rises c.in_ok-fresh.ensures)
+    let set : c.set_of-set.result.items ≡ in_order report_cmp c.args.reports.now = c.set_of-set.ensures ∙ ap (λ (l : List PacketReport). in_order report_cmp l) (c.in_ok-list.ensures.items ∙ c.as_slice.ensures) in
+    rw (← c.self.view_is) (fresh_bring c.self.inside.log c.set_of-set.result.items c.args.reports.now set c.in_ok-fresh.fresh c.self.invariant.replica.log_rises c.in_ok-fresh.ensures)
