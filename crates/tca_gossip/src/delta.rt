@@ -31,7 +31,7 @@ fn reports_from(
         return chain.share();
     }
     let list = Vec::from_slice(alloc, &chain.items()[from..])?;
-    Ok(Items::of(alloc, list)?)
+    Items::of(alloc, list)
 }
 
 /// For each origin of which more is held than the summary counts, the run of the rest.

@@ -75,5 +75,5 @@ pub(crate) fn fresh_in(
         return reports.share();
     }
     let fresh = fresh_among(alloc, log, set, list)?;
-    Ok(Items::of(alloc, fresh)?)
+    Items::of(alloc, fresh)
 }

@@ -82,7 +82,7 @@ impl Run {
         let reports = self.reports.as_slice();
         let (_, rest) = reports.split_at(skip.min(reports.len()));
         let list = Vec::from_slice(alloc, rest)?;
-        Ok(Items::of(alloc, list)?)
+        Items::of(alloc, list)
     }
 
     /// Whether both have the same reports of one origin from one place on. It takes no memory.

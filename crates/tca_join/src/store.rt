@@ -96,7 +96,7 @@ impl<T: Copy, A: Allocator + Clone> Store<T, A> {
             Store::Own(list) => {
                 let alloc = list.allocator().clone()?;
                 let copied = self.copied(0)?;
-                Ok(Items::of(alloc, copied)?)
+                Items::of(alloc, copied)
             }
             Store::Shared(items) => items.share(),
         }

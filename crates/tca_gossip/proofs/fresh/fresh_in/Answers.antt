@@ -13,3 +13,8 @@ returns-then-count_new-set c =
     let whole : fresh_of log reports ≡ reports =
     all_fresh log reports c.count_new.ensures.rises (omega (arith, c.count_new.ensures.count, ap length alike, c.if-set-list.true, c.if-count_new-set.true, ap length c.as_slice-list.ensures)) in
     subst (λ (l : List PacketReport). IfOk c.share.result (λ fresh. fresh ≡ l)) (sym whole) c.share.ensures
+
+pub returns : goal.returns
+returns c =
+    let news = c.in_ok-fresh.ensures ∙ ap (λ (l : List PacketReport). fresh_of c.args.log.now l) c.as_slice-list.ensures in
+    subst (λ (l : List PacketReport). IfOk c.of.result (λ fresh. fresh ≡ l)) news c.of.ensures

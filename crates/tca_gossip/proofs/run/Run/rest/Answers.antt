@@ -13,10 +13,9 @@ pub returns : goal.returns
 returns c =
     let all = c.self.inside.reports in
     let skip = c.min.result in
-    rw (← c.self.view_is) (
-      c.in_ok-of.ensures
-      ∙ c.in_ok-list.ensures.items
-      ∙ c.split_at.ensures.back
-      ∙ ap (drop skip) c.as_slice-reports.ensures
-      ∙ skipped all (c.args.have - c.self.inside.start) skip (omega (arith, c.min.ensures, c.saturating_sub-skip.ensures, ap length c.as_slice-reports.ensures))
-    )
+    let rest =
+    c.in_ok-list.ensures.items
+    ∙ c.split_at.ensures.back
+    ∙ ap (drop skip) c.as_slice-reports.ensures
+    ∙ skipped all (c.args.have - c.self.inside.start) skip (omega (arith, c.min.ensures, c.saturating_sub-skip.ensures, ap length c.as_slice-reports.ensures)) in
+    rw (← c.self.view_is) (subst (λ (l : List PacketReport). IfOk c.of.result (λ rest. rest ≡ l)) rest c.of.ensures)
