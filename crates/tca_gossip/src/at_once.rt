@@ -12,7 +12,7 @@ ghost use Rattle.tca_gossip.specs.Runs.{AreRuns, first_fault, rest_of, rests};
 ghost use Rattle.tca_gossip.specs.inside.Storage.{held_of};
 ghost use Rattle.tca_join.specs.Chains.{most_items};
 
-use crate::chains::{extend, extend_shared, held_of};
+use crate::chains::{extend, held_of};
 use crate::contents::Contents;
 use crate::fresh::fresh_in;
 use crate::run::Run;
@@ -91,7 +91,7 @@ impl Contents {
             return Err(LogFault::Full);
         }
         let mut chains = self.chains.copy()?;
-        extend_shared(&mut chains, self.name, fresh)?;
+        extend(&mut chains, self.name, fresh)?;
         let _rises = chains.keys();
         self.log.add_all(set)?;
         self.billing.release(self.alloc);
@@ -146,12 +146,9 @@ fn extend_one(
     ensures list { OnOk result (list.new.items ≡ list.old.items ++ rest_of (held_of chains.old) run.now) }
 {
     let origin = run.origin();
-    let reports = run.reports();
-    let have = held_of(chains, origin).len();
-    let skip = have.saturating_sub(run.start() as usize).min(reports.len());
-    let (_, rest) = reports.split_at(skip);
-    extend(alloc, chains, origin, rest)?;
-    list.extend_from_slice(rest)?;
+    let rest = run.rest(alloc, held_of(chains, origin).len())?;
+    list.extend_from_slice(rest.as_slice())?;
+    extend(chains, origin, rest)?;
     Ok(())
 }
 

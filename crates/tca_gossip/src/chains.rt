@@ -58,27 +58,8 @@ pub(crate) fn push(chains: &mut ByKey<Chain<Report>>, origin: u32, report: Repor
     }
 }
 
-/// Appends reports to the chain of an origin.
-pub(crate) fn extend(
-    alloc: Global,
-    chains: &mut ByKey<Chain<Report>>,
-    origin: u32,
-    reports: &[Report],
-) -> Result<(), AllocError>
-    requires { length (held_of chains.old origin) + length reports.now ≤ most_items }
-    ensures { OnOk result ((q : ℕ) → held_of chains.new q ≡ held_of chains.old q ++ of q (with_origin origin reports.now)) }
-{
-    let _rises = chains.keys();
-    if let Some(chain) = chains.get_mut(origin) {
-        return chain.extend(reports);
-    }
-    let mut chain = Chain::new(alloc);
-    chain.extend(reports)?;
-    chains.set(origin, chain)
-}
-
 /// Appends the reports of a list to the chain of an origin. Where it has no chain yet the list is its chain, and isn't copied.
-pub(crate) fn extend_shared(
+pub(crate) fn extend(
     chains: &mut ByKey<Chain<Report>>,
     origin: u32,
     reports: Items<Report>,

@@ -60,7 +60,7 @@ fn fresh_among(
 }
 
 /// The reports of a list that are neither in a log nor at an earlier place of the list, as they stand there, which is the list itself
-/// where the log is empty and none comes twice. `set` has the reports of the list in order, each once.
+/// where the log has none of them and none comes twice. `set` has the reports of the list in order, each once.
 pub(crate) fn fresh_in(
     alloc: Global,
     log: &Log,
@@ -71,9 +71,9 @@ pub(crate) fn fresh_in(
     ensures { IfOk result (λ fresh. fresh ≡ fresh_of log.now reports.now) }
 {
     let list = reports.as_slice();
-    if log.len() == 0 && set.len() == list.len() {
+    if set.len() == list.len() && log.count_new(set) == set.len() {
         return reports.share();
     }
     let fresh = fresh_among(alloc, log, set, list)?;
-    Ok(Items::of(alloc, fresh)?)
+    Items::of(alloc, fresh)
 }

@@ -1,10 +1,10 @@
 //! What replicas send each other: runs of chains.
-ghost use Rattle.std.specs.Prelude.{◌≡◌, ◌<◌, ◌↔◌, true, false, IfOk, IfSome, IsTrue, None, Some, MatchOption};
+ghost use Rattle.std.specs.Prelude.{◌≡◌, ◌-◌, ◌<◌, ◌↔◌, drop, true, false, IfOk, IfSome, IsTrue, None, Some, MatchOption};
 ghost use Rattle.tca_gossip.specs.Runs.{AreRuns};
 
 use std::alloc::{AllocError, Global};
 use std::marker::Model;
-use tca_join::{ByKey, MaxOf};
+use tca_join::{ByKey, Items, MaxOf};
 use tca_log::rows::LIMIT;
 use tca_report::Report;
 
@@ -31,12 +31,12 @@ pub fn are_same_counts(first: &Summary, second: &Summary) -> bool
     true
 }
 
-/// Reports of an origin's chain, from a place on, counted from 0.
+/// Reports of an origin's chain, from a place on, counted from 0. Others may hold the list too.
 #[derive(Drop)]
 pub struct Run {
     pub origin: u32,
     pub start: u32,
-    pub reports: Vec<Report>,
+    pub reports: Items<Report>,
 }
 
 impl Model for Run {
@@ -44,7 +44,7 @@ impl Model for Run {
 
     ghost Value = { RunView };
 
-    ghost view = { λ r. record { origin = r.origin; start = r.start; reports = r.reports.items } };
+    ghost view = { λ r. record { origin = r.origin; start = r.start; reports = r.reports } };
 }
 
 impl Run {
@@ -67,7 +67,22 @@ impl Run {
     pub fn reports(&self) -> &[Report]
         ensures { result.now ≡ self.now.reports }
     {
-        &self.reports
+        self.reports.as_slice()
+    }
+
+    /// What a chain of this length lacks of the reports, where the run starts within it. The list is shared where that is all of it,
+    /// else they are copied.
+    pub(crate) fn rest(&self, alloc: Global, have: usize) -> Result<Items<Report>, AllocError>
+        ensures { IfOk result (λ rest. rest ≡ drop (have - self.now.start) self.now.reports) }
+    {
+        let skip = have.saturating_sub(self.start as usize);
+        if skip == 0 {
+            return self.reports.share();
+        }
+        let reports = self.reports.as_slice();
+        let (_, rest) = reports.split_at(skip.min(reports.len()));
+        let list = Vec::from_slice(alloc, rest)?;
+        Items::of(alloc, list)
     }
 
     /// Whether both have the same reports of one origin from one place on. It takes no memory.
@@ -98,14 +113,14 @@ impl Run {
         true
     }
 
-    /// The same run once more.
-    pub fn copy(&self, alloc: Global) -> Result<Run, AllocError>
+    /// The same run once more. It shares the list.
+    pub fn copy(&self) -> Result<Run, AllocError>
         ensures { IfOk result (λ r. r ≡ self.now) }
     {
         Ok(Run {
             origin: self.origin,
             start: self.start,
-            reports: Vec::from_slice(alloc, &self.reports)?,
+            reports: self.reports.share()?,
         })
     }
 
@@ -115,7 +130,7 @@ impl Run {
     {
         let mut list = Vec::with_capacity(alloc, runs.len())?;
         for run in runs {
-            list.push(run.copy(alloc)?)?;
+            list.push(run.copy()?)?;
         }
         Ok(list)
     }

@@ -88,6 +88,20 @@ impl<T: Copy, A: Allocator + Clone> Store<T, A> {
         }
     }
 
+    /// The items as a list that others may hold too. A list of their own is copied.
+    pub(crate) fn share(&self) -> Result<Items<T, A>, AllocError>
+        ensures { IfOk result (λ items. items ≡ stored self.now) }
+    {
+        match self {
+            Store::Own(list) => {
+                let alloc = list.allocator().clone()?;
+                let copied = self.copied(0)?;
+                Items::of(alloc, copied)
+            }
+            Store::Shared(items) => items.share(),
+        }
+    }
+
     /// The same items once more. A list that others hold too is not copied.
     pub(crate) fn copy(&self) -> Result<Store<T, A>, AllocError>
         ensures { IfOk result (λ s. stored s ≡ stored self.now) }

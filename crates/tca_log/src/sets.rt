@@ -53,13 +53,14 @@ fn sorted_set<A: Allocator>(reports: Vec<Report, A>) -> Vec<Report, A>
 
 // The same, where so many ascend at its front. Where those behind are repeats of these it takes no memory, and else it sorts
 // in place where memory is refused.
-fn joined_set<A: Allocator>(reports: Vec<Report, A>, rising: usize) -> Vec<Report, A>
+fn joined_set<A: Allocator + Copy>(reports: Vec<Report, A>, rising: usize) -> Vec<Report, A>
     requires bound { rising ≤ length reports.items }
     requires rises { IsStrictlySortedBy report_cmp (take rising reports.items) }
     ensures { result.items ≡ in_order report_cmp reports.items }
 {
     let mut set = reports;
-    sort_behind(&mut set, rising);
+    let alloc = *set.allocator();
+    sort_behind(alloc, &mut set, rising);
     if are_among(&set[rising..], &set[..rising]) {
         set.truncate(rising);
         return set;

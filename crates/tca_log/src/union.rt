@@ -54,6 +54,15 @@ impl<A: Allocator + Copy> Log<A> {
         Ok(new as u32)
     }
 
+    /// How many reports of a set the log doesn't have. Where they are many it goes through both once; it takes no memory.
+    pub fn count_new(&self, set: &[Report]) -> usize
+        requires { IsStrictlySortedBy report_cmp set.now }
+        ensures count { result + length self.now ≡ length (in_order report_cmp (self.now ++ set.now)) }
+        ensures rises { IsStrictlySortedBy report_cmp self.now }
+    {
+        count_new(&self.rows, set)
+    }
+
     // Whether the log and another one together have more reports than a log may have. It takes no memory.
     pub(crate) fn is_over_with(&self, other: &Log<A>) -> bool
         ensures { result ≡ log_full self.now other.now }

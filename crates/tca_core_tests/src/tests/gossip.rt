@@ -15,6 +15,7 @@ mod world;
 use std::alloc::Global;
 use tca_accounts::Plan;
 use tca_gossip::{Delta, Replica, Run};
+use tca_join::Items;
 use tca_report::{Content, Identity, Report};
 
 // The time of the first report of the worked rows.
@@ -85,6 +86,9 @@ fn delta(alloc: Global, parts: &[Part]) -> Option<Option<Delta>> {
     for part in parts {
         let (origin, start, rows) = *part;
         let Some(reports) = reports(alloc, rows) else {
+            return None;
+        };
+        let Ok(reports) = Items::of(alloc, reports) else {
             return None;
         };
         let run = Run {

@@ -5,7 +5,10 @@ ghost use Rattle.tca_join.specs.Sets.{has};
 
 use crate::rows::iter::RowsIter;
 use crate::rows::left::Left;
-use std::alloc::Global;
+use std::alloc::{Allocator, Global};
+
+// How long lists in order are at least, by and large, that are put together and not sorted anew.
+const LONG: usize = 1_024;
 
 /// Puts in front, in the order in which they stand, the rows that come after each one before them, and answers how many
 /// they are. It takes no memory.
@@ -27,14 +30,38 @@ pub(crate) fn rising_first<K: Ord>(rows: &mut [K]) -> usize
     rising
 }
 
-/// Sorts the rows behind the first ones. It takes no memory.
-pub(crate) fn sort_behind<K: Ord>(rows: &mut [K], first: usize)
+// How many rows come before the one in front of them.
+fn count_falls<K: Ord>(rows: &[K]) -> usize {
+    let mut falls = 0;
+    for at in 1..rows.len() {
+        if rows[at].cmp(&rows[at - 1]).is_lt() {
+            falls += 1;
+        }
+    }
+    falls
+}
+
+// Sorts rows. Where they are a few lists in order, one after another, it puts these together, for which it asks for memory; else, and
+// where that is refused, it sorts in place.
+fn put_in_order<K: Ord, A: Allocator>(alloc: A, rows: &mut [K])
+    ensures { IsPermutation rows.old rows.new }
+{
+    if count_falls(rows) < rows.len() / LONG {
+        if rows.sort(alloc).is_ok() {
+            return;
+        }
+    }
+    rows.sort_unstable();
+}
+
+/// Sorts the rows behind the first ones. It takes no memory that it can't do without.
+pub(crate) fn sort_behind<K: Ord, A: Allocator>(alloc: A, rows: &mut [K], first: usize)
     requires { first ≤ length rows.old }
     ensures first { take first rows.new ≡ take first rows.old }
     ensures permutation { IsPermutation rows.old rows.new }
 {
     let (_, behind) = rows.split_at_mut(first);
-    behind.sort_unstable();
+    put_in_order(alloc, behind);
 }
 
 /// Whether each of some keys in order ties with one of the rows. It goes through both once.

@@ -35,6 +35,9 @@ fn long_run(alloc: Global) -> Option<Delta> {
     let Some(reports) = long_list(alloc, 1000, 2000) else {
         return None;
     };
+    let Ok(reports) = Items::of(alloc, reports) else {
+        return None;
+    };
     let run = Run {
         origin: 2,
         start: 0,

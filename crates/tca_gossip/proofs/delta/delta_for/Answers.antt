@@ -1,6 +1,5 @@
 use Rattle.std.proofs.lemmas.Grind.{common_steps}
-use Rattle.std.proofs.Common.{◌∙◌, ap, subst, sym, drop, arith}
-use Rattle.tca_join.proofs.Differ.{rest_is}
+use Rattle.std.proofs.Common.{◌∙◌, subst, sym, arith}
 use Rattle.tca_gossip.specs.Runs.{AreRuns, summary_count}
 use Rattle.tca_gossip.proofs.DeltaSteps.{delta_skip, delta_add, delta_ends, right_delta}
 use Rattle.tca_gossip.proofs.delta.delta_for.Goals as goal
@@ -15,9 +14,9 @@ loop-entry-preserved c =
     let from = c.counted-from.result in
     elim c.if-from-items.branch [
       | then-from-items+in_ok-reports+in_ok-push w ↦
-          delta_add counts es c.loop-entry.entry-index c.entry-item.result h is c.loop-entry.runs.items c.if-from-items.runs.items c.loop-entry.invariant from w.in_ok-reports.reports.items c.counted-from.ensures
+          delta_add counts es c.loop-entry.entry-index c.entry-item.result h is c.loop-entry.runs.items c.if-from-items.runs.items c.loop-entry.invariant from w.in_ok-reports.reports c.counted-from.ensures
           (rw c.items-items.ensures at w.if-from-items.true)
-          (w.in_ok-reports.ensures.items ∙ rest_is c.items-items.result.now from ∙ ap (drop from) c.items-items.ensures)
+          w.in_ok-reports.ensures
           (rw w.runs-is w.in_ok-push.ensures.items)
       | else-from-items w ↦
           delta_skip counts es c.loop-entry.entry-index c.entry-item.result h is c.loop-entry.runs.items c.if-from-items.runs.items c.loop-entry.invariant from c.counted-from.ensures
@@ -46,18 +45,6 @@ overflow_cast-from c = grind (arith, common_steps)
 
 pub overflow_cast-from-then-from-items : goal.overflow_cast-from-then-from-items
 overflow_cast-from-then-from-items c = grind (arith, common_steps)
-
-pub offset_bounds-items-from : goal.offset_bounds-items-from
-offset_bounds-items-from c = grind (arith, common_steps)
-
-pub slice_bounds-from_slice-count : goal.slice_bounds-from_slice-count
-slice_bounds-from_slice-count c = grind (arith, common_steps)
-
-pub slice_bounds-from_slice-start : goal.slice_bounds-from_slice-start
-slice_bounds-from_slice-start c = grind (arith, common_steps)
-
-pub slice_bounds-from_slice-end : goal.slice_bounds-from_slice-end
-slice_bounds-from_slice-end c = grind (arith, common_steps)
 
 pub returns-in_err-reports : goal.returns-in_err-reports
 returns-in_err-reports c = grind (arith, common_steps)

@@ -12,6 +12,7 @@ use std::sync::ledger::Blank;
 use tca_accounts::Plan;
 use tca_gossip::{AbsorbFault, Delta, Run};
 use tca_ingest::{CloseFault, Closed, Entry, Pass, Shared, Side, close_all, exchange};
+use tca_join::Items;
 
 // The replica's answer to an absorb.
 fn answer(entry: &Entry) -> Option<Result<u64, AbsorbFault>> {
@@ -170,6 +171,9 @@ fn two_replicas_with_a_pass_each_tell_each_other(rt: HostRuntime) {
 // A delta of one run.
 fn one_run(alloc: Global, origin: u32, start: u32, rows: &[(u32, u32, u32)]) -> Option<Delta> {
     let Some(reports) = reports(alloc, rows) else {
+        return None;
+    };
+    let Ok(reports) = Items::of(alloc, reports) else {
         return None;
     };
     let run = Run {

@@ -11,6 +11,7 @@ use std::thread::Threads;
 use tca_accounts::Plan;
 use tca_gossip::{Delta, Replica, Run};
 use tca_ingest::{Closed, Entry, Pass, Shared, Side};
+use tca_join::Items;
 use tca_log::Log;
 use tca_report::Report;
 
@@ -25,6 +26,9 @@ struct Day {
 // The delta that both absorb.
 fn absorbed(alloc: Global) -> Option<Delta> {
     let Some(reports) = reports(alloc, &[THIRD, (9, 3, 40)]) else {
+        return None;
+    };
+    let Ok(reports) = Items::of(alloc, reports) else {
         return None;
     };
     let run = Run {

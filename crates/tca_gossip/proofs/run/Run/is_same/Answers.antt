@@ -18,5 +18,5 @@ pub returns : goal.returns
 returns c =
     let same : Decides c.eq.result (c.as_slice.result.now ≡ c.as_slice-2.result.now) = slice_eq-Decides report_decides c.as_slice.result.now c.as_slice-2.result.now c.eq.result c.eq.ensures in
     rw (← c.self.view_is, ← c.other.view_is)
-    (one_run c.self.inside.origin c.other.inside.origin c.self.inside.start c.other.inside.start c.self.inside.reports.items c.other.inside.reports.items c.eq.result c.if-self-other.false c.if-self-other-2.false
-    (rw (← c.as_slice.ensures.value, ← c.as_slice-2.ensures.value) same))
+    (one_run c.self.inside.origin c.other.inside.origin c.self.inside.start c.other.inside.start c.self.inside.reports c.other.inside.reports c.eq.result c.if-self-other.false c.if-self-other-2.false
+    (rw (← c.as_slice.ensures, ← c.as_slice-2.ensures) same))

@@ -6,4 +6,4 @@ use Rattle.tca_log.proofs.rows.rising.sort_behind.Goals as goal
 pub returns-clause-permutation : goal.returns-clause-permutation
 returns-clause-permutation g c =
     let front = c.split_at_mut-behind.result.0.now in
-    subst (λ l. IsPermutation l (front ++ c.sort_unstable.new.self)) (sym c.split_at_mut-behind.ensures.value) (IsPermutation-append_right front c.split_at_mut-behind.result.1.now c.sort_unstable.new.self c.sort_unstable.ensures.permutation)
+    subst (λ l. IsPermutation l (front ++ c.put_in_order.new.rows)) (sym c.split_at_mut-behind.ensures.value) (IsPermutation-append_right front c.split_at_mut-behind.result.1.now c.put_in_order.new.rows c.put_in_order.ensures)
