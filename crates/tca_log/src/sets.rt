@@ -11,8 +11,8 @@ use tca_report::Report;
 // Where fewer than this part of a list ascend, the whole list is sorted.
 const PART: usize = 4;
 
-/// The reports of a list in order, each once. It takes no memory that it can't do without: a list that ascends is given back, of
-/// one that ascends but for some reports, as where some come late or again, only those are sorted.
+/// The reports of a list in order, each once. A list that ascends is given back; of one that ascends but for some reports, as where
+/// some come late or again, only those are sorted. Where memory is wanting the list is sorted in place.
 pub fn set_of<A: Allocator + Copy>(reports: Vec<Report, A>) -> Vec<Report, A>
     ensures { result.items ≡ in_order report_cmp reports.items }
 {

@@ -46,15 +46,14 @@ fn count_falls<K: Ord>(rows: &[K]) -> usize {
 fn put_in_order<K: Ord, A: Allocator>(alloc: A, rows: &mut [K])
     ensures { IsPermutation rows.old rows.new }
 {
-    if count_falls(rows) < rows.len() / LONG {
-        if rows.sort(alloc).is_ok() {
-            return;
-        }
+    let are_few = count_falls(rows) < rows.len() / LONG;
+    if are_few && rows.sort(alloc).is_ok() {
+        return;
     }
     rows.sort_unstable();
 }
 
-/// Sorts the rows behind the first ones. It takes no memory that it can't do without.
+/// Sorts the rows behind the first ones. Want of memory makes it slower at most.
 pub(crate) fn sort_behind<K: Ord, A: Allocator>(alloc: A, rows: &mut [K], first: usize)
     requires { first ≤ length rows.old }
     ensures first { take first rows.new ≡ take first rows.old }
