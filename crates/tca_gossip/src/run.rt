@@ -207,7 +207,7 @@ fn are_runs(runs: &[Run]) -> bool
     let mut least: u64 = 0;
     for run in runs {
         let origin = run.origin as u64;
-        let end = run.start as u64 + run.reports.len() as u64;
+        let end = (run.start as u64).saturating_add(run.reports.len() as u64);
         if end > MOST_REPORTS || origin < least {
             return false;
         }

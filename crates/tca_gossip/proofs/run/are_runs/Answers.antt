@@ -10,14 +10,11 @@ loop-run-preserved c =
     let origin : c.run.inside.origin ≡ run.origin = ap (λ (r : RunView). r.origin) c.run.view_is in
     let start : c.run.inside.start ≡ run.start = ap (λ (r : RunView). r.start) c.run.view_is in
     let count : length c.run.inside.reports ≡ length run.reports = ap (λ (r : RunView). length r.reports) c.run.view_is in
-    let within : run.start + length run.reports ≤ 4194304 = omega (arith, c.if-end-gt-MOST_REPORTS.false, c.len.ensures, start, count) in
+    let within : run.start + length run.reports ≤ 4194304 = omega (arith, c.if-end-gt-MOST_REPORTS.false, c.saturating_add-end.ensures, c.len.ensures, start, count) in
     rw origin (further_runs c.args.runs.now c.loop-run.least c.loop-run.run-index run c.loop-run-test.true c.run-item.is c.loop-run.invariant within (omega (arith, c.if-origin-least.false, origin)))
 
 pub offset_bounds-runs-run-index : goal.offset_bounds-runs-run-index
 offset_bounds-runs-run-index c = grind (arith, common_steps)
-
-pub overflow_add-end : goal.overflow_add-end
-overflow_add-end c = grind (arith, common_steps)
 
 pub returns-then-end-gt-MOST_REPORTS-clause-yes : goal.returns-then-end-gt-MOST_REPORTS-clause-yes
 returns-then-end-gt-MOST_REPORTS-clause-yes c = grind (arith, common_steps)
