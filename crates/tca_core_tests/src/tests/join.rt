@@ -461,6 +461,28 @@ fn a_shared_list_is_a_list_again(rt: HostRuntime) {
     assert!(rt; lists_again(rt.alloc()) == Ok(true));
 }
 
+// Whether a list that nobody else holds is a list again in a heap that refuses each growth, and a copy of one that is shared is refused.
+fn list_again_without_memory(alloc: Global, heap: &LocalHeap) -> Result<bool, AllocError> {
+    let alone = Items::of(heap, Vec::from_slice(heap, &ITEMS)?)?;
+    let held = Items::of(heap, Vec::from_slice(heap, &ITEMS)?)?;
+    let shared = held.share()?;
+    let taken = exhausted(alloc, heap)?;
+    let is_refused = shared.into_vec(heap).is_err();
+    let list = alone.into_vec(heap)?;
+    let are_kept = list.as_slice() == ITEMS.as_slice() && held.as_slice() == ITEMS.as_slice();
+    Ok(is_refused && are_kept && taken.len() > 0)
+}
+
+fn lists_again_without_memory(alloc: Global) -> Result<bool, AllocError> {
+    let heap = LocalHeap::new(alloc, 1 << 12)?;
+    list_again_without_memory(alloc, &heap)
+}
+
+#[test]
+fn a_list_that_nobody_shares_is_a_list_again_without_memory(rt: HostRuntime) {
+    assert!(rt; lists_again_without_memory(rt.alloc()) == Ok(true));
+}
+
 type SmallMap<'a> = ByKey<Chain<u32, &'a LocalHeap>, &'a LocalHeap>;
 
 // Whether a map clashes at 5 with another, by both calls.

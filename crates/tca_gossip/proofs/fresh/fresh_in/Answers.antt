@@ -2,8 +2,11 @@ use Rattle.std.proofs.Common.{◌≡◌, ◌++◌, ◌∙◌, List, IfOk, length
 use Rattle.tca_join.specs.Sets.{in_order}
 use Rattle.tca_report.specs.report.Reports.{PacketReport, report_cmp}
 use Rattle.tca_gossip.specs.Replicas.{fresh_of}
-use Rattle.tca_gossip.proofs.Newcomers.{all_fresh, set_alike}
+use Rattle.tca_gossip.proofs.Newcomers.{all_fresh, set_alike, set_rises}
 use Rattle.tca_gossip.proofs.fresh.fresh_in.Goals as goal
+
+pub count_new-requires : goal.count_new-requires
+count_new-requires c = set_rises c.args.set.now c.args.reports.now c.requires
 
 pub returns-then-count_new-set : goal.returns-then-count_new-set
 returns-then-count_new-set c =
