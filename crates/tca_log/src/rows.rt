@@ -19,7 +19,7 @@ mod merge;
 mod order;
 mod rising;
 
-pub(crate) use beyond::{count_beyond, difference};
+pub(crate) use beyond::{are_beyond, count_beyond, difference};
 use chunk::{CHUNK, Chunk};
 pub use iter::RowsIter;
 use locate::{count_of, from_row, position};

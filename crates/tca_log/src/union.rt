@@ -1,7 +1,7 @@
 //! Many reports at once: all of them or none.
-ghost use Rattle.std.specs.Prelude.{◌≡◌, ◌+◌, ◌<◌, ◌≤◌, ◌++◌, [], List, map, length, IfOk, IfErr, OnOk, OnErr, IsOk, IsTrue, None};
+ghost use Rattle.std.specs.Prelude.{◌≡◌, ◌+◌, ◌<◌, ◌≤◌, ◌++◌, [], List, map, not, length, IfOk, IfErr, OnOk, OnErr, IsOk, IsTrue, None};
 ghost use Rattle.std.specs.List.Sorted.{IsStrictlySortedBy};
-ghost use Rattle.tca_join.specs.Sets.{in_order};
+ghost use Rattle.tca_join.specs.Sets.{has, in_order};
 ghost use Rattle.tca_report.specs.report.Reports.{report_cmp};
 ghost use Rattle.tca_report.specs.report.Identities.{identity_cmp};
 ghost use Rattle.tca_log.specs.Arrivals.{Many, after};
@@ -18,7 +18,7 @@ use crate::disputes::{disputes_of, disputes_where};
 use crate::fault::LogFault;
 use crate::index::index_of;
 use crate::log::Log;
-use crate::rows::{LIMIT, Rows, RowsIter, SHARE, count_beyond, difference, merged};
+use crate::rows::{LIMIT, Rows, RowsIter, SHARE, are_beyond, count_beyond, difference, merged};
 use crate::sets::set_where;
 use std::alloc::{AllocError, Allocator};
 use tca_report::{Identity, Report};
@@ -61,6 +61,14 @@ impl<A: Allocator + Copy> Log<A> {
         ensures rises { IsStrictlySortedBy report_cmp self.now }
     {
         count_new(&self.rows, set)
+    }
+
+    /// Which reports of a set the log doesn't have, in their order. Where they are many it goes through both once.
+    pub fn are_new(&self, set: &[Report]) -> Result<Vec<bool, A>, AllocError>
+        requires { IsStrictlySortedBy report_cmp set.now }
+        ensures { IfOk result (λ new. new.items ≡ map (λ q. not (has report_cmp self.now q)) set.now) }
+    {
+        are_beyond(self.rows.allocator(), set, &self.rows)
     }
 
     // Whether the log and another one together have more reports than a log may have. It takes no memory.
