@@ -137,4 +137,3 @@ pub(crate) fn slot_of(spans: &[Span], identity: Identity) -> usize
     }
     before
 }
-

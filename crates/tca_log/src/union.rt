@@ -2,7 +2,7 @@
 ghost use Rattle.std.specs.Prelude.{◌≡◌, true, false, ◌+◌, ◌<◌, ◌≤◌, ◌++◌, [], List, map, not, length, IfOk, IfErr, OnOk, OnErr, IsOk, IsTrue, None};
 ghost use Rattle.std.specs.List.Sorted.{IsStrictlySortedBy};
 ghost use Rattle.tca_join.specs.Sets.{has, in_order};
-ghost use Rattle.tca_report.specs.report.Reports.{report_cmp};
+ghost use Rattle.tca_report.specs.report.Reports.{report_cmp, most_reports};
 ghost use Rattle.tca_report.specs.report.Identities.{identity_cmp};
 ghost use Rattle.tca_log.specs.Arrivals.{Many, after};
 ghost use Rattle.tca_log.specs.Disputes as disputes;
@@ -18,7 +18,9 @@ use crate::disputes::{disputes_of, disputes_where};
 use crate::fault::LogFault;
 use crate::index::index_of;
 use crate::log::Log;
-use crate::rows::{LIMIT, Rows, RowsIter, SHARE, are_beyond, ascend, count_beyond, difference, merged};
+use crate::rows::{
+    LIMIT, Rows, RowsIter, SHARE, are_beyond, ascend, count_beyond, difference, merged,
+};
 use crate::sets::set_where;
 use std::alloc::{AllocError, Allocator};
 use tca_join::Items;
@@ -115,11 +117,15 @@ impl<A: Allocator + Copy> Log<A> {
         ensures new { IfOk result (λ took. took ≡ true → self.new ≡ list.now) }
         ensures none { IfOk result (λ took. took ≡ true → self.old ≡ []) }
         ensures rises { IfOk result (λ took. took ≡ true → IsStrictlySortedBy report_cmp list.now) }
+        ensures limit { IfOk result (λ took. took ≡ true → length list.now ≤ most_reports) }
         ensures kept { IfOk result (λ took. took ≡ false → self.new ≡ self.old) }
         ensures err { OnErr result (self.new ≡ self.old) }
     {
+        if self.rows.len() > 0 || list.len() > LIMIT {
+            return Ok(false);
+        }
         let alone = all_ascend(list.as_slice());
-        if self.rows.len() > 0 || list.len() > LIMIT || !rise(list.as_slice(), alone) {
+        if !rise(list.as_slice(), alone) {
             return Ok(false);
         }
         let news = Rows::of_shared(self.rows.allocator(), list.share()?)?;

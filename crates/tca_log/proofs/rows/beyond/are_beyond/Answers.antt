@@ -16,10 +16,10 @@ loop-key-preserved g c =
     rw c.in_ok-push.ensures.items (record {
       passing = passing_next R g.met.K.Ord.total c.in-Some.key.now c.next.new.self rows c.loop-key.finder c.has.new.self was c.has.ensures.rises c.has.ensures.later;
       so_far =
-        append_assoc beyond (not c.has.result ∷ []) (map f c.next.new.self)
-        ∙ ap (λ (b : Bool). beyond ++ b ∷ map f c.next.new.self) one
-        ∙ ap (λ l. beyond ++ map f l) (sym c.in-Some.ensures.steps)
-        ∙ c.loop-key.invariant.so_far;
+          append_assoc beyond (not c.has.result ∷ []) (map f c.next.new.self)
+          ∙ ap (λ (b : Bool). beyond ++ b ∷ map f c.next.new.self) one
+          ∙ ap (λ l. beyond ++ map f l) (sym c.in-Some.ensures.steps)
+          ∙ c.loop-key.invariant.so_far;
     })
 
 pub returns : goal.returns
