@@ -71,6 +71,15 @@ impl Contents {
         if self.take_ascending(reports)? {
             return Ok(reports.len() as u64);
         }
+        self.take_by_set(reports)
+    }
+
+    // The same, by the set of the reports, which the log gets.
+    fn take_by_set(&mut self, reports: &Items<Report>) -> Result<u64, LogFault>
+        ensures state { OnOk result (self.new.replica ≡ taken self.old.replica reports.now) }
+        ensures fresh { IfOk result (λ n. n ≡ length (fresh_of self.old.replica.log reports.now)) }
+        ensures err { OnErr result (self.new.replica ≡ self.old.replica) }
+    {
         let list = Vec::from_slice(self.alloc, reports.as_slice())?;
         let set = set_of(list);
         let fresh = fresh_in(self.alloc, &self.log, &set, reports)?;

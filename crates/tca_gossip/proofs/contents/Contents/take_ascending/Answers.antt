@@ -37,8 +37,9 @@ pub returns-clause-fresh : goal.returns-clause-fresh
 returns-clause-fresh c =
     let log = c.self.inside.log in
     let reports = c.args.reports.now in
-    let rising = λ took. in_order_of_rising report_cmp report_total report_exact reports (c.in_ok-take_shared.ensures.rises took) in
-    rw (← c.self.view_is) (λ took. whole_fresh log reports reports (sym (rising c.if-not-branch.false)) (omega (arith, c.len.ensures.length, c.if-len-gt0.false)) refl)
+    let rising = in_order_of_rising report_cmp report_total report_exact reports (c.in_ok-take_shared.ensures.rises c.if-not-branch.false) in
+    let whole : fresh_of log reports ≡ reports = whole_fresh log reports reports (sym rising) (omega (arith, c.len.ensures.length, c.if-len-gt0.false)) refl in
+    rw (← c.self.view_is) (λ e. whole)
 
 pub returns-clause-state : goal.returns-clause-state
 returns-clause-state c =
