@@ -68,6 +68,18 @@ impl Contents {
         ensures fresh { IfOk result (λ n. n ≡ length (fresh_of self.old.replica.log reports.now)) }
         ensures err { OnErr result (self.new.replica ≡ self.old.replica) }
     {
+        if self.take_ascending(reports)? {
+            return Ok(reports.len() as u64);
+        }
+        self.take_by_set(reports)
+    }
+
+    // The same, by the set of the reports, which the log gets.
+    fn take_by_set(&mut self, reports: &Items<Report>) -> Result<u64, LogFault>
+        ensures state { OnOk result (self.new.replica ≡ taken self.old.replica reports.now) }
+        ensures fresh { IfOk result (λ n. n ≡ length (fresh_of self.old.replica.log reports.now)) }
+        ensures err { OnErr result (self.new.replica ≡ self.old.replica) }
+    {
         let list = Vec::from_slice(self.alloc, reports.as_slice())?;
         let set = set_of(list);
         let fresh = fresh_in(self.alloc, &self.log, &set, reports)?;
@@ -75,6 +87,26 @@ impl Contents {
             return Ok(0);
         }
         self.put_fresh(fresh, set)
+    }
+
+    // Takes all reports of a list that ascends, where none is held yet, and answers whether it did. The log and the own chain share the list.
+    fn take_ascending(&mut self, reports: &Items<Report>) -> Result<bool, AllocError>
+        ensures state { IfOk result (λ took. took ≡ true → self.new.replica ≡ taken self.old.replica reports.now) }
+        ensures fresh { IfOk result (λ took. took ≡ true → fresh_of self.old.replica.log reports.now ≡ reports.now) }
+        ensures kept { IfOk result (λ took. took ≡ false → self.new.replica ≡ self.old.replica) }
+        ensures err { OnErr result (self.new.replica ≡ self.old.replica) }
+    {
+        let mut log = Log::new(self.alloc);
+        if self.log.len() > 0 || !log.take_shared(reports)? {
+            return Ok(false);
+        }
+        let mut chains = self.chains.copy()?;
+        extend(&mut chains, self.name, reports.share()?)?;
+        let _rises = chains.keys();
+        self.log = log;
+        self.billing.release(self.alloc);
+        self.chains = chains;
+        Ok(true)
     }
 
     // Puts reports that are new at the end of the own chain, and their set, which may have more that is held already, into the log; all

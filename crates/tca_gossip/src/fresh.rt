@@ -1,5 +1,5 @@
 //! Which reports of a list are new to a log at their turn.
-ghost use Rattle.std.specs.Prelude.{◌≡◌, ◌<◌, IfOk, Some, length, map, not, slice_get, true};
+ghost use Rattle.std.specs.Prelude.{◌≡◌, ◌<◌, IfOk, Some, length, slice_get, true};
 ghost use Rattle.std.specs.List.Sorted.{IsStrictlySortedBy};
 ghost use Rattle.tca_join.specs.Sets.{has, in_order};
 ghost use Rattle.tca_report.specs.report.Reports.{report_cmp};
@@ -9,17 +9,6 @@ use std::alloc::{AllocError, Global};
 use tca_join::Items;
 use tca_log::Log;
 use tca_report::Report;
-
-// Of each report of a set, whether a log doesn't have it.
-fn news_in(alloc: Global, log: &Log, set: &[Report]) -> Result<Vec<bool>, AllocError>
-    ensures { IfOk result (λ is_new. is_new.items ≡ map (λ q. not (has report_cmp log.now q)) set.now) }
-{
-    let mut is_new = Vec::with_capacity(alloc, set.len())?;
-    for report in set {
-        is_new.push(!log.contains(report))?;
-    }
-    Ok(is_new)
-}
 
 // Where a report of a set stands. It is looked for at a likely place first.
 fn place_of(set: &[Report], likely: usize, report: &Report) -> usize
@@ -45,7 +34,7 @@ fn fresh_among(
     requires { set.now ≡ in_order report_cmp reports.now }
     ensures { IfOk result (λ fresh. fresh.items ≡ fresh_of log.now reports.now) }
 {
-    let mut is_new = news_in(alloc, log, set)?;
+    let mut is_new = log.are_new(set)?;
     let mut fresh = Vec::new(alloc);
     let mut next = 0;
     for report in reports {

@@ -12,3 +12,4 @@ pub mod OrderedRows
 pub mod Filters
 pub mod Next
 pub mod Marked
+pub mod Slots

@@ -1,4 +1,4 @@
--- A mark for each place of a span: how many reports have its identity, up to 2.
+-- A mark for each place of some spans: how many reports have its identity, up to 2.
 use Rattle.std.proofs.Common.{◌≡◌, ℕ, ◌+◌, ◌-◌, ◌<◌, Bool, true, false, ◌||◌, cond, List, [], ◌∷◌, ◌++◌, length, get_or, set, replicate, refl, sym, ap, ◌∙◌, arith, get_or-set_same, get_or-set_other}
 use Rattle.std.specs.Prelude.{min, nat_lt, nat_eq, ◌≢◌}
 use Rattle.std.specs.List.{AllByRecursion}
@@ -16,21 +16,22 @@ use Rattle.tca_report.proofs.lemmas.report.Identities.{identity_exact}
 use Rattle.tca_log.specs.declared.span.Span.{Span}
 use Rattle.tca_log.specs.Disputes.{contents}
 use Rattle.tca_log.specs.inside.Logs.{count_at}
-use Rattle.tca_log.specs.inside.Spans.{IsWithin, one_more}
+use Rattle.tca_log.specs.inside.Spans.{IsAmong, one_more, slot, widths}
 use Rattle.tca_log.proofs.Contents.{tests_alike}
 use Rattle.tca_log.proofs.ReportAdditions.{count_snoc}
+use Rattle.tca_log.proofs.Slots.{slot_apart, slot_within}
 
 -- the marks, and the identities that two or more have, of reports that were seen
-pub record AreMarked (span : Span) (seen : List PacketReport) (marks : List ℕ) (again : List Identity) : Type 0 where
-  pub size : length marks ≡ (span.highest - span.lowest) + 1
-  pub counted : (i : Identity) → IsWithin span i → get_or marks (i.place - span.lowest) 0 ≡ min 2 (count_at seen i)
+pub record AreMarked (spans : List Span) (seen : List PacketReport) (marks : List ℕ) (again : List Identity) : Type 0 where
+  pub size : length marks ≡ widths spans
+  pub counted : (i : Identity) → IsAmong spans i → get_or marks (slot spans i) 0 ≡ min 2 (count_at seen i)
   pub twice : (i : Identity) → has identity_cmp again i ≡ nat_lt 1 (count_at seen i)
 
-pub marked_none : (span : Span) → AreMarked span [] (replicate ((span.highest - span.lowest) + 1) 0) []
+pub marked_none : (spans : List Span) → AreMarked spans [] (replicate (widths spans) 0) []
 unfolding contents has
-marked_none span = record {
-  size = length-replicate ((span.highest - span.lowest) + 1) 0;
-  counted = λ i w. get_or-replicate ((span.highest - span.lowest) + 1) (i.place - span.lowest) 0 0 (omega (arith, w.from, w.to));
+marked_none spans = record {
+  size = length-replicate (widths spans) 0;
+  counted = λ i w. get_or-replicate (widths spans) (slot spans i) 0 0 (slot_within spans i w);
   twice = λ i. refl;
 }
 
@@ -41,21 +42,17 @@ one_more_is n =
       | false ↦ λ e. let high = ltb-false (min 2 n) 2 e in omega (arith, high)
     ] refl
 
-module _ (span : Span) (seen : List PacketReport) (marks new : List ℕ) (again more : List Identity) (r : PacketReport) (so_far : AreMarked span seen marks again) (within : IsWithin span (identity_of r))
-    (marked : new ≡ set marks (r.place - span.lowest) (one_more (get_or marks (r.place - span.lowest) 0)))
-    (gains : more ≡ cond (nat_eq (get_or marks (r.place - span.lowest) 0) 1) (again ++ identity_of r ∷ []) again) where
-  was : get_or marks (r.place - span.lowest) 0 ≡ min 2 (count_at seen (identity_of r))
+module _ (spans : List Span) (seen : List PacketReport) (marks new : List ℕ) (again more : List Identity) (r : PacketReport) (so_far : AreMarked spans seen marks again) (within : IsAmong spans (identity_of r))
+    (marked : new ≡ set marks (slot spans (identity_of r)) (one_more (get_or marks (slot spans (identity_of r)) 0)))
+    (gains : more ≡ cond (nat_eq (get_or marks (slot spans (identity_of r)) 0) 1) (again ++ identity_of r ∷ []) again) where
+  was : get_or marks (slot spans (identity_of r)) 0 ≡ min 2 (count_at seen (identity_of r))
   was = so_far.counted (identity_of r) within
 
   tied : (i : Identity) → i ≡ identity_of r → eq_by_cmp identity_cmp i (identity_of r) ≡ true
   tied i same = ap (λ (x : Identity). eq_by_cmp identity_cmp x (identity_of r)) same ∙ ap is_eq (tied_itself identity_total (identity_of r))
 
-  elsewhere : (i : Identity) → IsWithin span i → eq_by_cmp identity_cmp i (identity_of r) ≡ false → i.place ≡ r.place → ⊥
-  elsewhere i w apart at =
-      let d : i.domain ≡ r.domain = w.domain ∙ sym within.domain in
-      let s : i.session ≡ r.session = w.session ∙ sym within.session in
-      let same : i ≡ identity_of r = λ j. record { domain = d j; session = s j; place = at j } in
-      false≢true (sym apart ∙ tied i same)
+  elsewhere : (i : Identity) → IsAmong spans i → eq_by_cmp identity_cmp i (identity_of r) ≡ false → slot spans i ≡ slot spans (identity_of r) → ⊥
+  elsewhere i w apart at = false≢true (sym apart ∙ tied i (slot_apart spans i (identity_of r) w within at))
 
   count_same : (i : Identity) → eq_by_cmp identity_cmp i (identity_of r) ≡ true → count_at (seen ++ r ∷ []) i ≡ count_at seen i + 1
   count_same i e = count_snoc seen r i ∙ ap (λ (b : Bool). count_at seen i + cond b 1 0) e
@@ -66,25 +63,26 @@ module _ (span : Span) (seen : List PacketReport) (marks new : List ℕ) (again 
   exact : (i : Identity) → eq_by_cmp identity_cmp i (identity_of r) ≡ true → i ≡ identity_of r
   exact i e = identity_exact i (identity_of r) ((Equal-is (identity_cmp i (identity_of r))).0 e)
 
-  at_it : get_or new (r.place - span.lowest) 0 ≡ min 2 (count_at seen (identity_of r) + 1)
+  at_it : get_or new (slot spans (identity_of r)) 0 ≡ min 2 (count_at seen (identity_of r) + 1)
   at_it =
-      let inside : r.place - span.lowest < length marks = omega (arith, within.from, within.to, so_far.size) in
-      ap (λ (l : List ℕ). get_or l (r.place - span.lowest) 0) marked
-      ∙ get_or-set_same marks (r.place - span.lowest) (one_more (get_or marks (r.place - span.lowest) 0)) 0 inside
+      let number = slot_within spans (identity_of r) within in
+      let inside : slot spans (identity_of r) < length marks = omega (arith, number, so_far.size) in
+      ap (λ (l : List ℕ). get_or l (slot spans (identity_of r)) 0) marked
+      ∙ get_or-set_same marks (slot spans (identity_of r)) (one_more (get_or marks (slot spans (identity_of r)) 0)) 0 inside
       ∙ ap one_more was
       ∙ one_more_is (count_at seen (identity_of r))
 
-  counted_more : (i : Identity) → IsWithin span i → get_or new (i.place - span.lowest) 0 ≡ min 2 (count_at (seen ++ r ∷ []) i)
+  counted_more : (i : Identity) → IsAmong spans i → get_or new (slot spans i) 0 ≡ min 2 (count_at (seen ++ r ∷ []) i)
   counted_more i w = by (eq_by_cmp identity_cmp i (identity_of r)) refl
     where
-      by : (b : Bool) → eq_by_cmp identity_cmp i (identity_of r) ≡ b → get_or new (i.place - span.lowest) 0 ≡ min 2 (count_at (seen ++ r ∷ []) i)
+      by : (b : Bool) → eq_by_cmp identity_cmp i (identity_of r) ≡ b → get_or new (slot spans i) 0 ≡ min 2 (count_at (seen ++ r ∷ []) i)
       by true e =
           let same = exact i e in
-          ap (λ (x : Identity). get_or new (x.place - span.lowest) 0) same ∙ at_it ∙ ap (λ (x : Identity). min 2 (count_at seen x + 1)) (sym same) ∙ ap (min 2) (sym (count_same i e))
+          ap (λ (x : Identity). get_or new (slot spans x) 0) same ∙ at_it ∙ ap (λ (x : Identity). min 2 (count_at seen x + 1)) (sym same) ∙ ap (min 2) (sym (count_same i e))
       by false e =
-          let apart : (i.place - span.lowest) ≢ (r.place - span.lowest) = λ at. elsewhere i w e (omega (arith, at, w.from, within.from)) in
-          ap (λ (l : List ℕ). get_or l (i.place - span.lowest) 0) marked
-          ∙ get_or-set_other marks (r.place - span.lowest) (i.place - span.lowest) (one_more (get_or marks (r.place - span.lowest) 0)) 0 apart
+          let apart : (slot spans i) ≢ (slot spans (identity_of r)) = λ at. elsewhere i w e at in
+          ap (λ (l : List ℕ). get_or l (slot spans i) 0) marked
+          ∙ get_or-set_other marks (slot spans (identity_of r)) (slot spans i) (one_more (get_or marks (slot spans (identity_of r)) 0)) 0 apart
           ∙ so_far.counted i w
           ∙ ap (min 2) (sym (count_other i e))
 
@@ -121,14 +119,14 @@ module _ (span : Span) (seen : List PacketReport) (marks new : List ℕ) (again 
   twice_more : (i : Identity) → has identity_cmp more i ≡ nat_lt 1 (count_at (seen ++ r ∷ []) i)
   twice_more i =
       ap (λ (l : List Identity). has identity_cmp l i) gains
-      ∙ elim (nat_eq (get_or marks (r.place - span.lowest) 0) 1) as (λ b. nat_eq (get_or marks (r.place - span.lowest) 0) 1 ≡ b → has identity_cmp (cond b (again ++ identity_of r ∷ []) again) i ≡ nat_lt 1 (count_at (seen ++ r ∷ []) i)) [
-        | true ↦ λ e. let m = eqb-true (get_or marks (r.place - span.lowest) 0) 1 e in pushed (omega (arith, m, was)) i
-        | false ↦ λ e. let m = eqb-false (get_or marks (r.place - span.lowest) 0) 1 e in kept (λ one. m (omega (arith, one, was))) i
+      ∙ elim (nat_eq (get_or marks (slot spans (identity_of r)) 0) 1) as (λ b. nat_eq (get_or marks (slot spans (identity_of r)) 0) 1 ≡ b → has identity_cmp (cond b (again ++ identity_of r ∷ []) again) i ≡ nat_lt 1 (count_at (seen ++ r ∷ []) i)) [
+        | true ↦ λ e. let m = eqb-true (get_or marks (slot spans (identity_of r)) 0) 1 e in pushed (omega (arith, m, was)) i
+        | false ↦ λ e. let m = eqb-false (get_or marks (slot spans (identity_of r)) 0) 1 e in kept (λ one. m (omega (arith, one, was))) i
       ] refl
 
-  pub marked_more : AreMarked span (seen ++ r ∷ []) new more
+  pub marked_more : AreMarked spans (seen ++ r ∷ []) new more
   marked_more = record {
-    size = ap length marked ∙ length-set marks (r.place - span.lowest) (one_more (get_or marks (r.place - span.lowest) 0)) ∙ so_far.size;
+    size = ap length marked ∙ length-set marks (slot spans (identity_of r)) (one_more (get_or marks (slot spans (identity_of r)) 0)) ∙ so_far.size;
     counted = counted_more;
     twice = twice_more;
   }

@@ -28,6 +28,7 @@ pub mod rows;
 mod sets;
 mod settled;
 mod span;
+mod spans;
 mod union;
 
 pub use answer::Added;

@@ -19,7 +19,7 @@ mod merge;
 mod order;
 mod rising;
 
-pub(crate) use beyond::{count_beyond, difference};
+pub(crate) use beyond::{are_beyond, count_beyond, difference};
 use chunk::{CHUNK, Chunk};
 pub use iter::RowsIter;
 use locate::{count_of, from_row, position};
@@ -28,6 +28,7 @@ pub(crate) use order::ascend;
 pub(crate) use rising::{are_among, rising_first, sort_behind};
 use std::alloc::{AllocError, Allocator, Global};
 use std::marker::Model;
+use tca_join::Items;
 
 /// The most rows of a container.
 pub const LIMIT: usize = 4_194_304;
@@ -82,6 +83,26 @@ impl<K: Ord + Copy, A: Allocator + Copy> Rows<K, A> {
         }
         let mut chunks = Vec::new(alloc);
         chunks.push(Chunk::of_list(alloc, rows)?)?;
+        Ok(Rows {
+            chunks,
+            spare: None,
+            count,
+        })
+    }
+
+    /// A container of the rows of a list that others hold too, which ascend. It takes memory for a copy, and copies nothing before a row is
+    /// put or withdrawn.
+    pub(crate) fn of_shared(alloc: A, list: Items<K, A>) -> Result<Rows<K, A>, AllocError>
+        requires rises { IsStrictlySortedBy K.cmp list }
+        requires few { length list ≤ most_rows }
+        ensures { IfOk result (λ all. all.rows ≡ list) }
+    {
+        let count = list.len();
+        if count == 0 {
+            return Ok(Rows::new(alloc));
+        }
+        let mut chunks = Vec::new(alloc);
+        chunks.push(Chunk::of_shared(alloc, list)?)?;
         Ok(Rows {
             chunks,
             spare: None,

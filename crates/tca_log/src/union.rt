@@ -1,8 +1,8 @@
 //! Many reports at once: all of them or none.
-ghost use Rattle.std.specs.Prelude.{◌≡◌, ◌+◌, ◌<◌, ◌≤◌, ◌++◌, [], List, map, length, IfOk, IfErr, OnOk, OnErr, IsOk, IsTrue, None};
+ghost use Rattle.std.specs.Prelude.{◌≡◌, true, false, ◌+◌, ◌<◌, ◌≤◌, ◌++◌, [], List, map, not, length, IfOk, IfErr, OnOk, OnErr, IsOk, IsTrue, None};
 ghost use Rattle.std.specs.List.Sorted.{IsStrictlySortedBy};
-ghost use Rattle.tca_join.specs.Sets.{in_order};
-ghost use Rattle.tca_report.specs.report.Reports.{report_cmp};
+ghost use Rattle.tca_join.specs.Sets.{has, in_order};
+ghost use Rattle.tca_report.specs.report.Reports.{report_cmp, most_reports};
 ghost use Rattle.tca_report.specs.report.Identities.{identity_cmp};
 ghost use Rattle.tca_log.specs.Arrivals.{Many, after};
 ghost use Rattle.tca_log.specs.Disputes as disputes;
@@ -18,9 +18,12 @@ use crate::disputes::{disputes_of, disputes_where};
 use crate::fault::LogFault;
 use crate::index::index_of;
 use crate::log::Log;
-use crate::rows::{LIMIT, Rows, RowsIter, SHARE, count_beyond, difference, merged};
+use crate::rows::{
+    LIMIT, Rows, RowsIter, SHARE, are_beyond, ascend, count_beyond, difference, merged,
+};
 use crate::sets::set_where;
 use std::alloc::{AllocError, Allocator};
+use tca_join::Items;
 use tca_report::{Identity, Report};
 
 impl<A: Allocator + Copy> Log<A> {
@@ -63,6 +66,14 @@ impl<A: Allocator + Copy> Log<A> {
         count_new(&self.rows, set)
     }
 
+    /// Which reports of a set the log doesn't have, in their order. Where they are many it goes through both once.
+    pub fn are_new(&self, set: &[Report]) -> Result<Vec<bool, A>, AllocError>
+        requires { IsStrictlySortedBy report_cmp set.now }
+        ensures { IfOk result (λ new. new.items ≡ map (λ q. not (has report_cmp self.now q)) set.now) }
+    {
+        are_beyond(self.rows.allocator(), set, &self.rows)
+    }
+
     // Whether the log and another one together have more reports than a log may have. It takes no memory.
     pub(crate) fn is_over_with(&self, other: &Log<A>) -> bool
         ensures { result ≡ log_full self.now other.now }
@@ -96,6 +107,45 @@ impl<A: Allocator + Copy> Log<A> {
         )?;
         Ok(new as u32)
     }
+}
+
+impl<A: Allocator + Copy> Log<A> {
+    /// Takes the reports of a list, where it has none and they ascend, and answers whether it did. It holds the list with its other owners
+    /// then, and takes memory for a copy, but makes none before another report comes. `Memory` where a growth was refused, which
+    /// leaves the log as it was.
+    pub fn take_shared(&mut self, list: &Items<Report, A>) -> Result<bool, AllocError>
+        ensures new { IfOk result (λ took. took ≡ true → self.new ≡ list.now) }
+        ensures none { IfOk result (λ took. took ≡ true → self.old ≡ []) }
+        ensures rises { IfOk result (λ took. took ≡ true → IsStrictlySortedBy report_cmp list.now) }
+        ensures limit { IfOk result (λ took. took ≡ true → length list.now ≤ most_reports) }
+        ensures kept { IfOk result (λ took. took ≡ false → self.new ≡ self.old) }
+        ensures err { OnErr result (self.new ≡ self.old) }
+    {
+        if self.rows.len() > 0 || list.len() > LIMIT {
+            return Ok(false);
+        }
+        let alone = all_ascend(list.as_slice());
+        if !rise(list.as_slice(), alone) {
+            return Ok(false);
+        }
+        let news = Rows::of_shared(self.rows.allocator(), list.share()?)?;
+        take_in(
+            &mut self.rows,
+            &mut self.index,
+            &mut self.disputed,
+            news,
+            alone,
+        )?;
+        Ok(true)
+    }
+}
+
+// Whether reports ascend, which may be known.
+fn rise(reports: &[Report], ascends: bool) -> bool
+    requires { IsTrue ascends → IsStrictlySortedBy report_cmp reports.now }
+    ensures { IsTrue result → IsStrictlySortedBy report_cmp reports.now }
+{
+    ascends || ascend(reports)
 }
 
 // Whether there are no rows, and the reports ascend so that no two have one identity.

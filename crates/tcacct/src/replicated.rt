@@ -43,20 +43,21 @@ fn check_held(reports: Vec<Report>, log: &Log) -> Result<Vec<Report>, RunFault>
     Ok(reports)
 }
 
-// All reports in order, where they are those of the log.
-fn compare(alloc: Global, log: &Log, lists: Vec<Items<Report>>) -> Result<Vec<Report>, RunFault>
+// All reports in order, where they are those of the log. The log goes before the lists are taken, since it may hold one of them too.
+fn compare(alloc: Global, log: Log, lists: Vec<Items<Report>>) -> Result<Vec<Report>, RunFault>
     ensures whole { IfOk result (λ list. list.items ≡ union_of lists.items) }
-    ensures held { IfOk result (λ list. list.items ≡ log.now) }
+    ensures held { IfOk result (λ list. list.items ≡ log) }
     ensures rises { IfOk result (λ list. IsStrictlySortedBy report_cmp list.items) }
     ensures limit { IfOk result (λ list. length list.items ≤ most_reports) }
-    ensures differs { IfErr result (λ e. e ≢ memory_refusal → (e ≡ refusal None family.Close 3) × (union_of lists.items ≢ log.now)) }
+    ensures differs { IfErr result (λ e. e ≢ memory_refusal → (e ≡ refusal None family.Close 3) × (union_of lists.items ≢ log)) }
     ensures refused { IfErr result IsExchangeRefused }
 {
-    if are_log(&lists, log) {
+    if are_log(&lists, &log) {
+        drop(log);
         return Ok(chain_all(alloc, lists)?);
     }
     let reports = union_of(alloc, lists)?;
-    check_held(reports, log)
+    check_held(reports, &log)
 }
 
 // Whether the lists, one after another, are the reports of a log in their order. Then no union has to be made.
@@ -149,7 +150,7 @@ fn bill_replicas<R: Threads + Wait + Sync, G: Gate>(
     let statement = statement_of(setting.alloc, &plan, &replica)?;
     // The chains go, so that nobody else holds the lists of the answers.
     let log = replica.into_log();
-    let reports = compare(setting.alloc, &log, readings.lists)?;
+    let reports = compare(setting.alloc, log, readings.lists)?;
     Ok(Prepared {
         statement,
         reports,

@@ -1,5 +1,5 @@
 -- A set as a list of chunks. No public contract cites this: it serves the container's fields and its proofs alone.
-use Rattle.std.specs.Prelude.{◌≡◌, ℕ, ◌+◌, ◌<◌, ◌≤◌, Bool, true, false, List, [], ◌∷◌, length, get_or, Option, IfSome, is_some}
+use Rattle.std.specs.Prelude.{◌≡◌, ℕ, ◌+◌, ◌<◌, ◌≤◌, Bool, true, false, List, [], ◌∷◌, length, get_or, Option, Some, None, IfSome, is_some}
 use Rattle.std.specs.List.{flat_map, All}
 use Rattle.std.specs.List.Sorted.{IsStrictlySortedBy}
 use Rattle.std.specs.Ordering.{is_lt}
@@ -10,6 +10,17 @@ use Rattle.tca_log.specs.Rows.Ordered.{most_rows}
 abbrev pub starts_after : {K : Type 0} → (K → K → Ordering) → K → List K → Bool
 starts_after R k [] = false
 starts_after R k (x ∷ xs) = is_lt (R k x)
+
+-- the rows of a chunk: those of the list that it shares, if there is one
+abbrev pub rows_of : {K : Type 0} → Option (List K) → List K → List K
+rows_of (Some list) own = list
+rows_of None own = own
+
+-- a chunk has room for 256 rows, and where it shares a list for all of these, and has none of its own
+pub record IsStored {K : Type 0} (shared : Option (List K)) (own : List K) (capacity : ℕ) : Type 0 where
+  pub room : 256 ≤ capacity
+  pub none : IfSome shared (λ list. own ≡ [])
+  pub fits : IfSome shared (λ list. length list ≤ capacity)
 
 -- the chunks, one after another
 abbrev pub joined : {K : Type 0} → List (List K) → List K

@@ -1,5 +1,5 @@
 //! Which of some keys, in order, tie with no row of a container.
-ghost use Rattle.std.specs.Prelude.{◌≡◌, ◌≤◌, IfOk, IsOk, length};
+ghost use Rattle.std.specs.Prelude.{◌≡◌, ◌≤◌, IfOk, IsOk, length, map, not};
 ghost use Rattle.std.specs.List.Sorted.{IsStrictlySortedBy};
 ghost use Rattle.std.specs.declared.cmp.Ordering.TheVariants.{Less};
 ghost use Rattle.tca_join.specs.Sets.{has};
@@ -97,4 +97,22 @@ pub(crate) fn difference<K: Ord + Copy, A: Allocator + Copy>(
         }
     }
     Rows::of_ascending(alloc, rest)
+}
+
+/// Which of some keys tie with no row, in the order of the keys.
+pub(crate) fn are_beyond<K: Ord + Copy, A: Allocator + Copy>(
+    alloc: A,
+    keys: &[K],
+    rows: &Rows<K, A>,
+) -> Result<Vec<bool, A>, AllocError>
+    requires { IsStrictlySortedBy K.cmp keys.now }
+    ensures { IfOk result (λ beyond. beyond.items ≡ map (λ q. not (has K.cmp rows.now.rows q)) keys.now) }
+{
+    let mut finder = Finder::new(rows, keys.len());
+    let mut beyond = Vec::with_capacity(alloc, keys.len())?;
+    let left: RowsIter<'_, K, A> = RowsIter::of(keys);
+    for key in left {
+        beyond.push(!finder.has(key))?;
+    }
+    Ok(beyond)
 }

@@ -1,31 +1,35 @@
 //! A run of a container's rows that lie side by side in memory.
-ghost use Rattle.std.specs.Prelude.{◌≡◌, ℕ, true, false, ◌+◌, ◌-◌, ◌<◌, ◌≤◌, [], ◌∷◌, ◌++◌, length, IfOk, IfErr, OnOk, OnErr, IsTrue, take, drop, Some, None, MatchResult, get_or, option_copied};
+ghost use Rattle.std.specs.Prelude.{◌≡◌, ℕ, true, false, ◌+◌, ◌-◌, ◌<◌, ◌≤◌, [], ◌∷◌, ◌++◌, length, IfOk, IfErr, OnOk, OnErr, IsTrue, take, drop, Some, None, MatchResult, get_or, option_copied, vec_capacity};
 ghost use Rattle.std.specs.List.{insert, remove};
 ghost use Rattle.std.specs.List.Sorted.{IsStrictlySortedBy, IsSearchInRange};
 ghost use Rattle.tca_join.specs.Sets.{put};
-ghost use Rattle.tca_log.specs.inside.Chunks.{starts_after};
+ghost use Rattle.tca_log.specs.inside.Chunks.{IsStored, rows_of, starts_after};
 ghost use Rattle.tca_log.specs.Rows.Ordered.{without, rank, tied};
 
 use std::alloc::{AllocError, Allocator};
 use std::marker::Model;
+use tca_join::Items;
 
 /// How many rows a chunk has room for.
 pub const CHUNK: usize = 256;
 
-/// Some rows in order, with room for 256 at least. A list of more rows may be one chunk, until a row is put.
+/// Some rows in order, with room for 256 at least. A list of more rows may be one chunk, until a row is put. That list may be one that
+/// others hold too: then the chunk has no rows of its own but room for all of them, into which they are copied where they have to change.
 #[derive(Drop)]
 pub struct Chunk<K: Ord + Copy, A: Allocator> {
     rows: Vec<K, A>,
+    shared: Option<Items<K, A>>,
 }
 
 impl<K: Ord + Copy, A: Allocator> Model for Chunk<K, A> {
-    ghost use Rattle.std.specs.Prelude.{List, ◌≤◌, vec_capacity};
+    ghost use Rattle.std.specs.Prelude.{List, vec_capacity};
+    ghost use Rattle.tca_log.specs.inside.Chunks.{IsStored, rows_of};
 
     ghost Value = { List K };
 
-    ghost view = { λ c. c.rows.items };
+    ghost view = { λ c. rows_of c.shared c.rows.items };
 
-    ghost invariant = { λ c. 256 ≤ vec_capacity c.rows };
+    ghost invariant = { λ c. IsStored c.shared c.rows.items (vec_capacity c.rows) };
 }
 
 impl<K: Ord + Copy, A: Allocator> Chunk<K, A> {
@@ -35,6 +39,7 @@ impl<K: Ord + Copy, A: Allocator> Chunk<K, A> {
     {
         Ok(Chunk {
             rows: Vec::with_capacity(alloc, CHUNK)?,
+            shared: None,
         })
     }
 
@@ -45,7 +50,10 @@ impl<K: Ord + Copy, A: Allocator> Chunk<K, A> {
     {
         let mut chunk = Vec::with_capacity(alloc, CHUNK)?;
         chunk.extend_from_slice(rows)?;
-        Ok(Chunk { rows: chunk })
+        Ok(Chunk {
+            rows: chunk,
+            shared: None,
+        })
     }
 
     /// A chunk that is this list, which it copies only where the list has no room for 256.
@@ -55,35 +63,53 @@ impl<K: Ord + Copy, A: Allocator> Chunk<K, A> {
         if rows.capacity() < CHUNK {
             return Chunk::of(alloc, &rows);
         }
-        Ok(Chunk { rows })
+        Ok(Chunk { rows, shared: None })
+    }
+
+    /// A chunk that is this list, which others hold too. It takes memory for a copy, and copies nothing yet.
+    pub(crate) fn of_shared(alloc: A, list: Items<K, A>) -> Result<Chunk<K, A>, AllocError>
+        ensures { IfOk result (λ c. c ≡ list) }
+    {
+        Ok(Chunk {
+            rows: Vec::with_capacity(alloc, list.len().max(CHUNK))?,
+            shared: Some(list),
+        })
     }
 
     /// How many rows there are.
     pub(crate) fn len(&self) -> usize
         ensures { result ≡ length self.now }
     {
-        self.rows.len()
+        self.rows().len()
     }
 
     /// The rows in order.
     pub(crate) fn rows(&self) -> &[K]
         ensures { result.now ≡ self.now }
     {
-        &self.rows
+        match &self.shared {
+            Some(list) => list.as_slice(),
+            None => &self.rows,
+        }
     }
 
     /// The list of its rows.
     pub(crate) fn into_list(self) -> Vec<K, A>
         ensures { result.items ≡ self }
     {
-        self.rows
+        let Chunk {
+            mut rows,
+            mut shared,
+        } = self;
+        copy_shared(&mut rows, &mut shared);
+        rows
     }
 
     /// Whether its first row comes after this one.
     pub(crate) fn starts_after(&self, key: &K) -> bool
         ensures { result ≡ starts_after K.cmp key.now self.now }
     {
-        match self.rows.first() {
+        match self.rows().first() {
             Some(first) => key.cmp(first).is_lt(),
             None => false,
         }
@@ -101,7 +127,7 @@ impl<K: Ord + Copy, A: Allocator> Chunk<K, A> {
         ensures same { OnErr result (without K.cmp key.now self.now ≡ self.now) }
         ensures rank { MatchResult result (λ at. at ≡ rank K.cmp key.now self.now) (λ at. at ≡ rank K.cmp key.now self.now) }
     {
-        self.rows.binary_search(key)
+        self.rows().binary_search(key)
     }
 
     /// How many rows come before this one.
@@ -125,7 +151,7 @@ impl<K: Ord + Copy, A: Allocator> Chunk<K, A> {
             return None;
         }
         match self.search(key) {
-            Ok(at) => Some(&self.rows[at]),
+            Ok(at) => Some(&self.rows()[at]),
             Err(_) => None,
         }
     }
@@ -139,6 +165,7 @@ impl<K: Ord + Copy, A: Allocator> Chunk<K, A> {
         if self.ends_before(&key) {
             self.push(key);
         } else if let Err(at) = self.search(&key) {
+            copy_shared(&mut self.rows, &mut self.shared);
             let _ = self.rows.insert(at, key);
         }
     }
@@ -149,6 +176,7 @@ impl<K: Ord + Copy, A: Allocator> Chunk<K, A> {
         ensures { self.new ≡ without K.cmp key.now self.old }
     {
         if let Ok(at) = self.search(key) {
+            copy_shared(&mut self.rows, &mut self.shared);
             let _ = self.rows.remove(at);
         }
     }
@@ -158,6 +186,7 @@ impl<K: Ord + Copy, A: Allocator> Chunk<K, A> {
         requires { length self.old < 256 }
         ensures { self.new ≡ self.old ++ key ∷ [] }
     {
+        copy_shared(&mut self.rows, &mut self.shared);
         let _ = self.rows.push(key);
     }
 
@@ -167,7 +196,7 @@ impl<K: Ord + Copy, A: Allocator> Chunk<K, A> {
         ensures put { IsTrue result → put K.cmp key.now self.now ≡ self.now ++ key.now ∷ [] }
         ensures none { IsTrue result → tied K.cmp key.now self.now ≡ None }
     {
-        match self.rows.last() {
+        match self.rows().last() {
             Some(last) => last.cmp(key).is_lt(),
             None => true,
         }
@@ -205,8 +234,22 @@ impl<K: Ord + Copy, A: Allocator> Chunk<K, A> {
         ensures lower { length self.old ≡ 256 → length self.new ≡ 128 }
         ensures upper { length self.old ≡ 256 → length upper.new ≡ 128 }
     {
+        copy_shared(&mut self.rows, &mut self.shared);
+        copy_shared(&mut upper.rows, &mut upper.shared);
         let half = self.rows.len() / 2;
         let _ = upper.rows.extend_from_slice(&self.rows[half..]);
         self.rows.truncate(half);
+    }
+}
+
+// Copies the rows of a shared list into a chunk's own room, if it has one. It takes no memory.
+fn copy_shared<K: Copy, A: Allocator>(rows: &mut Vec<K, A>, shared: &mut Option<Items<K, A>>)
+    requires { IsStored shared.old rows.old.items (vec_capacity rows.old) }
+    ensures rows { rows.new.items ≡ rows_of shared.old rows.old.items }
+    ensures own { shared.new ≡ None }
+    ensures room { vec_capacity rows.old ≤ vec_capacity rows.new }
+{
+    if let Some(list) = shared.take() {
+        let _ = rows.extend_from_slice(list.as_slice());
     }
 }

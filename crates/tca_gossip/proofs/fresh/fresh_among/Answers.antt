@@ -6,6 +6,9 @@ use Rattle.tca_gossip.proofs.fresh.fresh_among.Goals.{then-index+in_ok-push, els
 pub loop-report-init : goal.loop-report-init
 loop-report-init c = record { left = c.in_ok-is_new.ensures ∙ open_first c.args.log.now c.args.set.now; fresh_is = c.new-fresh.ensures.items ∙ none_first c.args.log.now }
 
+pub are_new-requires : goal.are_new-requires
+are_new-requires c = set_rises c.args.set.now c.args.reports.now c.requires
+
 pub place_of-at-requires-clause-rises : goal.place_of-at-requires-clause-rises
 place_of-at-requires-clause-rises c = set_rises c.args.set.now c.args.reports.now c.requires
 

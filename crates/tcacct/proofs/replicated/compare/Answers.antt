@@ -29,29 +29,29 @@ returns-clause-limit c =
 
 pub returns-clause-refused : goal.returns-clause-refused
 returns-clause-refused c =
-    IfErr-weaker c.check_held.result (λ e. (e ≡ refusal None family.Close 3) × (c.in_ok-reports.reports.items ≢ c.args.log.now)) IsExchangeRefused
+    IfErr-weaker c.check_held.result (λ e. (e ≡ refusal None family.Close 3) × (c.in_ok-reports.reports.items ≢ c.args.log)) IsExchangeRefused
     (λ e h. in_run e (of_close e (Clash 0) h.0)) c.check_held.ensures.differs
 
 pub returns-then-are_log-clause-whole : goal.returns-then-are_log-clause-whole
 returns-then-are_log-clause-whole c =
-    let held : flat_map (λ rs. rs) c.args.lists.items ≡ c.args.log.now = subst (λ (ls : List (List PacketReport)). flat_map (λ rs. rs) ls ≡ c.args.log.now) c.deref.ensures.value (c.are_log.ensures.chained c.if-are_log.true) in
-    let union : union_of c.args.lists.items ≡ c.args.log.now = subst (λ (ls : List (List PacketReport)). union_of ls ≡ c.args.log.now) c.deref.ensures.value (c.are_log.ensures.union c.if-are_log.true) in
+    let held : flat_map (λ rs. rs) c.args.lists.items ≡ c.args.log = subst (λ (ls : List (List PacketReport)). flat_map (λ rs. rs) ls ≡ c.args.log) c.deref.ensures.value (c.are_log.ensures.chained c.if-are_log.true) in
+    let union : union_of c.args.lists.items ≡ c.args.log = subst (λ (ls : List (List PacketReport)). union_of ls ≡ c.args.log) c.deref.ensures.value (c.are_log.ensures.union c.if-are_log.true) in
     c.in_ok-chain_all.ensures ∙ held ∙ sym union
 
 pub returns-then-are_log-clause-held : goal.returns-then-are_log-clause-held
 returns-then-are_log-clause-held c =
-    let held : flat_map (λ rs. rs) c.args.lists.items ≡ c.args.log.now = subst (λ (ls : List (List PacketReport)). flat_map (λ rs. rs) ls ≡ c.args.log.now) c.deref.ensures.value (c.are_log.ensures.chained c.if-are_log.true) in
+    let held : flat_map (λ rs. rs) c.args.lists.items ≡ c.args.log = subst (λ (ls : List (List PacketReport)). flat_map (λ rs. rs) ls ≡ c.args.log) c.deref.ensures.value (c.are_log.ensures.chained c.if-are_log.true) in
     c.in_ok-chain_all.ensures ∙ held
 
 pub returns-then-are_log-clause-rises : goal.returns-then-are_log-clause-rises
 returns-then-are_log-clause-rises c =
-    let held : flat_map (λ rs. rs) c.args.lists.items ≡ c.args.log.now = subst (λ (ls : List (List PacketReport)). flat_map (λ rs. rs) ls ≡ c.args.log.now) c.deref.ensures.value (c.are_log.ensures.chained c.if-are_log.true) in
-    let union : union_of c.args.lists.items ≡ c.args.log.now = subst (λ (ls : List (List PacketReport)). union_of ls ≡ c.args.log.now) c.deref.ensures.value (c.are_log.ensures.union c.if-are_log.true) in
+    let held : flat_map (λ rs. rs) c.args.lists.items ≡ c.args.log = subst (λ (ls : List (List PacketReport)). flat_map (λ rs. rs) ls ≡ c.args.log) c.deref.ensures.value (c.are_log.ensures.chained c.if-are_log.true) in
+    let union : union_of c.args.lists.items ≡ c.args.log = subst (λ (ls : List (List PacketReport)). union_of ls ≡ c.args.log) c.deref.ensures.value (c.are_log.ensures.union c.if-are_log.true) in
     subst (λ (rs : List PacketReport). IsStrictlySortedBy report_cmp rs) (sym (c.in_ok-chain_all.ensures ∙ held ∙ sym union)) (rises_in_order report_cmp report_total _)
 
 pub returns-then-are_log-clause-limit : goal.returns-then-are_log-clause-limit
 returns-then-are_log-clause-limit c =
-    let held : flat_map (λ rs. rs) c.args.lists.items ≡ c.args.log.now = subst (λ (ls : List (List PacketReport)). flat_map (λ rs. rs) ls ≡ c.args.log.now) c.deref.ensures.value (c.are_log.ensures.chained c.if-are_log.true) in
+    let held : flat_map (λ rs. rs) c.args.lists.items ≡ c.args.log = subst (λ (ls : List (List PacketReport)). flat_map (λ rs. rs) ls ≡ c.args.log) c.deref.ensures.value (c.are_log.ensures.chained c.if-are_log.true) in
     subst (λ (rs : List PacketReport). length rs ≤ most_reports) (sym (c.in_ok-chain_all.ensures ∙ held)) c.are_log.ensures.limit
 
 pub returns-in_err-reports-clause-whole : goal.returns-in_err-reports-clause-whole

@@ -2,7 +2,7 @@ use Rattle.std.proofs.Common.{◌≡◌, ◌∙◌, List, ap, arith}
 use Rattle.tca_report.specs.report.Reports.{PacketReport, report_cmp}
 use Rattle.tca_join.specs.Sets.{in_order}
 use Rattle.tca_gossip.proofs.Newcomers.{fresh_bring, none_taken, set_brings}
-use Rattle.tca_gossip.proofs.contents.Contents.take_whole.Goals as goal
+use Rattle.tca_gossip.proofs.contents.Contents.take_by_set.Goals as goal
 
 pub returns-then-len-eq0-clause-state : goal.returns-then-len-eq0-clause-state
 returns-then-len-eq0-clause-state c = none_taken c.args.self.now.replica c.args.reports.now c.in_ok-fresh.fresh (rw (← c.self.view_is) c.in_ok-fresh.ensures) (omega (arith, c.len.ensures, c.if-len-eq0.true))
