@@ -77,6 +77,14 @@ kept_last es fs held runs i h so_far q = so_far q ∙ ap (λ (l : List RunView).
 pub list_last : (old now : List PacketReport) (held : ℕ → List PacketReport) (runs : List RunView) (i : ℕ) → length runs ≤ i → now ≡ old ++ reports_in (rests held (take i runs)) → now ≡ old ++ reports_in (rests held runs)
 list_last old now held runs i h so_far = so_far ∙ ap (λ (l : List RunView). old ++ reports_in (rests held l)) (take_whole i runs h)
 
+-- one run alone
+module _ (es : List (ℕ × ChainView PacketReport)) (runs : List RunView) (r : RunView) (one : length runs ≡ 1) (is : r ≡ get_or runs 0 r) (are : AreRuns runs) where
+  pub kept_one : (gs : List (ℕ × ChainView PacketReport)) → ((q : ℕ) → held_of gs q ≡ held_of es q ++ of q (with_origin r.origin (rest_of (held_of es) r))) → (q : ℕ) → held_of gs q ≡ held_of es q ++ of q (rests (held_of es) runs)
+  kept_one gs e = kept_last es gs (held_of es) runs 1 (omega (arith, one)) (kept_next es es runs 0 r (omega (arith, one)) is are (kept_first es (held_of es)) gs e)
+
+  pub list_one : (rest : List PacketReport) → rest ≡ rest_of (held_of es) r → rest ≡ reports_in (rests (held_of es) runs)
+  list_one rest e = list_last [] rest (held_of es) runs 1 (omega (arith, one)) (list_next es es runs 0 r (omega (arith, one)) is are (kept_first es (held_of es)) [] [] rest refl e)
+
 -- chains and a log that got what runs have past the chains
 module _ (name : ℕ) (log more : List PacketReport) (es fs : List (ℕ × ChainView PacketReport)) (billing : BillingView) (are : AreContents name log es billing) (runs : List RunView) (rises : Rises fs)
     (chains : (q : ℕ) → held_of fs q ≡ held_of es q ++ of q (rests (held_of es) runs)) (logs : more ≡ in_order report_cmp (log ++ reports_in (rests (held_of es) runs))) where

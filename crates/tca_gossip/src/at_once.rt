@@ -156,47 +156,48 @@ impl Contents {
         ensures err { OnErr result (self.new.replica ≡ self.old.replica) }
     {
         let mut chains = self.chains.copy()?;
-        let mut list = Vec::new(self.alloc);
-        extend_all(self.alloc, &mut chains, &mut list, runs)?;
+        let list = extend_all(self.alloc, &mut chains, runs)?;
         let _rises = chains.keys();
-        self.log.add_all(list)?;
+        self.log.add_list(list)?;
         self.billing.release(self.alloc);
         self.chains = chains;
         Ok(())
     }
 }
 
-// Appends what a run has past the chain of its origin, to that chain and to a list.
+// Appends what a run has past the chain of its origin, and answers with it.
 fn extend_one(
     alloc: Global,
     chains: &mut ByKey<Chain<Report>>,
-    list: &mut Vec<Report>,
     run: &Run,
-) -> Result<(), AllocError>
+) -> Result<Items<Report>, AllocError>
     requires { run.now.start + length run.now.reports ≤ most_items }
     ensures kept { OnOk result ((q : ℕ) → held_of chains.new q ≡ held_of chains.old q ++ of q (with_origin run.now.origin (rest_of (held_of chains.old) run.now))) }
-    ensures list { OnOk result (list.new.items ≡ list.old.items ++ rest_of (held_of chains.old) run.now) }
+    ensures rest { IfOk result (λ rest. rest ≡ rest_of (held_of chains.old) run.now) }
 {
     let origin = run.origin();
     let rest = run.rest(alloc, held_of(chains, origin).len())?;
-    list.extend_from_slice(rest.as_slice())?;
-    extend(chains, origin, rest)?;
-    Ok(())
+    extend(chains, origin, rest.share()?)?;
+    Ok(rest)
 }
 
-// Appends what runs have past the chains of their origins, to the chains and to a list.
+// Appends what runs have past the chains of their origins, and answers with all of it: of one run with the list that it shares.
 fn extend_all(
     alloc: Global,
     chains: &mut ByKey<Chain<Report>>,
-    list: &mut Vec<Report>,
     runs: &[Run],
-) -> Result<(), AllocError>
+) -> Result<Items<Report>, AllocError>
     requires { AreRuns runs.now }
     ensures kept { OnOk result ((q : ℕ) → held_of chains.new q ≡ held_of chains.old q ++ of q (rests (held_of chains.old) runs.now)) }
-    ensures list { OnOk result (list.new.items ≡ list.old.items ++ reports_in (rests (held_of chains.old) runs.now)) }
+    ensures list { IfOk result (λ list. list ≡ reports_in (rests (held_of chains.old) runs.now)) }
 {
-    for run in runs {
-        extend_one(alloc, chains, list, run)?;
+    if runs.len() == 1 {
+        return extend_one(alloc, chains, &runs[0]);
     }
-    Ok(())
+    let mut list = Vec::new(alloc);
+    for run in runs {
+        let rest = extend_one(alloc, chains, run)?;
+        list.extend_from_slice(rest.as_slice())?;
+    }
+    Items::of(alloc, list)
 }

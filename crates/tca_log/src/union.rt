@@ -8,6 +8,7 @@ ghost use Rattle.tca_log.specs.Arrivals.{Many, after};
 ghost use Rattle.tca_log.specs.Disputes as disputes;
 ghost use Rattle.tca_log.specs.Rows.Ordered.{put_each, without_each, AreApart, most_rows};
 ghost use Rattle.tca_log.specs.Faults.{IsUnionRefused, IsRefusedBy};
+ghost use Rattle.tca_log.specs.declared.fault.LogFault.TheVariants.{Full};
 ghost use Rattle.tca_log.specs.LogJoin.{log_full};
 ghost use Rattle.tca_log.specs.inside.Logs.{index_cmp, index_rows, IsKept, IsLog};
 
@@ -137,6 +138,22 @@ impl<A: Allocator + Copy> Log<A> {
             alone,
         )?;
         Ok(true)
+    }
+
+    /// Adds the reports of a list that may be shared, as `add_all` does. Where the log has none and they ascend it holds the list with its
+    /// other owners; else it takes the list, or a copy where it has other owners. `Full` comes only where the log would have more than
+    /// 4,194,304 reports, and `Memory` where a growth was refused, also that of the copy; both leave the log as it was.
+    pub fn add_list(&mut self, list: Items<Report, A>) -> Result<u32, LogFault>
+        ensures ok { OnOk result (self.new ≡ after (Many list) self.old) }
+        ensures count { IfOk result (λ n. n + length self.old ≡ length self.new) }
+        ensures err { OnErr result (self.new ≡ self.old) }
+        ensures full { IfErr result (λ e. e ≡ Full → most_reports < length (in_order report_cmp (self.old ++ list))) }
+    {
+        if self.take_shared(&list)? {
+            return Ok(list.len() as u32);
+        }
+        let reports = list.into_vec(self.rows.allocator())?;
+        self.add_all(reports)
     }
 }
 

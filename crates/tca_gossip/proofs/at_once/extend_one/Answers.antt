@@ -8,7 +8,7 @@ use Rattle.tca_gossip.proofs.at_once.extend_one.Goals as goal
 pub extend-requires : goal.extend-requires
 extend-requires c =
     let skip = length c.held_of.result.now - c.args.run.now.start in
-    omega (arith, ap length c.in_ok-rest.ensures, length-drop skip c.args.run.now.reports, ap length c.held_of.ensures.items, c.held_of.ensures.limit, c.requires)
+    rw c.in_ok-share.ensures (omega (arith, ap length c.in_ok-rest.ensures, length-drop skip c.args.run.now.reports, ap length c.held_of.ensures.items, c.held_of.ensures.limit, c.requires))
 
 pub returns-clause-kept : goal.returns-clause-kept
 returns-clause-kept c =
@@ -16,12 +16,9 @@ returns-clause-kept c =
     let held = held_of c.args.chains.now in
     let rest : c.in_ok-rest.rest ≡ rest_of held run =
     c.in_ok-rest.ensures ∙ ap (λ (l : List PacketReport). drop (length l - run.start) run.reports) (c.held_of.ensures.items ∙ ap held c.origin-origin.ensures.value) in
-    λ q. c.in_ok-extend.ensures q ∙ (λ j. held q ++ of q (with_origin (c.origin-origin.ensures.value j) (rest j)))
+    λ q. c.in_ok-extend.ensures q ∙ (λ j. held q ++ of q (with_origin (c.origin-origin.ensures.value j) ((c.in_ok-share.ensures ∙ rest) j)))
 
-pub returns-clause-list : goal.returns-clause-list
-returns-clause-list c =
+pub returns-clause-rest : goal.returns-clause-rest
+returns-clause-rest c =
     let run = c.args.run.now in
-    let held = held_of c.args.chains.now in
-    let rest : c.in_ok-rest.rest ≡ rest_of held run =
-    c.in_ok-rest.ensures ∙ ap (λ (l : List PacketReport). drop (length l - run.start) run.reports) (c.held_of.ensures.items ∙ ap held c.origin-origin.ensures.value) in
-    c.in_ok-extend_from_slice.ensures.items ∙ ap (λ (l : List PacketReport). c.args.list.now.items ++ l) (c.as_slice.ensures ∙ rest)
+    c.in_ok-rest.ensures ∙ ap (λ (l : List PacketReport). drop (length l - run.start) run.reports) (c.held_of.ensures.items ∙ ap (held_of c.args.chains.now) c.origin-origin.ensures.value)
