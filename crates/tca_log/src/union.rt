@@ -207,7 +207,7 @@ fn count_new<A: Allocator + Copy>(rows: &Rows<Report, A>, set: &[Report]) -> usi
     count_beyond(RowsIter::of(set), set.len(), rows)
 }
 
-// Those of a set that are not among the rows, of which there are so many: the set itself where there are no rows.
+// Those of a set that are not among the rows, of which there are so many: the set itself where all are new.
 fn news_of<A: Allocator + Copy>(
     alloc: A,
     rows: &Rows<Report, A>,
@@ -220,7 +220,7 @@ fn news_of<A: Allocator + Copy>(
     ensures news { IfOk result (λ news. news.rows ≡ without_each report_cmp rows.now.rows set.items) }
     ensures nothing { new ≡ 0 → IsOk result }
 {
-    if rows.len() == 0 {
+    if new == set.len() {
         return Rows::of_ascending(alloc, set);
     }
     difference(alloc, RowsIter::of(&set), set.len(), new, rows)

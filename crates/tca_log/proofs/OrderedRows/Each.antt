@@ -221,6 +221,15 @@ module _ {K : Type 0} (R : K → K → Ordering) (o : IsTotalOrder R) where
   beyond_shorter ks [] = omega arith
   beyond_shorter ks (x ∷ xs) = elim (has R ks x) as (λ b. length (cond (not b) (x ∷ filter (λ y. not (has R ks y)) xs) (filter (λ y. not (has R ks y)) xs)) ≤ length (x ∷ xs)) [ true ↦ omega (arith, beyond_shorter ks xs) | false ↦ omega (arith, beyond_shorter ks xs) ]
 
+  -- none is lost where as many are left
+  pub beyond_whole : (ks xs : List K) → length xs ≡ length (without_each R ks xs) → without_each R ks xs ≡ xs
+  unfolding without_each
+  beyond_whole ks [] = λ e. refl
+  beyond_whole ks (x ∷ xs) = elim (has R ks x) as (λ b. length (x ∷ xs) ≡ length (cond (not b) (x ∷ filter (λ y. not (has R ks y)) xs) (filter (λ y. not (has R ks y)) xs)) → cond (not b) (x ∷ filter (λ y. not (has R ks y)) xs) (filter (λ y. not (has R ks y)) xs) ≡ x ∷ xs) [
+    | true ↦ λ e. absurd (omega (arith, e, beyond_shorter ks xs))
+    | false ↦ λ e. ap (λ (l : List K). x ∷ l) (beyond_whole ks xs (omega (arith, e)))
+  ]
+
   pub beyond_apart : (ks xs : List K) → AreApart R (without_each R ks xs) ks
   unfolding without_each
   beyond_apart ks [] = tt
