@@ -1,31 +1,26 @@
 -- Many reports at once: what a log and chains that got them come to, beside appending one by one.
-use Rattle.std.proofs.Common.{◌≡◌, ℕ, suc, ◌+◌, ◌≤◌, true, false, ◌||◌, cond, Option, None, Some, Result, Ok, Err, OnOk, List, [], ◌∷◌, ◌++◌, ◌==◌, length, refl, sym, ap, ◌∙◌, subst, arith, length-append}
+use Rattle.std.proofs.Common.{◌≡◌, ℕ, ◌+◌, ◌≤◌, true, false, cond, Option, None, Some, IsSome, Result, Ok, Err, IsOk, OnOk, List, [], ◌∷◌, ◌++◌, ◌==◌, length, refl, sym, ap, ◌∙◌, subst, arith, length-append}
 use Rattle.std.proofs.lemmas.List.{append-nil}
-use Rattle.std.proofs.lemmas.Bool.{eqb-true, eqb-false}
-use Rattle.std.specs.List.Sorted.{IsStrictlySortedBy}
-use Rattle.std.specs.Ordering.{eq_by_cmp}
-use Rattle.std.specs.declared.cmp.Ordering.TheVariants.{Less, Equal, Greater}
+use Rattle.std.proofs.lemmas.Bool.{eqb-true, eqb-false, false≢true}
 use Rattle.tca_report.specs.report.Reports.{PacketReport, report_cmp}
 use Rattle.tca_report.proofs.lemmas.report.Order.{report_total, report_exact}
-use Rattle.tca_join.specs.Sets.{by_order, has, put, in_order}
+use Rattle.tca_join.specs.Sets.{in_order}
 use Rattle.tca_join.specs.Chains.{ChainView, chain}
 use Rattle.tca_join.specs.Maps.{get, Rises, with_value, join_with}
 use Rattle.tca_join.specs.laws.MapLaws.{get_put, rises_put as rises_put_key}
-use Rattle.tca_join.proofs.Sets.{has-put, has-append, rises_put, or_assoc, or_swap}
-use Rattle.tca_join.proofs.Search.{put_again}
-use Rattle.tca_join.proofs.Merge.{in_order_alike}
+use Rattle.tca_join.proofs.Merge.{in_order_of_rising}
 use Rattle.tca_join.proofs.Firsts.{only_map}
 use Rattle.tca_accounts.specs.Plans.{AccountPlan}
-use Rattle.tca_gossip.specs.Replicas.{ReplicaView, IsReplica, or_empty, chain_of, append_one, appended, fresh_of, with_origin, taken, of, reports_in}
+use Rattle.tca_gossip.specs.Replicas.{ReplicaView, IsReplica, or_empty, chain_of, append_one, appended, with_origin, of, reports_in}
 use Rattle.tca_gossip.specs.inside.Storage.{AreContents, IsOwnWithin, chain_items, held_of, held_in, replica_of, BillingView, Bills}
 use Rattle.tca_gossip.proofs.Appends.{appended_name, appended_plan, appended_rises, chain_appended, log_appended, of_tagged, of_other, reports_tagged}
 use Rattle.tca_gossip.proofs.Plains.{some_chain, rises_held, get_held, chain_held, kept_set}
-use Rattle.tca_gossip.proofs.Sizes.{put_new}
+use Rattle.tca_gossip.proofs.Rooms.{get_set, rises_set}
 use Rattle.tca_gossip.proofs.Members.{replica_appended}
 
 -- reports at the end of a chain that is kept
 module _ (es : List (ℕ × ChainView PacketReport)) (rises : Rises es) (o : ℕ) (rs : List PacketReport) where
-  more_kept : (c : ChainView PacketReport) → c.items ≡ held_of es o ++ rs → (q : ℕ) → held_of (with_value o c es) q ≡ held_of es q ++ of q (with_origin o rs)
+  pub more_kept : (c : ChainView PacketReport) → c.items ≡ held_of es o ++ rs → (q : ℕ) → held_of (with_value o c es) q ≡ held_of es q ++ of q (with_origin o rs)
   more_kept c is q =
       kept_set es rises o c q
       ∙ elim (q == o) as (λ b. q == o ≡ b → cond b c.items (held_of es q) ≡ held_of es q ++ of q (with_origin o rs)) [
@@ -109,6 +104,47 @@ module _ (name : ℕ) (log more : List PacketReport) (es fs : List (ℕ × Chain
   now_within all =
       let logs_are : more ≡ (appended before ps).log = logs ∙ sym (log_appended before ps are.replica.log_rises) in
       subst IsOwnWithin (sym now_is) (own_grows before ps (rises_held es are.rises) are.within (subst (λ (l : List PacketReport). length (of name ps) + length log ≤ length l) logs_are all))
+
+-- chains that hold what they held, with the log as it was
+module _ (name : ℕ) (log more : List PacketReport) (es fs : List (ℕ × ChainView PacketReport)) (billing : BillingView) (are : AreContents name log es billing) (rises : Rises fs)
+    (chains : (q : ℕ) → held_of fs q ≡ held_of es q) (logs : more ≡ log) where
+  pub again_is : replica_of name billing.plan more fs ≡ replica_of name billing.plan log es
+  unfolding appended of reports_in
+  again_is =
+      now_is name log more es fs billing are [] rises (λ q. chains q ∙ sym (append-nil (held_of es q)))
+      (logs ∙ sym (ap (in_order report_cmp) (append-nil log) ∙ in_order_of_rising report_cmp report_total report_exact log are.replica.log_rises))
+
+  pub again_contents : AreContents name more fs billing
+  again_contents = record {
+    rises = rises;
+    replica = subst IsReplica (sym again_is) are.replica;
+    within = subst IsOwnWithin (sym again_is) are.within;
+    fits = subst (λ (l : List PacketReport). Bills l billing) (sym logs) are.fits;
+  }
+
+-- what a call that can't be refused comes to
+at_ok : {A E P : Type 0} (r : Result A E) → IsOk r → OnOk r P → P
+at_ok (Ok x) t p = p
+at_ok (Err e) t p = absurd (false≢true t)
+
+-- a chain in place of one, and then one with the items that were kept
+module _ (es : List (ℕ × ChainView PacketReport)) (rises : Rises es) (o : ℕ) (c d : ChainView PacketReport) where
+  pub back_rises : Rises (with_value o d (with_value o c es))
+  back_rises = rises_set (with_value o c es) (rises_set es rises o c) o d
+
+  pub back_held : d.items ≡ held_of es o → (q : ℕ) → held_of (with_value o d (with_value o c es)) q ≡ held_of es q
+  back_held is q =
+      kept_set (with_value o c es) (rises_set es rises o c) o d q
+      ∙ elim (q == o) as (λ b. q == o ≡ b → cond b d.items (held_of (with_value o c es) q) ≡ held_of es q) [
+        | true ↦ λ at. is ∙ ap (held_of es) (sym (eqb-true q o at))
+        | false ↦ λ at. kept_set es rises o c q ∙ ap (λ b. cond b c.items (held_of es q)) at
+      ] refl
+
+  -- which takes no memory
+  pub back_set : {A E : Type 0} (fs gs : List (ℕ × ChainView PacketReport)) (r : Result A E) → fs ≡ with_value o c es → (IsSome (get fs o) → IsOk r) → OnOk r (gs ≡ with_value o d fs) → gs ≡ with_value o d (with_value o c es)
+  back_set fs gs r e there ok =
+      at_ok r (there (subst (λ (m : Option (ChainView PacketReport)). IsSome m) (sym (ap (λ l. get l o) e ∙ get_set es rises o c)) refl)) ok
+      ∙ ap (with_value o d) e
 
 -- and where all are of the own name
 module _ (name : ℕ) (log more : List PacketReport) (es fs : List (ℕ × ChainView PacketReport)) (billing : BillingView) (are : AreContents name log es billing) (rs : List PacketReport) (rises : Rises fs)

@@ -9,7 +9,7 @@ use Rattle.tca_gossip.specs.inside.Storage.{chain_items, held_of, held_in}
 use Rattle.tca_gossip.proofs.Plains.{held_puts, held_same}
 
 module _ (es : List (ℕ × ChainView PacketReport)) (rises : Rises es) (o : ℕ) where
-  get_set : (c : ChainView PacketReport) → get (with_value o c es) o ≡ Some c
+  pub get_set : (c : ChainView PacketReport) → get (with_value o c es) o ≡ Some c
   get_set c = get_put (λ _ w. w) o c es o rises ∙ ap (λ b. cond b (join_with (λ _ w. w) (get es o) (Some c)) (get es o)) (eq-eqb o o refl) ∙ last (get es o) where
     last : (a : Option (ChainView PacketReport)) → join_with (λ _ w. w) a (Some c) ≡ Some c
     last None = refl

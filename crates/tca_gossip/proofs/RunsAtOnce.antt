@@ -1,5 +1,5 @@
 -- What runs have past the chains, at once: going through the runs, and what a log and chains that got it all come to.
-use Rattle.std.proofs.Common.{◌≡◌, ℕ, ◌+◌, ◌-◌, ◌<◌, ◌≤◌, min, true, false, nat_lt, None, List, [], ◌++◌, length, take, drop, get_or, refl, sym, ap, ◌∙◌, arith, append_assoc}
+use Rattle.std.proofs.Common.{◌≡◌, ℕ, ◌+◌, ◌-◌, ◌<◌, ◌≤◌, min, true, false, nat_lt, None, Result, Ok, Err, OnOk, List, [], ◌++◌, length, take, drop, get_or, refl, sym, ap, ◌∙◌, arith, append_assoc}
 use Rattle.std.proofs.Math.ListN.{drop_of_length-le}
 use Rattle.std.proofs.lemmas.List.{append-nil}
 use Rattle.std.proofs.lemmas.List.{take_all as take_whole}
@@ -33,6 +33,11 @@ pub rest_found : (held : ℕ → List PacketReport) (run : RunView) (own reports
 rest_found held run own reports rest origin start less skip origin_is reports_are own_is start_is less_is skip_is rest_is =
     rest_is ∙ ap (drop skip) reports_are
     ∙ skipped run.reports (length (held run.origin) - run.start) skip (omega (arith, ap length (own_is ∙ ap held origin_is), ap length reports_are, start_is, less_is, skip_is))
+
+-- what holds in any case
+pub on_ok_always : {A E P : Type 0} (r : Result A E) → P → OnOk r P
+on_ok_always (Ok x) p = p
+on_ok_always (Err e) p = tt
 
 -- no run was gone through
 pub kept_first : (es : List (ℕ × ChainView PacketReport)) (held : ℕ → List PacketReport) (q : ℕ) → held_of es q ≡ held_of es q ++ of q (rests held [])
@@ -83,7 +88,7 @@ module _ (es : List (ℕ × ChainView PacketReport)) (runs : List RunView) (r : 
   kept_one gs e = kept_last es gs (held_of es) runs 1 (omega (arith, one)) (kept_next es es runs 0 r (omega (arith, one)) is are (kept_first es (held_of es)) gs e)
 
   pub list_one : (rest : List PacketReport) → rest ≡ rest_of (held_of es) r → rest ≡ reports_in (rests (held_of es) runs)
-  list_one rest e = list_last [] rest (held_of es) runs 1 (omega (arith, one)) (list_next es es runs 0 r (omega (arith, one)) is are (kept_first es (held_of es)) [] [] rest refl e)
+  list_one rest e = list_last [] rest (held_of es) runs 1 (omega (arith, one)) (list_next es es runs 0 r (omega (arith, one)) is are (kept_first es (held_of es)) [] [] rest (list_first [] (held_of es)) e)
 
 -- chains and a log that got what runs have past the chains
 module _ (name : ℕ) (log more : List PacketReport) (es fs : List (ℕ × ChainView PacketReport)) (billing : BillingView) (are : AreContents name log es billing) (runs : List RunView) (rises : Rises fs)

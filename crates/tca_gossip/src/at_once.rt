@@ -1,7 +1,7 @@
 //! Many reports at once.
 //!
-//! A copy of the chains gets those that are new, then the log does, and then the copy takes the place of the chains, without a book.
-//! They are sorted once, and metered when the bill is asked, where one by one each report is searched for, put in its place and noted
+//! The chains get those that are new, or a copy of the chains does, which then takes their place; the log gets them too, and no book is kept.
+//! Reports are sorted once, and metered when the bill is asked, where one by one each report is searched for, put in its place and noted
 //! in its lane. Where there is no room for that nothing has changed, so the reports can still be taken one by one, which names the
 //! first that has no room.
 ghost use Rattle.std.specs.Prelude.{◌≡◌, ℕ, ◌+◌, ◌≤◌, ◌++◌, length, true, false, IfOk, IfSome, OnErr, OnOk, None};
@@ -110,7 +110,8 @@ impl Contents {
     }
 
     // Puts reports that are new at the end of the own chain, and their set, which may have more that is held already, into the log; all
-    // of that, or nothing. Answers how many they were.
+    // of that, or nothing. Answers how many they were. The log, which takes the most memory, comes when the chain before is gone; where it
+    // is refused, the first items of the new one are those again.
     fn put_fresh(&mut self, fresh: Items<Report>, set: Vec<Report>) -> Result<u64, LogFault>
         requires same { in_order report_cmp (self.old.replica.log ++ set.items) ≡ in_order report_cmp (self.old.replica.log ++ fresh) }
         requires new { length fresh + length self.old.replica.log ≤ length (in_order report_cmp (self.old.replica.log ++ fresh)) }
@@ -122,12 +123,17 @@ impl Contents {
         if count > LIMIT - self.log.len() as usize {
             return Err(LogFault::Full);
         }
-        let mut chains = self.chains.copy()?;
-        extend(&mut chains, self.name, fresh)?;
-        let _rises = chains.keys();
-        self.log.add_all(set)?;
+        let held = held_of(&self.chains, self.name);
+        let have = held.len();
+        let list = with_fresh(self.alloc, held, fresh)?;
+        let both = list.share()?;
+        self.chains.set(self.name, Chain::of(list))?;
+        let _rises = self.chains.keys();
+        if let Err(fault) = self.log.add_all(set) {
+            let _ = self.chains.set(self.name, Chain::of(both.first(have)));
+            return Err(fault);
+        }
         self.billing.release(self.alloc);
-        self.chains = chains;
         Ok(count as u64)
     }
 
@@ -163,6 +169,24 @@ impl Contents {
         self.chains = chains;
         Ok(())
     }
+}
+
+// The reports of a chain and those of a list behind them, as one list: that list itself where the chain has none.
+fn with_fresh(
+    alloc: Global,
+    held: &[Report],
+    fresh: Items<Report>,
+) -> Result<Items<Report>, AllocError>
+    requires { length held.now + length fresh ≤ most_items }
+    ensures { IfOk result (λ all. all ≡ held.now ++ fresh) }
+{
+    if held.len() == 0 {
+        return Ok(fresh);
+    }
+    let mut all = Vec::with_capacity(alloc, held.len() + fresh.len())?;
+    all.extend_from_slice(held)?;
+    all.extend_from_slice(fresh.as_slice())?;
+    Items::of(alloc, all)
 }
 
 // Appends what a run has past the chain of its origin, and answers with it.

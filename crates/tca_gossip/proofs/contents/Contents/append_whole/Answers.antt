@@ -16,14 +16,14 @@ invariant_of-self-2 c =
     let chains = λ (q : ℕ). rw c.in_ok-chains.ensures at (c.in_ok-list.ensures.kept q) in
     let logs = rw (c.in_ok-list.ensures.list, c.in_ok-chains.ensures) at c.in_ok-add_list.ensures.ok in
     let good = rw (← c.self.view_is) at c.requires.good in
-    let replica = runs_replica name log c.add_list.new.self es c.extend_all-list.new.chains billing c.self.invariant runs c.keys-rises.ensures.rises chains logs in
-    let within = runs_within name log c.add_list.new.self es c.extend_all-list.new.chains billing c.self.invariant runs c.keys-rises.ensures.rises chains logs good in
-    refilled name billing.plan c.add_list.new.self c.extend_all-list.new.chains c.release.new.self c.keys-rises.ensures.rises replica within c.release.ensures.plan (without_book c.add_list.new.self c.release.new.self c.release.ensures.kept)
+    let replica = runs_replica name log c.add_list.new.self es c.extend_all.new.chains billing c.self.invariant runs c.keys-rises.ensures.rises chains logs in
+    let within = runs_within name log c.add_list.new.self es c.extend_all.new.chains billing c.self.invariant runs c.keys-rises.ensures.rises chains logs good in
+    refilled name billing.plan c.add_list.new.self c.extend_all.new.chains c.release.new.self c.keys-rises.ensures.rises replica within c.release.ensures.plan (without_book c.add_list.new.self c.release.new.self c.release.ensures.kept)
 
 pub returns-clause-ok : goal.returns-clause-ok
 returns-clause-ok c =
     let name = c.self.inside.name in
     let chains = λ (q : ℕ). rw c.in_ok-chains.ensures at (c.in_ok-list.ensures.kept q) in
     let logs = rw (c.in_ok-list.ensures.list, c.in_ok-chains.ensures) at c.in_ok-add_list.ensures.ok in
-    let plan = ap (λ (p : AccountPlan). replica_of name p c.add_list.new.self c.extend_all-list.new.chains) c.release.ensures.plan in
-    rw (← c.self.view_is) (plan ∙ runs_are name c.self.inside.log c.add_list.new.self c.self.inside.chains c.extend_all-list.new.chains c.self.inside.billing c.self.invariant c.args.runs.now c.keys-rises.ensures.rises chains logs)
+    let plan = ap (λ (p : AccountPlan). replica_of name p c.add_list.new.self c.extend_all.new.chains) c.release.ensures.plan in
+    rw (← c.self.view_is) (plan ∙ runs_are name c.self.inside.log c.add_list.new.self c.self.inside.chains c.extend_all.new.chains c.self.inside.billing c.self.invariant c.args.runs.now c.keys-rises.ensures.rises chains logs)
