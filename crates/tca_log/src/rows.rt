@@ -1,8 +1,8 @@
 //! An ordered set that makes room first, and then takes no memory. It knows nothing of reports.
 //!
 //! - `chunk`: rows that lie side by side in memory; `locate`: which chunk a row is in; `iter`: the rows one by one; `order`:
-//!   whether a list ascends; `rising`: lists of which most rows ascend; `left`, `merge`, `beyond`: two containers gone through
-//!   at once.
+//!   whether a list ascends; `near`: looking for a row near a place; `rising`: lists of which most rows ascend; `left`, `merge`,
+//!   `beyond`: two containers gone through at once.
 ghost use Rattle.std.specs.Prelude.{◌≡◌, ℕ, true, false, ◌+◌, ◌-◌, ◌<◌, ◌≤◌, [], ◌∷◌, ◌++◌, length, drop, OnOk, OnErr, IfOk, IsOk, IsTrue, Some, is_some, IfSome, vec_len, vec_capacity, option_copied};
 ghost use Rattle.std.specs.List.{All};
 ghost use Rattle.std.specs.List.Sorted.{IsStrictlySortedBy};
@@ -16,6 +16,7 @@ mod iter;
 mod left;
 mod locate;
 mod merge;
+mod near;
 mod order;
 mod rising;
 
@@ -157,6 +158,18 @@ impl<K: Ord + Copy, A: Allocator + Copy> Rows<K, A> {
         ensures { result ≡ has K.cmp self.now.rows key.now }
     {
         self.get(key).is_some()
+    }
+
+    /// Whether a row ties with this one. It is looked for near a place first, and the place becomes that where it is or would go, so keys
+    /// that ascend by and large cost little.
+    pub(crate) fn has_near(&self, near: &mut usize, key: &K) -> bool
+        ensures { result ≡ has K.cmp self.now.rows key.now }
+    {
+        if self.chunks.len() == 0 {
+            return false;
+        }
+        let at = position(&self.chunks, key);
+        self.chunks[at].has_near(near, key)
     }
 
     /// How many rows come before this one.

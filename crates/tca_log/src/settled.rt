@@ -8,11 +8,13 @@ use std::alloc::{Allocator, Global};
 use std::marker::Model;
 use tca_report::{Identity, Report};
 
-/// The settled reports in order, borrowed from their log.
+/// The settled reports in order, borrowed from their log. Where identities ascend by and large as reports do, each is looked for among the
+/// disputed ones near the one before.
 #[derive(Drop)]
 pub struct Settled<'a, A: Allocator + Copy = Global> {
     left: RowsIter<'a, Report, A>,
     disputed: &'a Rows<Identity, A>,
+    near: usize,
 }
 
 impl<'a, A: Allocator + Copy> Model for Settled<'a, A> {
@@ -32,6 +34,7 @@ impl<'a, A: Allocator + Copy> Settled<'a, A> {
         Settled {
             left: rows.iter(),
             disputed,
+            near: 0,
         }
     }
 }
@@ -45,7 +48,7 @@ impl<'a, A: Allocator + Copy> Iterator for Settled<'a, A> {
 
     fn next(&mut self) -> Option<&'a Report> {
         while let Some(report) = self.left.next() {
-            if !self.disputed.contains(&report.identity()) {
+            if !self.disputed.has_near(&mut self.near, &report.identity()) {
                 return Some(report);
             }
         }

@@ -2,10 +2,11 @@
 ghost use Rattle.std.specs.Prelude.{◌≡◌, ℕ, true, false, ◌+◌, ◌-◌, ◌<◌, ◌≤◌, [], ◌∷◌, ◌++◌, length, IfOk, IfErr, OnOk, OnErr, IsTrue, take, drop, Some, None, MatchResult, get_or, option_copied, vec_capacity};
 ghost use Rattle.std.specs.List.{insert, remove};
 ghost use Rattle.std.specs.List.Sorted.{IsStrictlySortedBy, IsSearchInRange};
-ghost use Rattle.tca_join.specs.Sets.{put};
+ghost use Rattle.tca_join.specs.Sets.{has, put};
 ghost use Rattle.tca_log.specs.inside.Chunks.{IsStored, rows_of, starts_after};
 ghost use Rattle.tca_log.specs.Rows.Ordered.{without, rank, tied};
 
+use crate::rows::near::told_at;
 use std::alloc::{AllocError, Allocator};
 use std::marker::Model;
 use tca_join::Items;
@@ -139,6 +140,32 @@ impl<K: Ord + Copy, A: Allocator> Chunk<K, A> {
         match self.search(key) {
             Ok(at) => at,
             Err(at) => at,
+        }
+    }
+
+    /// Whether a row ties with this one. It is looked for at a place and the one behind it first, and the place becomes that where it is or
+    /// would go.
+    pub(crate) fn has_near(&self, near: &mut usize, key: &K) -> bool
+        requires { IsStrictlySortedBy K.cmp self.now }
+        ensures { result ≡ has K.cmp self.now key.now }
+    {
+        let next = near.saturating_add(1);
+        if let Some(ties) = told_at(self.rows(), *near, key) {
+            return ties;
+        }
+        if let Some(ties) = told_at(self.rows(), next, key) {
+            *near = next;
+            return ties;
+        }
+        match self.search(key) {
+            Ok(at) => {
+                *near = at;
+                true
+            }
+            Err(at) => {
+                *near = at;
+                false
+            }
         }
     }
 
