@@ -3,7 +3,7 @@ use super::numbers::Numbers;
 use linked_list_allocator::LocalHeap;
 use std::alloc::{AllocError, Allocator, Global};
 use std::test::Fail;
-use tca_join::{Join, JoinFault};
+use tca_join::{Items, Join, JoinFault};
 use tca_log::rows::Rows;
 use tca_log::{Added, Log, LogFault};
 use tca_report::{Content, Identity, Report};
@@ -1133,6 +1133,36 @@ fn has_rows_without_memory(alloc: Global) -> bool {
 #[test]
 fn what_is_there_already_takes_no_memory(rt: HostRuntime) {
     assert!(rt; has_rows_without_memory(rt.alloc()));
+}
+
+// Whether a log took the first rows as a list that it shares, and how many reports it has then.
+fn shares(alloc: Global, log: &mut Log, count: usize) -> Option<(bool, u32)> {
+    let list = Items::of(alloc, rows(alloc, count)?).ok()?;
+    let took = log.take_shared(&list).ok()?;
+    Some((took, log.len()))
+}
+
+#[test]
+fn a_log_shares_a_list_that_ascends_where_it_has_none(rt: HostRuntime) {
+    let mut log = Log::new(rt.alloc());
+    assert!(rt; shares(rt.alloc(), &mut log, 4) == Some((false, 0)));
+    assert!(rt; shares(rt.alloc(), &mut log, 3) == Some((true, 3)));
+    assert!(rt; shares(rt.alloc(), &mut log, 2) == Some((false, 3)));
+}
+
+// What a log answers that is given the first rows as a list that may be shared.
+fn adds_list(alloc: Global, log: &mut Log, count: usize) -> Option<Result<u32, LogFault>> {
+    let list = Items::of(alloc, rows(alloc, count)?).ok()?;
+    Some(log.add_list(list))
+}
+
+#[test]
+fn a_list_that_may_be_shared_is_added_once(rt: HostRuntime) {
+    let mut log = Log::new(rt.alloc());
+    assert!(rt; adds_list(rt.alloc(), &mut log, 3) == Some(Ok(3)));
+    assert!(rt; adds_list(rt.alloc(), &mut log, 3) == Some(Ok(0)));
+    assert!(rt; adds_list(rt.alloc(), &mut log, 6) == Some(Ok(3)));
+    assert!(rt; log.len() == 6 && log.disputed() == 1);
 }
 
 #[test]
