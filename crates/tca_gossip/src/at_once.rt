@@ -5,6 +5,7 @@
 //! in its lane. Where there is no room for that nothing has changed, so the reports can still be taken one by one, which names the
 //! first that has no room.
 ghost use Rattle.std.specs.Prelude.{◌≡◌, ℕ, ◌+◌, ◌≤◌, ◌++◌, length, true, false, IfOk, IfSome, OnErr, OnOk, None};
+ghost use Rattle.std.specs.List.Sorted.{IsStrictlySortedBy};
 ghost use Rattle.tca_join.specs.Sets.{in_order};
 ghost use Rattle.tca_report.specs.report.Reports.{report_cmp};
 ghost use Rattle.tca_gossip.specs.Replicas.{appended, chain_of, fresh_of, of, reports_in, taken, with_origin};
@@ -19,7 +20,7 @@ use crate::run::Run;
 use std::alloc::{AllocError, Global};
 use tca_join::{ByKey, Chain, Items, Join};
 use tca_log::rows::LIMIT;
-use tca_log::{Log, LogFault, set_of};
+use tca_log::{Log, LogFault, set_in};
 use tca_report::Report;
 
 /// The least list that is taken at once, whatever the log is.
@@ -80,9 +81,8 @@ impl Contents {
         ensures fresh { IfOk result (λ n. n ≡ length (fresh_of self.old.replica.log reports.now)) }
         ensures err { OnErr result (self.new.replica ≡ self.old.replica) }
     {
-        let list = Vec::from_slice(self.alloc, reports.as_slice())?;
-        let set = set_of(list);
-        let fresh = fresh_in(self.alloc, &self.log, &set, reports)?;
+        let set = set_in(self.alloc, reports)?;
+        let fresh = fresh_in(self.alloc, &self.log, set.as_slice(), reports)?;
         if fresh.len() == 0 {
             return Ok(0);
         }
@@ -112,9 +112,10 @@ impl Contents {
     // Puts reports that are new at the end of the own chain, and their set, which may have more that is held already, into the log; all
     // of that, or nothing. Answers how many they were. The log, which takes the most memory, comes when the chain before is gone; where it
     // is refused, the first items of the new one are those again.
-    fn put_fresh(&mut self, fresh: Items<Report>, set: Vec<Report>) -> Result<u64, LogFault>
-        requires same { in_order report_cmp (self.old.replica.log ++ set.items) ≡ in_order report_cmp (self.old.replica.log ++ fresh) }
+    fn put_fresh(&mut self, fresh: Items<Report>, set: Items<Report>) -> Result<u64, LogFault>
+        requires same { in_order report_cmp (self.old.replica.log ++ set) ≡ in_order report_cmp (self.old.replica.log ++ fresh) }
         requires new { length fresh + length self.old.replica.log ≤ length (in_order report_cmp (self.old.replica.log ++ fresh)) }
+        requires rises { IsStrictlySortedBy report_cmp set }
         ensures state { OnOk result (self.new.replica ≡ appended self.old.replica (with_origin self.old.replica.name fresh)) }
         ensures count { IfOk result (λ n. n ≡ length fresh) }
         ensures err { OnErr result (self.new.replica ≡ self.old.replica) }
@@ -129,7 +130,7 @@ impl Contents {
         let both = list.share()?;
         self.chains.set(self.name, Chain::of(list))?;
         let _rises = self.chains.keys();
-        if let Err(fault) = self.log.add_all(set) {
+        if let Err(fault) = self.log.add_set(set) {
             let _ = self.chains.set(self.name, Chain::of(both.first(have)));
             return Err(fault);
         }

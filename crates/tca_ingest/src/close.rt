@@ -1,5 +1,6 @@
 //! What comes of a replica whose passes are given back.
-ghost use Rattle.std.specs.Prelude.{◌≡◌, List, IfOk, IfErr};
+ghost use Rattle.std.specs.Prelude.{◌≡◌, List, IfOk, IfErr, OnErr};
+ghost use Rattle.tca_gossip.specs.Replicas.{ReplicaView};
 ghost use Rattle.tca_ingest.specs.Entries.{EntryView};
 ghost use Rattle.tca_ingest.specs.Journals.{IsHistory};
 ghost use Rattle.tca_ingest.specs.Passes.{AreClosing};
@@ -61,6 +62,7 @@ impl<L: Side> Held<L> {
         ensures replayed { IfOk result (λ c. IsReplayed L.plan L.called c.replica c.journal) }
         ensures same { IfOk result (λ c. (c.replica ≡ self.replica) × (c.journal ≡ self.journal)) }
         ensures fault { IfErr result (λ u. IsCloseFault self.journal passes.items u.fault) }
+        ensures past { OnErr result (IsHistory L.plan L.called self.replica self.journal) }
         ensures back { IfErr result (λ u. (u.held ≡ self) × (u.passes ≡ passes)) }
     {
         let (held, passes) = within(self, passes);
@@ -80,12 +82,13 @@ impl<L: Side> Held<L> {
 
 impl<L: Side> Shared<L> {
     /// Gives the replica and its journal, where these are all passes by which it was called, as `Held::close` does. Nobody else has
-    /// the replica, so it takes no lock, and no memory.
+    /// the replica, so it takes no lock, and no memory. No caller sees the journal before, so on a refusal the fault is that of a history
+    /// of this replica.
     pub fn close(self, passes: Vec<Pass<L>>) -> Result<Closed, Unclosed<L>>
         ensures closing { IfOk result (λ c. AreClosing c.journal passes.items) }
         ensures history { IfOk result (λ c. IsHistory L.plan L.called c.replica c.journal) }
         ensures replayed { IfOk result (λ c. IsReplayed L.plan L.called c.replica c.journal) }
-        ensures fault { IfErr result (λ u. (journal : List EntryView) × IsCloseFault journal passes.items u.fault) }
+        ensures fault { IfErr result (λ u. (replica : ReplicaView) × (journal : List EntryView) × IsHistory L.plan L.called replica journal × IsCloseFault journal passes.items u.fault) }
         ensures back { IfErr result (λ u. u.passes ≡ passes) }
     {
         match self.held.into_inner().close(passes) {

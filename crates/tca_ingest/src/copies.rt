@@ -66,11 +66,10 @@ impl Model for ReportCopies {
 }
 
 impl ReportCopies {
-    /// The reports of this list, which is kept and shared by all three.
-    pub(crate) fn of(alloc: Global, reports: Vec<Report>) -> Result<ReportCopies, AllocError>
-        ensures { IfOk result (λ c. c ≡ reports.items) }
+    /// The reports of this list, which all three share.
+    pub(crate) fn of(journal: Items<Report>) -> Result<ReportCopies, AllocError>
+        ensures { IfOk result (λ c. c ≡ journal) }
     {
-        let journal = Items::of(alloc, reports)?;
         let pass = journal.share()?;
         let receipt = journal.share()?;
         Ok(ReportCopies {

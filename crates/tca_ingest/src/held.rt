@@ -16,7 +16,7 @@ use std::marker::Model;
 use std::sync::ledger::{Blank, Book, Share};
 use tca_accounts::Plan;
 use tca_gossip::{Delta, Replica, Summary};
-use tca_join::Join;
+use tca_join::{Items, Join};
 use tca_report::Report;
 
 /// At most as many entries of a journal.
@@ -138,18 +138,19 @@ impl<L: Side> Held<L> {
             return Err(ShareFault::JournalFull);
         }
         let list = Vec::from_slice(self.alloc, reports)?;
+        let list = Items::of(self.alloc, list)?;
         self.take_list(mine, list)
     }
 
-    /// Takes the reports of a list as `take` does. The entry has the list itself, and so has the replica where it can, so that the
-    /// reports aren't copied.
+    /// Takes the reports of a list as `take` does. The entry shares the list, and so does the replica where it can, so that the
+    /// reports aren't copied; nor are they sorted where their set stands beside the list.
     pub fn take_list(
         &mut self,
         mine: &mut Pass<L>,
-        reports: Vec<Report>,
+        reports: Items<Report>,
     ) -> Result<Receipt, ShareFault>
         ensures appends { IfOk result (λ r. Appends self.old self.new mine.old mine.new (entry_view r.entry) r.front) }
-        ensures took { IfOk result (λ r. IsTakeInto self.new.replica.log reports.items mine.old.number (entry_view r.entry)) }
+        ensures took { IfOk result (λ r. IsTakeInto self.new.replica.log reports mine.old.number (entry_view r.entry)) }
         ensures full { (result ≡ Err ShareFault.JournalFull) ↔ (most_entries ≤ length self.old.journal) }
         ensures fault { IfErr result (λ f. f ≢ ShareFault.PassesOut) }
         ensures err { OnErr result ((self.new ≡ self.old) × (mine.new ≡ mine.old)) }
@@ -157,7 +158,7 @@ impl<L: Side> Held<L> {
         if self.is_full() {
             return Err(ShareFault::JournalFull);
         }
-        let copies = ReportCopies::of(self.alloc, reports)?;
+        let copies = ReportCopies::of(reports)?;
         let list = copies.share()?;
         reserve(&mut self.journal, &mut mine.calls, &mut mine.places)?;
         let taken = self.replica.take_shared(list);

@@ -1,8 +1,8 @@
 //! One input for a worker, and what comes of it.
-ghost use Rattle.std.specs.Prelude.{◌≡◌, IfOk, OnErr};
+ghost use Rattle.std.specs.Prelude.{◌≡◌, ◌≢◌, IfErr, IfOk, OnErr};
 ghost use Rattle.tca_ingest.specs.EntryViews.{entry_view};
 ghost use Rattle.tca_ingest.specs.Faults.{job_number};
-ghost use Rattle.tca_ingest.specs.Shares.{IsNoted};
+ghost use Rattle.tca_ingest.specs.Shares.{IsNoted, IsTake};
 
 use crate::entry::Receipt;
 use crate::fault::ShareFault;
@@ -13,7 +13,9 @@ use crate::side::Side;
 use std::alloc::Global;
 use std::marker::Model;
 use std::sync::Wait;
-use tca_report::{Gathered, Input, InputFault, Notes, gather};
+use tca_join::Items;
+use tca_log::with_set;
+use tca_report::{Gathered, Input, InputFault, Notes, Report, gather};
 use thiserror::Error;
 
 /// Why nothing of an input was taken.
@@ -67,6 +69,25 @@ impl<'a> Model for JobResult<'a> {
     ghost invariant = { λ r. IsResult (input_view r.input.now) r.result };
 }
 
+// Takes what was read. The list gets its set before the lock is taken, so that nobody waits while it is sorted.
+fn take_reports<L: Side, R: Wait, G: Gate>(
+    rt: &R,
+    alloc: Global,
+    shared: &Shared<L>,
+    gate: &G,
+    mine: &mut Pass<L>,
+    job: u32,
+    reports: Vec<Report>,
+) -> Result<Receipt, ShareFault>
+    ensures noted { IfOk result (λ r. IsNoted mine.old mine.new (entry_view r.entry) r.front) }
+    ensures took { IfOk result (λ r. IsTake reports.items mine.old.number (entry_view r.entry)) }
+    ensures fault { IfErr result (λ f. f ≢ ShareFault.PassesOut) }
+    ensures err { OnErr result (mine.new ≡ mine.old) }
+{
+    let list = Items::of(alloc, reports)?;
+    shared.take_inside(rt, mine, with_set(alloc, list), gate, job)
+}
+
 /// Does a job: reads its input, and takes the reports.
 pub(crate) fn do_job<'a, L: Side, R: Wait, G: Gate>(
     rt: &R,
@@ -85,7 +106,7 @@ pub(crate) fn do_job<'a, L: Side, R: Wait, G: Gate>(
     let result = match gather(alloc, &input.octets, input.session) {
         Err(fault) => Err(JobFault::Input(fault)),
         Ok(Gathered { reports, notes }) => {
-            match shared.take_inside(rt, mine, reports, gate, job) {
+            match take_reports(rt, alloc, shared, gate, mine, job, reports) {
                 Ok(receipt) => Ok((notes, receipt)),
                 Err(fault) => Err(JobFault::Share(fault)),
             }

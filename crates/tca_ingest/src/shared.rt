@@ -14,6 +14,7 @@ use std::sync::ledger::Blank;
 use std::sync::{Mutex, Wait};
 use tca_accounts::Plan;
 use tca_gossip::{Delta, Summary};
+use tca_join::Items;
 use tca_report::Report;
 
 /// A replica behind a lock, with its journal. Each call takes the lock, which may wait, makes the `Held`'s call of its name, and
@@ -60,15 +61,15 @@ impl<L: Side> Shared<L> {
         self.held.lock(rt).take(mine, reports)
     }
 
-    /// Takes the reports of a list as `take` does. The entry has the list itself, so that the reports aren't copied.
+    /// Takes the reports of a list as `take` does. The entry shares the list, so that the reports aren't copied.
     pub fn take_list<R: Wait>(
         &self,
         rt: &R,
         mine: &mut Pass<L>,
-        reports: Vec<Report>,
+        reports: Items<Report>,
     ) -> Result<Receipt, ShareFault>
         ensures noted { IfOk result (λ r. IsNoted mine.old mine.new (entry_view r.entry) r.front) }
-        ensures took { IfOk result (λ r. IsTake reports.items mine.old.number (entry_view r.entry)) }
+        ensures took { IfOk result (λ r. IsTake reports mine.old.number (entry_view r.entry)) }
         ensures fault { IfErr result (λ f. f ≢ ShareFault.PassesOut) }
         ensures err { OnErr result (mine.new ≡ mine.old) }
     {
@@ -80,12 +81,12 @@ impl<L: Side> Shared<L> {
         &self,
         rt: &R,
         mine: &mut Pass<L>,
-        reports: Vec<Report>,
+        reports: Items<Report>,
         gate: &G,
         job: u32,
     ) -> Result<Receipt, ShareFault>
         ensures noted { IfOk result (λ r. IsNoted mine.old mine.new (entry_view r.entry) r.front) }
-        ensures took { IfOk result (λ r. IsTake reports.items mine.old.number (entry_view r.entry)) }
+        ensures took { IfOk result (λ r. IsTake reports mine.old.number (entry_view r.entry)) }
         ensures fault { IfErr result (λ f. f ≢ ShareFault.PassesOut) }
         ensures err { OnErr result (mine.new ≡ mine.old) }
     {

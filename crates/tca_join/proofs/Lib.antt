@@ -2,6 +2,7 @@ pub mod Sets
 pub mod Search
 pub mod Merge
 pub mod Unions
+pub mod Alike
 pub mod Differ
 pub mod Positions
 pub mod Steps

@@ -1,4 +1,5 @@
 pub mod Results
+pub mod Alike
 pub mod Sets
 pub mod SetLaws
 pub mod Joins

@@ -12,4 +12,5 @@ pub mod OrderedRows
 pub mod Filters
 pub mod Next
 pub mod Marked
+pub mod Numbered
 pub mod Slots

@@ -35,7 +35,7 @@ marked_none spans = record {
   twice = λ i. refl;
 }
 
-one_more_is : (n : ℕ) → one_more (min 2 n) ≡ min 2 (n + 1)
+pub one_more_is : (n : ℕ) → one_more (min 2 n) ≡ min 2 (n + 1)
 one_more_is n =
     elim (nat_lt (min 2 n) 2) as (λ b. nat_lt (min 2 n) 2 ≡ b → cond b (min 2 n + 1) 2 ≡ min 2 (n + 1)) [
       | true ↦ λ e. let low = ltb-true (min 2 n) 2 e in omega (arith, low)

@@ -178,17 +178,12 @@ repeated_end xs at so_far all h e =
     last (y ∷ z ∷ zs) zero l = absurd (omega arith)
     last (y ∷ ys) (suc n) l = last ys n (omega arith)
 
-times_mapped : (rs : List PacketReport) (i : Identity) → times identity_cmp i (map identity_of rs) ≡ count_at rs i
+pub times_mapped : (rs : List PacketReport) (i : Identity) → times identity_cmp i (map identity_of rs) ≡ count_at rs i
 unfolding times contents
 times_mapped [] i = refl
 times_mapped (r ∷ rs) i =
     let rest : length (filter (eq_by_cmp identity_cmp i) (map identity_of rs)) ≡ length (filter (has_identity i) rs) = times_mapped rs i in
     elim (has_identity i r) as (λ b. length (cond b (identity_of r ∷ filter (eq_by_cmp identity_cmp i) (map identity_of rs)) (filter (eq_by_cmp identity_cmp i) (map identity_of rs))) ≡ length (cond b (r ∷ filter (has_identity i) rs) (filter (has_identity i) rs))) [ true ↦ ap suc rest | false ↦ rest ]
-
--- what stands twice among the identities of reports, in order, are the identities that two or more have
-pub counted_twice : (rs : List PacketReport) (identities again : List Identity) → IsPermutation (map identity_of rs) identities → ((i : Identity) → has identity_cmp again i ≡ nat_lt 1 (times identity_cmp i identities))
-    → (i : Identity) → has identity_cmp again i ≡ nat_lt 1 (count_at rs i)
-counted_twice rs identities again moved twice i = twice i ∙ ap (nat_lt 1) (times_moved identity_cmp identity_total i (map identity_of rs) identities moved ∙ times_mapped rs i)
 
 -- the identities that two or more have are disputed
 pub disputes_are : (rs : List PacketReport) (again found : List Identity) → ((i : Identity) → has identity_cmp again i ≡ nat_lt 1 (count_at rs i)) → found ≡ in_order identity_cmp again → found ≡ disputed rs

@@ -3,3 +3,4 @@ pub mod Additions
 pub mod Logs
 pub mod Chunks
 pub mod Spans
+pub mod Numbers

@@ -1,9 +1,9 @@
 //! Which identities of a set of reports are disputed.
-ghost use Rattle.std.specs.Prelude.{◌≡◌, ◌≤◌, IfOk, IsTrue, [], length, map, nat_lt};
-ghost use Rattle.std.specs.List.Sorted.{IsPermutation, IsSorted};
+ghost use Rattle.std.specs.Prelude.{◌≡◌, ◌≤◌, IfOk, IsTrue, [], length, nat_lt};
+ghost use Rattle.std.specs.List.Sorted.{IsSorted};
 ghost use Rattle.tca_join.specs.Sets.{has};
 ghost use Rattle.tca_report.specs.declared.report.Identity.{Identity};
-ghost use Rattle.tca_report.specs.report.Identities.{identity_cmp, identity_of};
+ghost use Rattle.tca_report.specs.report.Identities.{identity_cmp};
 ghost use Rattle.tca_log.specs.inside.Additions.{times};
 ghost use Rattle.tca_log.specs.inside.Logs.{count_at};
 ghost use Rattle.tca_log.specs.Disputes.{disputed};
@@ -11,6 +11,7 @@ ghost use Rattle.tca_log.specs.Rows.Ordered.{most_rows};
 
 use crate::ascending::{identities_ascend, places_ascend};
 use crate::marks::repeated_by_place;
+use crate::numbers::perhaps_repeated;
 use crate::rows::Rows;
 use std::alloc::{AllocError, Allocator};
 use tca_report::{Identity, Report};
@@ -47,35 +48,22 @@ pub(crate) fn disputes_where<A: Allocator + Copy>(
     disputes_of(reports)
 }
 
-// Each identity that two or more of the reports have: where places lie close together by marks, else by sorting.
+// Each identity that two or more of the reports have: where places lie close together by marks, else by sorting those that may be there
+// twice.
 fn repeated_of<A: Allocator + Copy>(
     alloc: A,
     reports: &Rows<Report, A>,
 ) -> Result<Vec<Identity, A>, AllocError>
+    requires { length reports.now.rows ≤ most_rows }
     ensures { IfOk result (λ again. (i : Identity) → has identity_cmp again.items i ≡ nat_lt 1 (count_at reports.now.rows i)) }
 {
     if let Some(marked) = repeated_by_place(reports)? {
         return Ok(marked);
     }
-    let identities = identities_in_order(alloc, reports)?;
+    let mut identities = perhaps_repeated(reports)?;
+    identities.sort_unstable();
     let twice = repeated(alloc, &identities)?;
     Ok(twice)
-}
-
-// The identities of the reports in their order.
-fn identities_in_order<A: Allocator + Copy>(
-    alloc: A,
-    reports: &Rows<Report, A>,
-) -> Result<Vec<Identity, A>, AllocError>
-    ensures all { IfOk result (λ all. IsPermutation (map identity_of reports.now.rows) all.items) }
-    ensures sorted { IfOk result (λ all. IsSorted identity_cmp all.items) }
-{
-    let mut identities = Vec::with_capacity(alloc, reports.len())?;
-    for report in reports.iter() {
-        identities.push(report.identity())?;
-    }
-    identities.sort_unstable();
-    Ok(identities)
 }
 
 // Each identity that the one before it equals: those that stand there twice, once for each further time.

@@ -17,8 +17,8 @@ use tca_report::{Identity, Report};
 // Where there are more places than this for a report, sorting takes less memory.
 const MOST_PLACES: usize = 8;
 
-// Marks a place, and tells how often it was marked before: never, once, or 2 where more often.
-fn mark(marks: &mut [u8], at: usize) -> u8
+/// Marks a place, and tells how often it was marked before: never, once, or 2 where more often.
+pub(crate) fn mark(marks: &mut [u8], at: usize) -> u8
     requires { at < length marks.old }
     ensures before { result ≡ slice_index marks.old at }
     ensures after { marks.new ≡ slice_set marks.old at (one_more (slice_index marks.old at)) }

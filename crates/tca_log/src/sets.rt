@@ -1,15 +1,19 @@
 //! The set of the reports of a list.
-ghost use Rattle.std.specs.Prelude.{◌≡◌, ◌≤◌, length, take, IsTrue};
+ghost use Rattle.std.specs.Prelude.{◌≡◌, ◌≤◌, length, take, IfOk, IfSome, IsTrue};
 ghost use Rattle.std.specs.List.Sorted.{IsStrictlySortedBy};
 ghost use Rattle.tca_join.specs.Sets.{in_order};
 ghost use Rattle.tca_report.specs.report.Reports.{report_cmp};
 
 use crate::rows::{are_among, ascend, rising_first, sort_behind};
-use std::alloc::Allocator;
+use std::alloc::{AllocError, Allocator};
+use tca_join::Items;
 use tca_report::Report;
 
 // Where fewer than this part of a list ascend, the whole list is sorted.
 const PART: usize = 4;
+
+// At how many places a list is looked at.
+const LOOKS: usize = 1_024;
 
 /// The reports of a list in order, each once. A list that ascends is given back; of one that ascends but for some reports, as where
 /// some come late or again, only those are sorted. Where memory is wanting the list is sorted in place.
@@ -17,6 +21,68 @@ pub fn set_of<A: Allocator + Copy>(reports: Vec<Report, A>) -> Vec<Report, A>
     ensures { result.items ≡ in_order report_cmp reports.items }
 {
     set_where(reports, false)
+}
+
+// Whether a list seems to ascend: at 1,024 places, where reports stand in order beside each other and from one place to the next.
+fn seems_to_ascend(list: &[Report]) -> bool {
+    let step = list.len() / LOOKS + 1;
+    let mut last = 0;
+    let mut at = 1;
+    while at < list.len() {
+        let before = &list[at - 1];
+        if list[last].cmp(before).is_gt() || !before.cmp(&list[at]).is_lt() {
+            return false;
+        }
+        last = at;
+        at = at.saturating_add(step);
+    }
+    true
+}
+
+/// The same list, with its set beside, so that each of its owners has the set without sorting it. A list that ascends is its own set, so where
+/// it seems to, at 1,024 places, it has none beside; nor has it where memory is wanting for one.
+pub fn with_set<A: Allocator + Copy>(alloc: A, list: Items<Report, A>) -> Items<Report, A>
+    ensures { result ≡ list }
+{
+    if seems_to_ascend(list.as_slice()) {
+        return list;
+    }
+    match Vec::from_slice(alloc, list.as_slice()) {
+        Ok(copy) => list.beside(alloc, set_of(copy)),
+        Err(_) => list,
+    }
+}
+
+/// The set of a list, where it needs no sorting: the list itself where it ascends, or the one beside it.
+pub fn set_beside<A: Allocator + Copy>(
+    list: &Items<Report, A>,
+) -> Result<Option<Items<Report, A>>, AllocError>
+    ensures { IfOk result (λ found. IfSome found (λ set. set ≡ in_order report_cmp list.now)) }
+{
+    if ascend(list.as_slice()) {
+        return Ok(Some(list.share()?));
+    }
+    let Some(other) = list.other()? else {
+        return Ok(None);
+    };
+    if ascend(other.as_slice()) {
+        return Ok(Some(other));
+    }
+    Ok(None)
+}
+
+/// The set of a list that others may hold too: the one beside it where there is one, else sorted from a copy.
+pub fn set_in<A: Allocator + Copy>(
+    alloc: A,
+    list: &Items<Report, A>,
+) -> Result<Items<Report, A>, AllocError>
+    ensures { IfOk result (λ set. set ≡ in_order report_cmp list.now) }
+{
+    if let Some(set) = set_beside(list)? {
+        return Ok(set);
+    }
+    let copy = Vec::from_slice(alloc, list.as_slice())?;
+    Items::of(alloc, set_of(copy))
 }
 
 /// The same, where it may be known that the list ascends.

@@ -22,7 +22,7 @@ use crate::log::Log;
 use crate::rows::{
     LIMIT, Rows, RowsIter, SHARE, are_beyond, ascend, count_beyond, difference, merged,
 };
-use crate::sets::set_where;
+use crate::sets::{set_beside, set_where};
 use std::alloc::{AllocError, Allocator};
 use tca_join::Items;
 use tca_report::{Identity, Report};
@@ -140,9 +140,10 @@ impl<A: Allocator + Copy> Log<A> {
         Ok(true)
     }
 
-    /// Adds the reports of a list that may be shared, as `add_all` does. Where the log has none and they ascend it holds the list with its
-    /// other owners; else it takes the list, or a copy where it has other owners. `Full` comes only where the log would have more than
-    /// 4,194,304 reports, and `Memory` where a growth was refused, also that of the copy; both leave the log as it was.
+    /// Adds the reports of a list that may be shared, as `add_all` does. Where the log has none it holds their set with its other owners,
+    /// if that is the list or stands beside it; else it takes the list, or a copy where it has other owners. `Full` comes only where the
+    /// log would have more than 4,194,304 reports, and `Memory` where a growth was refused, also that of the copy; both leave the log
+    /// as it was.
     pub fn add_list(&mut self, list: Items<Report, A>) -> Result<u32, LogFault>
         ensures ok { OnOk result (self.new ≡ after (Many list) self.old) }
         ensures count { IfOk result (λ n. n + length self.old ≡ length self.new) }
@@ -152,8 +153,38 @@ impl<A: Allocator + Copy> Log<A> {
         if self.take_shared(&list)? {
             return Ok(list.len() as u32);
         }
+        if let Some(set) = set_beside(&list)? {
+            return self.add_set(set);
+        }
         let reports = list.into_vec(self.rows.allocator())?;
         self.add_all(reports)
+    }
+
+    /// Adds the reports of a set that may be shared, as `add_list` does.
+    pub fn add_set(&mut self, set: Items<Report, A>) -> Result<u32, LogFault>
+        requires { IsStrictlySortedBy report_cmp set }
+        ensures ok { OnOk result (self.new ≡ after (Many set) self.old) }
+        ensures count { IfOk result (λ n. n + length self.old ≡ length self.new) }
+        ensures err { OnErr result (self.new ≡ self.old) }
+        ensures full { IfErr result (λ e. e ≡ Full → most_reports < length (in_order report_cmp (self.old ++ set))) }
+    {
+        let new = count_new(&self.rows, set.as_slice());
+        if new == 0 {
+            return Ok(0);
+        }
+        if new > LIMIT - self.rows.len() {
+            return Err(LogFault::Full);
+        }
+        let alone = are_alone(&self.rows, set.as_slice());
+        let news = news_of_set(self.rows.allocator(), &self.rows, set, new)?;
+        take_in(
+            &mut self.rows,
+            &mut self.index,
+            &mut self.disputed,
+            news,
+            alone,
+        )?;
+        Ok(new as u32)
     }
 }
 
@@ -224,6 +255,25 @@ fn news_of<A: Allocator + Copy>(
         return Rows::of_ascending(alloc, set);
     }
     difference(alloc, RowsIter::of(&set), set.len(), new, rows)
+}
+
+// Those of a set that others may hold too that are not among the rows, of which there are so many: the set itself where all are new.
+fn news_of_set<A: Allocator + Copy>(
+    alloc: A,
+    rows: &Rows<Report, A>,
+    set: Items<Report, A>,
+    new: usize,
+) -> Result<Rows<Report, A>, AllocError>
+    requires rises { IsStrictlySortedBy report_cmp set }
+    requires new { new ≡ length (without_each report_cmp rows.now.rows set) }
+    requires few { new ≤ most_rows }
+    ensures { IfOk result (λ news. news.rows ≡ without_each report_cmp rows.now.rows set) }
+{
+    let list = set.as_slice();
+    if new == list.len() {
+        return Rows::of_shared(alloc, set);
+    }
+    difference(alloc, RowsIter::of(list), list.len(), new, rows)
 }
 
 // Puts reports that are new into a log's parts. A log without reports takes them as they are, without an index. It may be known

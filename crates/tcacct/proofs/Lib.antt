@@ -11,3 +11,4 @@ pub mod ShareLaws
 pub mod AnswerLaws
 pub mod AuditLaws
 pub mod Walking
+pub mod SetLaws

@@ -5,13 +5,15 @@ ghost use Rattle.tca_ingest.specs.Works.{AreLentResults};
 ghost use Rattle.tca_report.specs.input.Inputs.{input_view};
 ghost use Rattle.tca_program.specs.Noted.{IsNoted};
 ghost use Rattle.tcacct.specs.Replicated.{AnswerView, AreAnswersRefused, ArePut, AreRead, AreReplicasRefused, IsInputFault, answers_of, refusal_of, stranger_refusal};
+ghost use Rattle.tca_join.specs.Sets.{in_order};
+ghost use Rattle.tca_report.specs.report.Reports.{report_cmp};
 ghost use Rattle.tca_program.specs.Unions.{HoldsReports, views_of, union_of};
 
 use std::alloc::{AllocError, Global};
 use std::marker::Model;
 use tca_ingest::{Done, Entry, JobFault, Receipt};
 use tca_join::Items;
-use tca_log::set_of;
+use tca_log::{set_beside, set_of};
 use tca_program::RunFault;
 use tca_report::{Input, Notes, Report};
 
@@ -209,6 +211,30 @@ pub(crate) fn chain_all(alloc: Global, lists: Vec<Items<Report>>) -> Result<Vec<
     }
     let first = others.remove(0).into_vec(alloc)?;
     append_all(first, others)
+}
+
+// The set of a list where that needs no sorting, else the list itself.
+fn set_or_list(list: Items<Report>) -> Result<Items<Report>, AllocError>
+    ensures { IfOk result (λ set. in_order report_cmp set ≡ in_order report_cmp list) }
+{
+    match set_beside(&list)? {
+        Some(set) => Ok(set),
+        None => Ok(list),
+    }
+}
+
+/// For each list its set where that needs no sorting, else the list itself.
+pub(crate) fn sets_of(
+    alloc: Global,
+    lists: Vec<Items<Report>>,
+) -> Result<Vec<Items<Report>>, AllocError>
+    ensures { IfOk result (λ sets. union_of sets.items ≡ union_of lists.items) }
+{
+    let mut sets = Vec::with_capacity(alloc, lists.len())?;
+    for list in lists {
+        sets.push(set_or_list(list)?)?;
+    }
+    Ok(sets)
 }
 
 /// All reports of these lists in order, each once.

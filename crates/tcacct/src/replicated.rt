@@ -13,7 +13,7 @@ ghost use Rattle.tca_program.specs.declared.fault.Family.TheVariants as family;
 ghost use Rattle.tca_statements.specs.Statements.{statement_under};
 ghost use Rattle.tca_accounts.specs.Documents.{IsPlanOf};
 
-use crate::answers::{chain_all, union_of};
+use crate::answers::{chain_all, sets_of, union_of};
 use crate::bill::{Prepared, put_alone, put_exported};
 use crate::replicas::{BillSetting, PARTS, run_replicas};
 use std::alloc::Global;
@@ -56,7 +56,23 @@ fn compare(alloc: Global, log: Log, lists: Vec<Items<Report>>) -> Result<Vec<Rep
         drop(log);
         return Ok(chain_all(alloc, lists)?);
     }
-    let reports = union_of(alloc, lists)?;
+    compare_sets(alloc, log, sets_of(alloc, lists)?)
+}
+
+// The same, by the lists' sets.
+fn compare_sets(alloc: Global, log: Log, sets: Vec<Items<Report>>) -> Result<Vec<Report>, RunFault>
+    ensures whole { IfOk result (λ list. list.items ≡ union_of sets.items) }
+    ensures held { IfOk result (λ list. list.items ≡ log) }
+    ensures rises { IfOk result (λ list. IsStrictlySortedBy report_cmp list.items) }
+    ensures limit { IfOk result (λ list. length list.items ≤ most_reports) }
+    ensures differs { IfErr result (λ e. e ≢ memory_refusal → (e ≡ refusal None family.Close 3) × (union_of sets.items ≢ log)) }
+    ensures refused { IfErr result IsExchangeRefused }
+{
+    if are_log(&sets, &log) {
+        drop(log);
+        return Ok(chain_all(alloc, sets)?);
+    }
+    let reports = union_of(alloc, sets)?;
     check_held(reports, &log)
 }
 

@@ -5,7 +5,7 @@ use std::alloc::{AllocError, Allocator, Global};
 use std::test::Fail;
 use tca_join::{Items, Join, JoinFault};
 use tca_log::rows::Rows;
-use tca_log::{Added, Log, LogFault};
+use tca_log::{Added, Log, LogFault, with_set};
 use tca_report::{Content, Identity, Report};
 
 // The time of the first report of the worked rows.
@@ -1148,6 +1148,19 @@ fn a_log_shares_a_list_that_ascends_where_it_has_none(rt: HostRuntime) {
     assert!(rt; shares(rt.alloc(), &mut log, 4) == Some((false, 0)));
     assert!(rt; shares(rt.alloc(), &mut log, 3) == Some((true, 3)));
     assert!(rt; shares(rt.alloc(), &mut log, 2) == Some((false, 3)));
+}
+
+// How many reports the set has that stands beside the list of the first rows.
+fn count_beside(alloc: Global, count: usize) -> Option<usize> {
+    let list = Items::of(alloc, rows(alloc, count)?).ok()?;
+    let set = with_set(alloc, list).other().ok()??;
+    Some(set.len())
+}
+
+#[test]
+fn a_list_that_does_not_ascend_has_its_set_beside(rt: HostRuntime) {
+    assert!(rt; count_beside(rt.alloc(), 3).is_none());
+    assert!(rt; count_beside(rt.alloc(), 4) == Some(4));
 }
 
 // What a log answers that is given the first rows as a list that may be shared.

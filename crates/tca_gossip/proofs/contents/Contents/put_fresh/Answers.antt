@@ -33,9 +33,9 @@ invariant_of-self-2 c =
     let same = rw (← c.self.view_is) at c.requires.same in
     let new = rw (← c.self.view_is) at c.requires.new in
     let logs = c.in_default.ensures.ok ∙ same in
-    let replica = own_replica name log c.add_all.new.self es c.set.new.self billing c.self.invariant fresh c.keys-rises.ensures.rises chains logs in
-    let within = own_within_all name log c.add_all.new.self es c.set.new.self billing c.self.invariant fresh c.keys-rises.ensures.rises chains logs (omega (arith, new, ap length logs)) in
-    refilled name billing.plan c.add_all.new.self c.set.new.self c.release.new.self c.keys-rises.ensures.rises replica within c.release.ensures.plan (without_book c.add_all.new.self c.release.new.self c.release.ensures.kept)
+    let replica = own_replica name log c.add_set.new.self es c.set-2.new.self billing c.self.invariant fresh c.keys-rises.ensures.rises chains logs in
+    let within = own_within_all name log c.add_set.new.self es c.set-2.new.self billing c.self.invariant fresh c.keys-rises.ensures.rises chains logs (omega (arith, new, ap length logs)) in
+    refilled name billing.plan c.add_set.new.self c.set-2.new.self c.release.new.self c.keys-rises.ensures.rises replica within c.release.ensures.plan (without_book c.add_set.new.self c.release.new.self c.release.ensures.kept)
 
 pub returns-clause-state : goal.returns-clause-state
 returns-clause-state c =
@@ -46,8 +46,8 @@ returns-clause-state c =
     let chains = λ (q : ℕ). ap (λ (fs : List (ℕ × ChainView PacketReport)). held_of fs q) c.in_ok-set.ensures.ok ∙ more_kept es c.self.invariant.rises name fresh c.of.result (ap (λ (v : ChainView PacketReport). v.items) c.of.ensures ∙ list) q in
     let same = rw (← c.self.view_is) at c.requires.same in
     let logs = c.in_default.ensures.ok ∙ same in
-    let plan = ap (λ (p : AccountPlan). replica_of name p c.add_all.new.self c.set.new.self) c.release.ensures.plan in
-    rw (← c.self.view_is) (plan ∙ own_is name c.self.inside.log c.add_all.new.self es c.set.new.self c.self.inside.billing c.self.invariant fresh c.keys-rises.ensures.rises chains logs)
+    let plan = ap (λ (p : AccountPlan). replica_of name p c.add_set.new.self c.set-2.new.self) c.release.ensures.plan in
+    rw (← c.self.view_is) (plan ∙ own_is name c.self.inside.log c.add_set.new.self es c.set-2.new.self c.self.inside.billing c.self.invariant fresh c.keys-rises.ensures.rises chains logs)
 
 pub invariant_of-self-in-Err : goal.invariant_of-self-in-Err
 invariant_of-self-in-Err c =
@@ -55,12 +55,12 @@ invariant_of-self-in-Err c =
     let es = c.self.inside.chains in
     let rises = c.self.invariant.rises in
     let held = c.held_of-held.result.now in
-    let gone = back_set es rises name c.of.result c.of-in-Err.result c.set.new.self c.set-in-Err.new.self c.set-in-Err.result c.in_ok-set.ensures.ok c.set-in-Err.ensures.there c.set-in-Err.ensures.ok in
+    let gone = back_set es rises name c.of.result c.of-in-Err.result c.set-2.new.self c.set-in-Err.new.self c.set-in-Err.result c.in_ok-set.ensures.ok c.set-in-Err.ensures.there c.set-in-Err.ensures.ok in
     let items : c.of-in-Err.result.items ≡ held_of es name =
     ap (λ (v : ChainView PacketReport). v.items) c.of-in-Err.ensures ∙ c.first.ensures ∙ ap (take (length held)) (c.in_ok-both.ensures ∙ c.in_ok-list.ensures) ∙ take-append_seam held c.args.fresh ∙ c.held_of-held.ensures.items in
     let chains = λ (q : ℕ). ap (λ (gs : List (ℕ × ChainView PacketReport)). held_of gs q) gone ∙ back_held es rises name c.of.result c.of-in-Err.result items q in
     let gs_rise : Rises c.set-in-Err.new.self = subst Rises (sym gone) (back_rises es rises name c.of.result c.of-in-Err.result) in
-    again_contents name c.self.inside.log c.add_all.new.self es c.set-in-Err.new.self c.self.inside.billing c.self.invariant gs_rise chains c.in-Err.ensures.err
+    again_contents name c.self.inside.log c.add_set.new.self es c.set-in-Err.new.self c.self.inside.billing c.self.invariant gs_rise chains c.in-Err.ensures.err
 
 pub returns-in-Err-clause-err : goal.returns-in-Err-clause-err
 returns-in-Err-clause-err c =
@@ -68,9 +68,9 @@ returns-in-Err-clause-err c =
     let es = c.self.inside.chains in
     let rises = c.self.invariant.rises in
     let held = c.held_of-held.result.now in
-    let gone = back_set es rises name c.of.result c.of-in-Err.result c.set.new.self c.set-in-Err.new.self c.set-in-Err.result c.in_ok-set.ensures.ok c.set-in-Err.ensures.there c.set-in-Err.ensures.ok in
+    let gone = back_set es rises name c.of.result c.of-in-Err.result c.set-2.new.self c.set-in-Err.new.self c.set-in-Err.result c.in_ok-set.ensures.ok c.set-in-Err.ensures.there c.set-in-Err.ensures.ok in
     let items : c.of-in-Err.result.items ≡ held_of es name =
     ap (λ (v : ChainView PacketReport). v.items) c.of-in-Err.ensures ∙ c.first.ensures ∙ ap (take (length held)) (c.in_ok-both.ensures ∙ c.in_ok-list.ensures) ∙ take-append_seam held c.args.fresh ∙ c.held_of-held.ensures.items in
     let chains = λ (q : ℕ). ap (λ (gs : List (ℕ × ChainView PacketReport)). held_of gs q) gone ∙ back_held es rises name c.of.result c.of-in-Err.result items q in
     let gs_rise : Rises c.set-in-Err.new.self = subst Rises (sym gone) (back_rises es rises name c.of.result c.of-in-Err.result) in
-    rw (← c.self.view_is) (again_is name c.self.inside.log c.add_all.new.self es c.set-in-Err.new.self c.self.inside.billing c.self.invariant gs_rise chains c.in-Err.ensures.err)
+    rw (← c.self.view_is) (again_is name c.self.inside.log c.add_set.new.self es c.set-in-Err.new.self c.self.inside.billing c.self.invariant gs_rise chains c.in-Err.ensures.err)

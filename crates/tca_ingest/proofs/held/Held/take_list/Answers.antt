@@ -36,7 +36,7 @@ pub returns-clause-took : goal.returns-clause-took
 returns-clause-took g c =
     let t = c.take_shared-taken.result in
     let number = c.mine.inside.number in
-    let given : c.in_ok-list.list ≡ c.args.reports.items = c.in_ok-list.ensures ∙ c.in_ok-copies.ensures in
+    let given : c.in_ok-list.list ≡ c.args.reports = c.in_ok-list.ensures ∙ c.in_ok-copies.ensures in
     rw (← c.mine.view_is) (record {
       taken = t.taken;
       fresh = t.fresh;
