@@ -5,7 +5,7 @@ pub mod Logs
 pub mod ReportAdditions
 pub mod Undisputed
 pub mod Uniting
-pub mod AscendingPlaces
+pub mod AscendingIdentities
 pub mod AscendingReports
 pub mod Repeats
 pub mod OrderedRows

@@ -1,16 +1,14 @@
-//! Reports whose identities or places ascend.
-ghost use Rattle.std.specs.Prelude.{◌≡◌, true, [], IfOk, IsTrue};
+//! Reports whose identities ascend.
+ghost use Rattle.std.specs.Prelude.{◌≡◌, true, [], IsTrue};
 ghost use Rattle.std.specs.List.Sorted.{IsStrictlySortedBy};
 ghost use Rattle.std.specs.declared.cmp.Ordering.TheVariants.{Less};
 ghost use Rattle.tca_report.specs.report.Reports.{report_cmp};
 ghost use Rattle.tca_report.specs.report.Identities.{identity_cmp, identity_of};
 ghost use Rattle.tca_log.specs.Disputes.{disputed};
-ghost use Rattle.tca_log.specs.inside.Logs.{origin_of};
 
 use crate::rows::{Rows, RowsIter};
-use std::alloc::{AllocError, Allocator};
-use std::collections::BTreeMap;
-use tca_report::{Identity, Report};
+use std::alloc::Allocator;
+use tca_report::Report;
 
 /// Whether each report's identity comes after that of the report before it, as where there is one session of one domain,
 /// whose exporter counts. Then no two have one identity. It takes no memory.
@@ -59,31 +57,4 @@ pub(crate) fn all_ascend(reports: &[Report]) -> bool
         before = *report;
     }
     true
-}
-
-// Domain and session of an identity as one number.
-fn origin(identity: Identity) -> u64
-    ensures { result ≡ origin_of identity }
-{
-    identity.domain as u64 * 4_294_967_296 + identity.session as u64
-}
-
-/// Whether each report's place is above those of all reports of its domain and session before it, as an exporter counts.
-/// Then no two have one identity. It takes memory for two numbers of each domain and session.
-pub(crate) fn places_ascend<A: Allocator + Copy>(
-    alloc: A,
-    reports: &Rows<Report, A>,
-) -> Result<bool, AllocError>
-    ensures { IfOk result (λ ascend. ascend ≡ true → disputed reports.now.rows ≡ []) }
-{
-    let mut last = BTreeMap::new(alloc);
-    for report in reports.iter() {
-        let identity = report.identity();
-        if let Some(before) = last.insert(origin(identity), identity.place)? {
-            if identity.place <= before {
-                return Ok(false);
-            }
-        }
-    }
-    Ok(true)
 }

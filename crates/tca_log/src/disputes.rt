@@ -9,7 +9,7 @@ ghost use Rattle.tca_log.specs.inside.Logs.{count_at};
 ghost use Rattle.tca_log.specs.Disputes.{disputed};
 ghost use Rattle.tca_log.specs.Rows.Ordered.{most_rows};
 
-use crate::ascending::{identities_ascend, places_ascend};
+use crate::ascending::identities_ascend;
 use crate::marks::repeated_by_place;
 use crate::numbers::perhaps_repeated;
 use crate::rows::Rows;
@@ -24,7 +24,7 @@ pub(crate) fn disputes_of<A: Allocator + Copy>(
     ensures { IfOk result (λ all. all.rows ≡ disputed reports.now.rows) }
 {
     let alloc = reports.allocator();
-    if identities_ascend(reports) || places_ascend(alloc, reports)? {
+    if identities_ascend(reports) {
         return Ok(Rows::new(alloc));
     }
     let mut disputed = repeated_of(alloc, reports)?;

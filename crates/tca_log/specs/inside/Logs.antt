@@ -1,5 +1,5 @@
 -- A log's set, with what is kept beside it, a content of each identity and the identities that are disputed: for its fields and their proofs alone.
-use Rattle.std.specs.Prelude.{◌≡◌, ℕ, ◌+◌, ◌*◌, ◌≤◌, Bool, true, false, List, length, nat_lt, option_map, IfSome, Option, Some, None}
+use Rattle.std.specs.Prelude.{◌≡◌, ℕ, ◌≤◌, Bool, true, false, List, length, nat_lt, option_map, IfSome, Option, Some, None}
 use Rattle.std.specs.List.{AllByRecursion}
 use Rattle.std.specs.List.Sorted.{IsStrictlySortedBy}
 use Rattle.std.specs.declared.cmp.Ordering.{Ordering}
@@ -12,10 +12,6 @@ use Rattle.tca_log.specs.declared.answer.Added.TheVariants.{Fresh, NewDispute, M
 use Rattle.tca_log.specs.declared.by_identity.ByIdentity.{ByIdentity}
 use Rattle.tca_log.specs.Rows.Ordered.{tied, Ordered}
 use Rattle.tca_log.specs.Disputes.{by_identity_cmp, contents, disputed}
-
--- domain and session of an identity as one number
-abbrev pub origin_of : Identity → ℕ
-origin_of i = i.domain * 4294967296 + i.session
 
 -- the order of the index
 abbrev pub index_cmp : ByIdentity → ByIdentity → Ordering

@@ -7,7 +7,7 @@ use Rattle.tca_report.specs.report.Identities.{identity_of}
 use Rattle.tca_report.specs.declared.report.Identity.{Identity}
 use Rattle.tca_report.proofs.lemmas.report.Order.{report_total}
 use Rattle.tca_log.specs.inside.Logs.{count_at}
-use Rattle.tca_log.proofs.AscendingPlaces.{below_first, below_more, none_alone, none_disputed}
+use Rattle.tca_log.proofs.AscendingIdentities.{below_first, below_more, none_alone, none_disputed}
 use Rattle.tca_log.proofs.AscendingReports.{rises_alone, rises_none, rises_snoc}
 use Rattle.tca_log.proofs.ascending.all_ascend.Goals as goal
 

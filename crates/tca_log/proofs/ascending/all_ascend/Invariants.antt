@@ -2,7 +2,7 @@ use Rattle.std.proofs.Common.{◌≡◌, List, [], ◌∷◌, ◌++◌}
 use Rattle.std.specs.List.Sorted.{IsStrictlySortedBy}
 use Rattle.tca_report.specs.report.Reports.{PacketReport, report_cmp}
 use Rattle.tca_report.specs.report.Identities.{identity_of}
-use Rattle.tca_log.proofs.AscendingPlaces.{AreBelow}
+use Rattle.tca_log.proofs.AscendingIdentities.{AreBelow}
 use Rattle.tca_log.proofs.ascending.all_ascend.Given as goal
 
 -- the reports that were seen before the last one, that one, and then those that are left

@@ -5,7 +5,7 @@ use Rattle.tca_report.specs.report.Reports.{PacketReport}
 use Rattle.tca_report.specs.report.Identities.{identity_cmp, identity_of}
 use Rattle.tca_report.specs.declared.report.Identity.{Identity}
 use Rattle.tca_log.specs.inside.Logs.{count_at}
-use Rattle.tca_log.proofs.AscendingPlaces.{below_first, below_more, none_alone, none_disputed}
+use Rattle.tca_log.proofs.AscendingIdentities.{below_first, below_more, none_alone, none_disputed}
 use Rattle.tca_log.proofs.ascending.identities_ascend.Goals as goal
 
 pub returns-in_default : goal.returns-in_default

@@ -1,6 +1,6 @@
 use Rattle.std.proofs.Common.{◌≡◌, List, ◌++◌}
 use Rattle.tca_report.specs.report.Reports.{PacketReport}
-use Rattle.tca_log.proofs.AscendingPlaces.{AreBelow}
+use Rattle.tca_log.proofs.AscendingIdentities.{AreBelow}
 use Rattle.tca_log.proofs.ascending.identities_ascend.Given as goal
 
 -- the reports that were seen, and then those that are left

@@ -1,4 +1,4 @@
-use Rattle.std.proofs.Common.{◌≡◌, ◌+◌, [], length, drop, ap, arith}
+use Rattle.std.proofs.Common.{◌≡◌, ◌+◌, [], drop, ap, arith}
 use Rattle.std.proofs.lemmas.List.{drop_all}
 use Rattle.tca_log.specs.inside.Spans.{widths}
 use Rattle.tca_log.proofs.Slots.{cut, widths_first, widths_none}

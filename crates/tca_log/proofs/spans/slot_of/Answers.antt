@@ -1,7 +1,6 @@
-use Rattle.std.proofs.Common.{◌≡◌, ◌+◌, true, false, List, ◌∷◌, [], length, drop, sym, ap, subst, ◌∙◌, arith}
+use Rattle.std.proofs.Common.{◌≡◌, ◌+◌, false, ◌∷◌, [], drop, sym, ap, subst, ◌∙◌, arith}
 use Rattle.std.proofs.lemmas.List.{drop_all}
-use Rattle.tca_log.specs.declared.span.Span.{Span}
-use Rattle.tca_log.specs.inside.Spans.{IsAmong, IsWithin, is_of, slot, widths}
+use Rattle.tca_log.specs.inside.Spans.{IsAmong, is_of, slot, widths}
 use Rattle.tca_log.proofs.Slots.{among_none, cut, first_within, later_among, slot_first, slot_later, widths_first}
 use Rattle.tca_log.proofs.spans.slot_of.Goals as goal
 
