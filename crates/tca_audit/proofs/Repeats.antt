@@ -19,7 +19,7 @@ use Rattle.tca_report.proofs.lemmas.report.Identities.{identity_exact}
 use Rattle.tca_log.specs.Disputes.{contents, disputed, has_identity}
 use Rattle.tca_log.proofs.Contents.{disputed_is, tests_alike}
 use Rattle.tca_log.proofs.Filters.{alike}
-use Rattle.tca_log.proofs.AscendingPlaces.{none_disputed}
+use Rattle.tca_log.proofs.AscendingIdentities.{none_disputed}
 use Rattle.tca_log.proofs.OrderedRows.Rising.{rises_first, rises_more}
 use Rattle.tca_join.proofs.Search.{found_at, gap_at, searchable}
 use Rattle.tca_audit.specs.inside.Repeats.{begins_with, repeats}
