@@ -12,3 +12,4 @@ pub mod AnswerLaws
 pub mod AuditLaws
 pub mod Walking
 pub mod SetLaws
+pub mod TogetherLaws

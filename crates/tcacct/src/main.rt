@@ -22,6 +22,7 @@ mod shell;
 #[cfg(test)]
 mod tests;
 mod texts;
+mod together;
 
 use shell::{NAME, run_words};
 use std::io;

@@ -16,6 +16,7 @@ ghost use Rattle.tca_accounts.specs.Documents.{IsPlanOf};
 use crate::answers::{chain_all, sets_of, union_of};
 use crate::bill::{Prepared, put_alone, put_exported};
 use crate::replicas::{BillSetting, PARTS, run_replicas};
+use crate::together::are_together;
 use std::alloc::Global;
 use std::marker::Brand;
 use std::sync::Wait;
@@ -30,6 +31,10 @@ use tca_log::rows::RowsIter;
 use tca_program::RunFault;
 use tca_report::{Input, Notes, Report, Write};
 use tca_statements::Statement;
+
+// So many lists are gone through beside the log, each report of which is sought at the front of each list; more are united, which costs
+// less then.
+const FEW: usize = 16;
 
 // Reports that are those of a log, in their order.
 fn check_held(reports: Vec<Report>, log: &Log) -> Result<Vec<Report>, RunFault>
@@ -71,6 +76,10 @@ fn compare_sets(alloc: Global, log: Log, sets: Vec<Items<Report>>) -> Result<Vec
     if are_log(&sets, &log) {
         drop(log);
         return Ok(chain_all(alloc, sets)?);
+    }
+    if sets.len() <= FEW && are_together(alloc, &sets, &log)? {
+        drop(sets);
+        return Ok(log.into_reports()?);
     }
     let reports = union_of(alloc, sets)?;
     check_held(reports, &log)
