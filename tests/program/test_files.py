@@ -1,6 +1,8 @@
 """Files and devices: large ones, pipes, folders, files without the right to read, full devices, OUT that is an input."""
 import os
+import resource
 import shutil
+import struct
 import subprocess
 import threading
 import unittest
@@ -85,6 +87,10 @@ class Files(ProgramTest):
         self.assert_done(self.run_program("bill", "--export", "y", "plan", "y", "x"), STATEMENT)
         self.assertEqual(self.read("y"), THREE_2)
 
+    def test_a_long_plan_that_is_no_document(self):
+        self.write("long", b"x" * 100_000)
+        self.assert_refused(self.run_program("bill", "long", "three"), "long", "plan", 1)
+
     def test_out_that_was_longer(self):
         self.write("out", bytes(10_000))
         self.assert_done(self.run_program("combine", "out", "three"), b"reports 3\n")
@@ -116,3 +122,44 @@ class Files(ProgramTest):
         self.write("half", export(rows[:25000]))
         self.write("other", export(rows[20000:]))
         self.assert_done(self.run_program("bill", "plan", "half", "other"), statement(PLAN, rows))
+
+
+def message(sets):
+    return struct.pack(">HHIII", 10, 16 + len(sets), TIME // 1000, 0, 7) + sets
+
+
+def template(number):
+    """A template set that defines a template of one field."""
+    return struct.pack(">HHHHHH", 2, 12, number, 1, 224, 8)
+
+
+def withdrawal(number):
+    return struct.pack(">HHHH", 2, 8, number, 0)
+
+
+class Memory(ProgramTest):
+    """What a run holds: its input, in a list whose room doubles from 64 KiB on, 28 octets a report, and little else."""
+
+    LITTLE = 4 << 20
+
+    def run_within(self, octets, *words):
+        """The program, which gets no more memory than this."""
+        return self.run_program(*words, preexec_fn=lambda: resource.setrlimit(resource.RLIMIT_DATA, (octets, octets)))
+
+    def test_templates_that_come_and_go(self):
+        """A template that was withdrawn leaves nothing behind."""
+        pairs = [template(256 + n % 65_000) + withdrawal(256 + n % 65_000) for n in range(600_000)]
+        self.write("capture", b"".join(message(b"".join(pairs[at : at + 3_000])) for at in range(0, len(pairs), 3_000)))
+        self.assert_done(self.run_within((16 << 20) + self.LITTLE, "combine", "out", "capture"), b"reports 0\n")
+
+    def test_a_template_that_is_defined_again(self):
+        many = struct.pack(">HH", 2, 4 + 8 * 8_000) + struct.pack(">HHHH", 300, 1, 224, 8) * 8_000
+        self.write("capture", message(many) * 500)
+        self.assert_done(self.run_within((32 << 20) + self.LITTLE, "combine", "out", "capture"), b"reports 0\n")
+
+    def test_each_report_is_held_once(self):
+        count = 289_000
+        self.write("reports", export([(TIME + n // 8, 7, 0, n, 100, 0, 1) for n in range(count)]))
+        run = self.run_within((8 << 20) + 28 * count + self.LITTLE, "combine", "out", "reports")
+        self.assert_done(run, f"reports {count}\n".encode())
+        self.assertEqual(self.read("out"), self.read("reports"))
