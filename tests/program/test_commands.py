@@ -1,4 +1,6 @@
 """Each command over real files: status, standard output, standard error, and files afterwards."""
+import itertools
+
 from model import Account, Meter, Plan, capture, export, statement
 from program import ROOT, ProgramTest
 from rows import (FIRST, LATE, LINES, ONE, OTHER, PLAN, SECOND, SHORT, STATEMENT, TERMED, THIRD, THREE, THREE_1, THREE_2, TIME)
@@ -28,6 +30,13 @@ class Meters(ProgramTest):
         self.assert_done(self.run_program("meter", SPEC, "old"), LINES)
         self.assert_done(self.run_program("meter", SPEC, "new"), LINES)
         self.assert_done(self.run_program("meter", SPEC, "old", "new"), LINES)
+
+    def test_each_order_and_repeats(self):
+        """The messages of a capture, one for each report, in each order and then once more."""
+        for order in itertools.permutations(THREE):
+            once = b"".join(capture(7, row[3], [(row[0], *row[4:])]) for row in order)
+            self.write("capture", once + once)
+            self.assert_done(self.run_program("meter", SPEC, "capture"), LINES)
 
     def test_a_capture(self):
         self.write("one", ONE)

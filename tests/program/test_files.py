@@ -124,7 +124,7 @@ class Files(ProgramTest):
         self.assert_done(self.run_program("bill", "plan", "half", "other"), statement(PLAN, rows))
 
 
-def message(sets):
+def message_with(sets):
     return struct.pack(">HHIII", 10, 16 + len(sets), TIME // 1000, 0, 7) + sets
 
 
@@ -149,12 +149,12 @@ class Memory(ProgramTest):
     def test_templates_that_come_and_go(self):
         """A template that was withdrawn leaves nothing behind."""
         pairs = [template(256 + n % 65_000) + withdrawal(256 + n % 65_000) for n in range(600_000)]
-        self.write("capture", b"".join(message(b"".join(pairs[at : at + 3_000])) for at in range(0, len(pairs), 3_000)))
+        self.write("capture", b"".join(message_with(b"".join(pairs[at : at + 3_000])) for at in range(0, len(pairs), 3_000)))
         self.assert_done(self.run_within((16 << 20) + self.LITTLE, "combine", "out", "capture"), b"reports 0\n")
 
     def test_a_template_that_is_defined_again(self):
         many = struct.pack(">HH", 2, 4 + 8 * 8_000) + struct.pack(">HHHH", 300, 1, 224, 8) * 8_000
-        self.write("capture", message(many) * 500)
+        self.write("capture", message_with(many) * 500)
         self.assert_done(self.run_within((32 << 20) + self.LITTLE, "combine", "out", "capture"), b"reports 0\n")
 
     def test_each_report_is_held_once(self):
