@@ -1,4 +1,5 @@
 use Rattle.std.proofs.lemmas.Grind.{common_steps}
+use Rattle.std.proofs.lemmas.Result.{err_from_is_err_and}
 use Rattle.std.proofs.Common.{◌≡◌, ◌∙◌, ◌++◌, ◌∷◌, [], Err, rules, ap, inr, arith}
 use Rattle.tca_gossip.specs.Replicas.{ReplicaView}
 use Rattle.tcacct.proofs.AbsorbLaws.{last_plan}
@@ -15,8 +16,8 @@ returns-in_err-reports-clause-unmade g c =
 pub returns-in_err-statement-clause-unmade : goal.returns-in_err-statement-clause-unmade
 returns-in_err-statement-clause-unmade g c =
     let named : IsPlanOf c.args.plan.now c.in_ok-plan.plan = record { utf8 = c.in_ok-plan.ensures.utf8; named = c.in_ok-plan.ensures.ok } in
-    let is : c.from_residual-in_err-statement.result ≡ Err c.in_err-statement.field-0.0 = search rules in
-    rw is (inr (c.in_ok-plan.plan, named, inr (inr (all_sound _ _ c.in_ok-all.ensures.read.noted, c.in_err-statement.ensures.refused))))
+    let p = err_from_is_err_and c.from_residual-in_err-statement.result c.from_residual-in_err-statement.ensures.1 in
+    rw (p.1, p.2) (inr (c.in_ok-plan.plan, named, inr (inr (all_sound _ _ c.in_ok-all.ensures.read.noted, c.in_err-statement.ensures.refused))))
 
 pub returns-in_err-plan-clause-stated : goal.returns-in_err-plan-clause-stated
 returns-in_err-plan-clause-stated g c = grind (arith, common_steps)
@@ -112,19 +113,19 @@ statement_of-requires g c =
     ap (λ (v : ReplicaView). v.plan) c.without_journal-replica.ensures ∙ last_plan _ _ all c.pop.new.self.items c.in-Some.first c.in_ok-all.ensures.joined last ∙ search rules
 
 pub returns-in_err-statement-clause-stated : goal.returns-in_err-statement-clause-stated
-returns-in_err-statement-clause-stated g c = grind (arith, common_steps)
+returns-in_err-statement-clause-stated g c = let p = err_from_is_err_and c.from_residual-in_err-statement.result c.from_residual-in_err-statement.ensures.1 in rw p.1 tt
 
 pub returns-in_err-statement-clause-union : goal.returns-in_err-statement-clause-union
-returns-in_err-statement-clause-union g c = grind (arith, common_steps)
+returns-in_err-statement-clause-union g c = let p = err_from_is_err_and c.from_residual-in_err-statement.result c.from_residual-in_err-statement.ensures.1 in rw p.1 tt
 
 pub returns-in_err-statement-clause-noted : goal.returns-in_err-statement-clause-noted
-returns-in_err-statement-clause-noted g c = grind (arith, common_steps)
+returns-in_err-statement-clause-noted g c = let p = err_from_is_err_and c.from_residual-in_err-statement.result c.from_residual-in_err-statement.ensures.1 in rw p.1 tt
 
 pub returns-in_err-statement-clause-rises : goal.returns-in_err-statement-clause-rises
-returns-in_err-statement-clause-rises g c = grind (arith, common_steps)
+returns-in_err-statement-clause-rises g c = let p = err_from_is_err_and c.from_residual-in_err-statement.result c.from_residual-in_err-statement.ensures.1 in rw p.1 tt
 
 pub returns-in_err-statement-clause-limit : goal.returns-in_err-statement-clause-limit
-returns-in_err-statement-clause-limit g c = grind (arith, common_steps)
+returns-in_err-statement-clause-limit g c = let p = err_from_is_err_and c.from_residual-in_err-statement.result c.from_residual-in_err-statement.ensures.1 in rw p.1 tt
 
 pub returns-clause-stated : goal.returns-clause-stated
 returns-clause-stated g c = grind (arith, common_steps)
