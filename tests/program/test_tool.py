@@ -1,5 +1,7 @@
 """The second program, over real files: what only one of two inputs has, and which pairs of domain and interface there are."""
 import random
+import resource
+import signal
 import subprocess
 
 from model import export
@@ -79,6 +81,21 @@ class Differences(ToolTest):
             run = self.run_program("diff", "a", "a", program=TOOL, stdout=full)
         self.assertEqual((run.status, run.err), (1, b"tcatool: diff: write 1\n"))
 
+    def test_a_write_that_fails_amid_the_lines(self):
+        rows = [(TIME + n, 7, 0, n, 100, 0, 1) for n in range(2000)]
+        self.write("a", export(rows))
+        self.write("b", export([]))
+        whole = HEADER + "".join(f"A,{','.join(map(str, row))}\n" for row in rows).encode()
+        for most in (1, 40_000):
+            def limit():
+                signal.signal(signal.SIGXFSZ, signal.SIG_IGN)
+                resource.setrlimit(resource.RLIMIT_FSIZE, (most, most))
+
+            with open(self.folder / "out", "wb") as out:
+                run = self.run_program("diff", "a", "b", program=TOOL, stdout=out, preexec_fn=limit)
+            self.assertEqual((run.status, run.err), (1, b"tcatool: diff: write 1\n"))
+            self.assertEqual(self.read("out"), whole[:most])
+
     def test_wrong_lines(self):
         for words in ((), ("diff",), ("diff", "a"), ("diff", "a", "b", "c"), ("pairs",), ("bill", "a")):
             run = self.run_tool(*words)
@@ -98,6 +115,13 @@ class Pairs(ToolTest):
     def test_one_pair(self):
         self.write("a", THREE_1)
         self.assert_done(self.run_tool("pairs", "a"), PAIRS + b"7,1,3,3,3300,1700000000000,1700000000200\n")
+
+    def test_two_interfaces(self):
+        two = [FIRST[:6] + (2,), THIRD[:6] + (2,)]
+        disputed = [LATE, (TIME + 60, 7, 0, 3, 601, 0, 1)]
+        self.write("a", export([*two, SECOND, *disputed]))
+        lines = b"7,1,3,1,1000,1700000000050,1700000000100\n7,2,2,2,2300,1700000000000,1700000000200\n"
+        self.assert_done(self.run_tool("pairs", "a"), PAIRS + lines)
 
     def test_the_first_millisecond(self):
         self.write("a", export([(0, 7, 0, 0, 100, 0, 1), (5, 7, 0, 1, 200, 0, 1), (9, 7, 0, 2, 300, 0, 1), (0, 8, 0, 0, 400, 0, 1)]))

@@ -17,8 +17,6 @@ mod lines;
 mod reader;
 mod statement;
 mod sum;
-#[cfg(test)]
-mod tests;
 mod text;
 
 pub use fault::StatementFault;

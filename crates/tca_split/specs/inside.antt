@@ -1,4 +1,3 @@
 -- What private functions and invariants alone cite. No public contract speaks of it.
 pub mod Surveying
 pub mod Buffering
-pub mod InMemory

@@ -7,8 +7,6 @@ mod folder;
 mod laws;
 mod splitting;
 mod survey;
-#[cfg(test)]
-mod tests;
 
 pub use fault::SplitFault;
 pub use folder::Folder;

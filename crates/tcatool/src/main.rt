@@ -30,8 +30,6 @@ mod sharing;
 mod shell;
 mod split;
 mod table;
-#[cfg(test)]
-mod tests;
 mod told;
 
 use shell::{NAME, run_words};

@@ -1,6 +1,6 @@
 //! Statements by their octets, right and wrong ones.
-use crate::{Figure, Figures, StatementFault, add, read_statement};
 use std::alloc::Global;
+use tca_figures::{Figure, Figures, StatementFault, add, read_statement};
 
 // The statement of three packets of one account.
 const THREE: &str =

@@ -3,13 +3,13 @@ ghost use Rattle.std.specs.Prelude.{◌≡◌, Some, OnOk, OnErr, IfOk, nat_eq};
 ghost use Rattle.indexmap.specs.IndexMap.{get};
 ghost use Rattle.tca_split.specs.Folders.{Lengthens};
 ghost use Rattle.tca_split.specs.Splits.{IsSplit};
-ghost use Rattle.tca_split.specs.inside.InMemory.{octets_of};
+ghost use Rattle.tca_input_tests.specs.InMemory.{octets_of};
 
-use crate::{Folder, Parts, SplitFault, split};
 use indexmap::IndexMap;
 use std::alloc::Global;
 use std::io;
 use tca_report::{Host, ReadFault};
+use tca_split::{Folder, Parts, SplitFault, split};
 use tca_wire::WireFault;
 
 // Files in memory, which take three octets at a time.
@@ -37,7 +37,7 @@ fn write_behind(files: &mut IndexMap<u32, Vec<u8>>, domain: u32, octets: &[u8]) 
 impl Folder for MemoryFolder {
     ghost use Rattle.std.specs.Prelude.{Some, nat_eq};
     ghost use Rattle.indexmap.specs.IndexMap.{get};
-    ghost use Rattle.tca_split.specs.inside.InMemory.{octets_of};
+    ghost use Rattle.tca_input_tests.specs.InMemory.{octets_of};
 
     ghost files = { λ f. Some (octets_of (get nat_eq f.files)) };
 
