@@ -27,6 +27,17 @@ span 472222 1500 1 1000 1 800 1
 end
 """
 
+# That of no reports under the same plan.
+EMPTY = b"""tcacct statement 1
+period 3600000
+reports 0
+disputed 0
+unassigned 0
+account alpha
+total 0 0 0 0 0 0
+end
+"""
+
 LINES = b"green 1500 1\nyellow 1000 1\nred 800 1\n"
 
 # One message of domain 7: a template and a record of place 5, at TIME, 1500 octets, code point 10, interface 1.

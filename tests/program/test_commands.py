@@ -1,8 +1,9 @@
 """Each command over real files: status, standard output, standard error, and files afterwards."""
 import itertools
+import random
 
 from model import Account, Meter, Plan, capture, export, statement
-from program import ROOT, ProgramTest
+from program import ROOT, TOOL, ProgramTest
 from rows import (FIRST, LATE, LINES, ONE, OTHER, PLAN, SECOND, SHORT, STATEMENT, TERMED, THIRD, THREE, THREE_1, THREE_2, TIME)
 
 SPEC = "rfc2697:1000:2000:1000:blind"
@@ -69,6 +70,7 @@ class Meters(ProgramTest):
         self.assert_refused(self.run_program("meter", SPEC, "wire"), "wire", "wire", 1)
         self.assert_refused(self.run_program("meter", SPEC, "decode"), "decode", "decode", 1)
         self.assert_refused(self.run_program("meter", "no spec", "missing"), "missing", "read", 1)
+        self.assert_refused(self.run_program("meter", SPEC, "absent", "missing"), "absent", "read", 1)
 
 
 class Combines(ProgramTest):
@@ -92,6 +94,11 @@ class Combines(ProgramTest):
         names = [self.write(f"n{n}", noted(n)) for n in range(3)]
         self.assert_done(self.run_program("combine", "out", *names), b"reports 3\n")
         self.assertEqual(self.read("out"), export([(TIME + n, 7, 0, 100 * n + 50, 60, 0, 1) for n in range(3)]))
+
+    def test_the_first_file_that_cannot_be_read(self):
+        self.write("x", export([FIRST]))
+        self.assert_refused(self.run_program("combine", "out", "x", "absent", "missing"), "absent", "read", 1)
+        self.assertFalse(self.has("out"))
 
     def test_more_words_than_forty(self):
         rows = [(TIME + n, 7, 0, n, 100 + n, 0, 1) for n in range(100)]
@@ -186,6 +193,35 @@ class Bills(ProgramTest):
             found = run.out.decode().split("\n")
             self.assertEqual(found[2:4] + found[6:7], lines)
 
+    def test_windows_of_time_add_up(self):
+        """The statements of two windows, where a term fills the buckets as the second begins, and no identity has contents in both."""
+        start, numbers = TIME + 100, random.Random(20)
+        places = numbers.sample(range(1000), 60)
+        rows = [(TIME + numbers.randrange(200), 7, 0, place, numbers.randrange(1, 900), 0, 1) for place in places]
+        windows = [[row for row in rows if row[0] < start], [row for row in rows if row[0] >= start]]
+        self.write("termed", TERMED.toml())
+        for more, adds_up in (([], True), ([(TIME, 7, 0, 1000, 5, 0, 1), (start, 7, 0, 1000, 5, 0, 1)], False)):
+            for n in range(2):
+                self.write(f"w{n}", export(windows[n] + more[n : n + 1]))
+                self.write(f"s{n}", self.run_program("bill", "termed", f"w{n}").out)
+            whole = self.run_program("bill", "termed", "w0", "w1").out
+            self.assertEqual(whole, statement(TERMED, rows + more))
+            run = self.run_program("add", "s0", "s1", program=TOOL)
+            self.assertEqual((run.status, run.out == whole), (0, adds_up))
+
+    def test_terms_that_are_past(self):
+        """They may be left out where the account's own meter becomes that of the last of them."""
+        first, second, third = PLAN.accounts[0].meter, TERMED.accounts[0].terms[0][1], Meter(2697, (500, 700), (0, 300))
+        terms = [(TIME + 100, second), (TIME + 200, third)]
+        rows = [(TIME + 200 + 30 * n, 7, 0, n, 400, 0, 1) for n in range(9)]
+        self.write("a", export(rows))
+        texts = []
+        for meter, left in ((first, terms), (second, terms[1:]), (third, []), (first, [])):
+            self.write("plan", Plan(3_600_000, [Account("alpha", meter, [(7, 1)], terms=left)]).toml())
+            texts.append(self.run_program("bill", "plan", "a").out)
+        self.assertEqual(texts[:2], [texts[2]] * 2)
+        self.assertNotEqual(texts[2], texts[3])
+
     def test_256_inputs(self):
         rows = [(TIME + n, 7, 0, n, 100 + n, 0, 1) for n in range(256)]
         names = [self.write(f"n{n}", export([row])) for n, row in enumerate(rows)]
@@ -217,8 +253,12 @@ class Bills(ProgramTest):
         self.write("cut", ONE[:64])
         self.write("zero", PLAN.toml().replace(b"period = 3600000", b"period = 0"))
         names = [self.write(f"n{n}", export([row])) for n, row in enumerate(THREE)]
-        self.assert_refused(self.run_program("bill", "--export", "out", "plan", *names, "4@cut"), "4@cut", "wire", 1)
-        self.assertEqual(self.read("out"), b"")
+        for replicas in (1, 2, 3, 16):
+            for workers in (1, 2, 5):
+                self.write("out", b"before")
+                options = ("--replicas", replicas, "--workers", workers, "--export", "out")
+                self.assert_refused(self.run_program("bill", *options, "plan", *names, "4@cut"), "4@cut", "wire", 1)
+                self.assertEqual(self.read("out"), b"")
         self.assert_refused(self.run_program("bill", "zero", "a"), "zero", "plan", 3)
         self.assert_refused(self.run_program("bill", "zero", "missing"), "missing", "read", 1)
         self.assert_refused(self.run_program("bill", "missing", "a"), "missing", "read", 1)
@@ -270,6 +310,8 @@ class Audits(ProgramTest):
         self.assert_refused(self.run_program("audit", "plan", "cut", "statement"), "cut", "export", 4)
         self.assert_refused(self.run_program("audit", "zero", "cut", "statement"), "zero", "plan", 3)
         self.assert_refused(self.run_program("audit", "plan", "reports", "missing"), "missing", "read", 1)
+        self.assert_refused(self.run_program("audit", "plan", "absent", "missing"), "absent", "read", 1)
+        self.assert_refused(self.run_program("audit", "gone", "absent", "missing"), "gone", "read", 1)
         # An audit's EXPORT has no session: this is the file of that very name.
         self.assert_done(self.run_program("audit", "plan", "1@cut", "statement"), b"agrees\n")
 

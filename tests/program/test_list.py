@@ -3,6 +3,7 @@ import random
 
 from model import capture, colours, export, settled
 from program import TOOL
+from test_commands import noted
 from rows import FIRST, LATE, PLAN, SECOND, TERMED, THIRD, THREE, THREE_2, TIME
 from test_tool import ToolTest
 
@@ -104,6 +105,19 @@ class Lists(ToolTest):
         rows = [(TIME + n, 7, 0, n, 1000 + n % 7, 0, 2) for n in range(20_000)]
         self.write("a", export(rows))
         self.assert_done(self.run_tool("list", "a"), HEADER + "".join(line(row, "settled") for row in rows).encode())
+
+    def test_a_plan_is_a_path(self):
+        self.write("1@plan", PLAN.toml())
+        self.write("x", PLAN.toml())
+        self.write("a", export([FIRST]))
+        self.assert_done(self.run_tool("list", "--plan", "1@plan", "a"), HEADER + line(FIRST, "settled", "alpha", "green").encode())
+        self.assert_tool_refused(self.run_tool("list", "--plan", "1@x", "a"), "1@x", "read", 1)
+
+    def test_a_capture_in_a_session(self):
+        """What a capture holds beside reports isn't told."""
+        self.write("n", noted(2))
+        report = (TIME + 2, 7, 3, 250, 60, 0, 1)
+        self.assert_done(self.run_tool("list", "3@n"), HEADER + line(report, "settled").encode())
 
     def test_refusals(self):
         self.write("plan", PLAN.toml())

@@ -10,7 +10,7 @@ from pathlib import Path
 
 from model import capture
 from program import PROGRAM, SECONDS, TESTS, TOOL, ProgramTest
-from rows import ONE, PLAN, SHORT, STATEMENT, THREE, THREE_2, TIME
+from rows import EMPTY, ONE, PLAN, SHORT, STATEMENT, THREE, THREE_2, TIME
 
 MOST_GROWTHS = 2000
 FAMILIES = (b"memory 1", b"plan 8", b"log 2", b"share 3", b"work 5", b"work 3", b"read 3", b"absorb 4", b"wire 7", b"statement 5")
@@ -21,14 +21,20 @@ HOLDS = {
         "tests::gossip::memory::a_take_that_was_refused_is_completed",
         "tests::gossip::memory::an_absorb_that_was_refused_is_completed",
         "tests::gossip::memory::a_merge_that_was_refused_is_completed",
+        "tests::gossip::world::a_run_that_was_refused_is_completed",
     ),
     "tca_audit": ("tests::statements::issues_what_has_changed",),
     "tcacct": (
         "tests::shared::memory::a_take_that_was_refused_is_completed",
         "tests::shared::jobs_memory::workers_that_were_refused_close",
+        "tests::shared::jobs_memory::workers_that_were_refused_close_at_once",
         "tests::replicated::writes_nothing_where_it_is_refused",
     ),
 }
+
+
+# With these words a test says that what it tries went wrong.
+VERDICTS = ('"a close"', '"a take"', '"workers"', '"neither time')
 
 
 class Growths(ProgramTest):
@@ -66,6 +72,9 @@ class Growths(ProgramTest):
                             # An assertion that fails ends the test by a signal.
                             said = (done.stdout + done.stderr).decode(errors="replace")
                             self.assertEqual((done.returncode, said[:7]), (101, "error: "), f"growth {number}: {said}")
+                            # What the call's own refusal leaves is no error of the preparation.
+                            for word in VERDICTS:
+                                self.assertNotIn(word, said, f"growth {number}")
                     else:
                         self.fail("each run met a refusal")
                     self.assertEqual(done.returncode, 0, done)
@@ -73,7 +82,7 @@ class Growths(ProgramTest):
 
     def check_run(self, words, out, files, all_after, program=PROGRAM, err=b""):
         """Each growth of this run refused: it writes what it writes, or says in its own name that it lacks memory and has written nothing."""
-        name_of_it = b"tcatool: " if program == TOOL else b"tcacct: "
+        name_of_it, told = b"tcatool: " if program == TOOL else b"tcacct: ", set()
         for number in range(1, MOST_GROWTHS):
             for name in files:
                 (self.folder / name).unlink(missing_ok=True)
@@ -91,9 +100,14 @@ class Growths(ProgramTest):
                 self.assertTrue(not done.stderr or done.stderr.startswith(name_of_it), done.stderr)
                 for name in files:
                     self.assertIn(self.read(name) if self.has(name) else b"", (b"",), number)
+            told.add(done.stderr)
+            # Where one growth alone is refused there is memory for the line.
+            self.assertTrue(all_after or done.returncode == 0 or done.stderr, number)
         else:
             self.fail("each run met a refusal")
         self.assertGreater(number, 10)
+        if not all_after:
+            self.assertIn(name_of_it + name_of_it + b"memory 1\n", told)
 
     def test_of_the_program(self):
         self.write("plan", PLAN.toml())
@@ -117,6 +131,7 @@ class Growths(ProgramTest):
         self.write("plan", PLAN.toml())
         self.write("reports", THREE_2)
         self.write("statement", STATEMENT)
+        self.write("none", EMPTY)
         header = b"time,domain,session,place,octets,dscp,interface,state,account,colour\n"
         items = (
             b"1700000000000,7,0,0,1500,0,1,settled,alpha,green\n"
@@ -137,6 +152,7 @@ class Growths(ProgramTest):
                 (["diff", "reports", "reports"], sides, same),
                 (["table", "statement"], table, b""),
                 (["add", "statement"], STATEMENT, b""),
+                (["add", "statement", "none"], STATEMENT, b""),
             ):
                 with self.subTest(words=words, all_after=all_after):
                     self.check_run(words, out, {}, all_after, TOOL, err)

@@ -140,6 +140,20 @@ class WholePages(ToolTest):
     def test_one_row(self):
         self.assertEqual(self.page_of(statement(3_600_000, ROW)), (HERE / "page.html").read_bytes())
 
+    def test_counts(self):
+        rows = self.tree_of(statement(250, ROW, 7, 5, 6)).findall(".//div[@class='counts wide']/table/tbody/tr")
+        told = [(row.find("th").text, row.find("td").text.replace("\u00a0", " ")) for row in rows]
+        wanted = [("Length of a period", "250 ms"), ("Reports", "7"), ("Disputed identities", "5"), ("Reports of no account", "6")]
+        self.assertEqual(told, wanted)
+
+    def test_moments_below_the_bars(self):
+        """The first period's, the middle one's and the last one's."""
+        for count, shown in ((1, [0]), (2, [0, 1]), (3, [0, 1, 2]), (9, [0, 4, 8])):
+            section = self.tree_of(statement(86_400_000, [("alpha", [(7 * n, ONE) for n in range(count)])])).find(".//section")
+            texts = [text.text for text in section.findall("figure/svg/text") if text.get("class") != "end"]
+            days = ["T".join(texts[n : n + 2]) for n in range(0, len(texts), 2)]
+            self.assertEqual(days, [moment(7 * n * 86_400_000) for n in shown])
+
     def test_a_bar_for_each_period(self):
         numbers = random.Random(12)
         accounts = any_accounts(numbers, 1000)
@@ -159,7 +173,9 @@ class WholePages(ToolTest):
         accounts = [("alpha", [(n, any_sums(random.Random(n))) for n in range(700)])]
         tree = self.tree_of(statement(3_600_000, accounts))
         right = 0
-        for bar in tree.findall(".//figure/svg/g"):
+        bars = tree.findall(".//figure/svg/g")
+        self.assertEqual(len(bars), 700)
+        for bar in bars:
             pieces = [{key: piece.get(key) for key in piece.keys()} for piece in bar.findall("rect")]
             column = pieces.pop(0)
             self.assertGreaterEqual(int(column["x"]), right)

@@ -90,12 +90,33 @@ class Splitting(ProgramTest):
         self.write("later", M21)
         self.assert_refused_by(self.split_beside(CHANGED="capture"), "capture", "read", 1, {"7.ipfix": b""})
 
+    def test_a_capture_that_goes_on_in_between(self):
+        """Its second reading ends within a message, or has a faulty header; or it has one more message of the domain."""
+        for more, number in ((M10[:20], 1), (message(7, version=9), 2), (message(7, length=15), 3)):
+            self.write("capture", M10)
+            self.write("later", M10 + more)
+            self.assert_refused_by(self.split_beside(CHANGED="capture"), "capture", "wire", number, {"7.ipfix": b""})
+            (self.folder / "parts/7.ipfix").unlink()
+        self.write("capture", M10)
+        self.write("later", M10 + message(7))
+        self.assert_done(self.split_beside(CHANGED="capture"), b"domains 1\nmessages 1\n")
+        self.assertEqual(self.parts(), {"7.ipfix": M10 + message(7)})
+
+    def test_the_word_of_a_capture_is_a_path(self):
+        self.write("1@capture", M10)
+        self.assert_split([M10], self.split("parts", "1@capture"))
+        (self.folder / "parts/7.ipfix").unlink()
+        self.write("capture", M10)
+        self.assert_refused_by(self.split("parts", "2@capture"), "2@capture", "read", 1)
+        self.assert_refused_by(self.split("2@parts", "capture"), "split", "write", 1)
+
     def test_a_folder_that_is_not_there(self):
         self.write("capture", M10)
         self.assert_refused_by(self.split("nowhere", "capture"), "split", "write", 1)
 
     def test_a_capture_that_is_not_there(self):
-        self.assert_refused_by(self.split("parts", "capture"), "capture", "read", 1)
+        for options in ((), ("--progress",)):
+            self.assert_refused_by(self.split(*options, "parts", "capture"), "capture", "read", 1)
 
     def test_framing(self):
         for octets, number in (

@@ -4,20 +4,10 @@ import json
 import xml.dom.minidom
 
 from program import TOOL
-from rows import STATEMENT
+from rows import EMPTY, STATEMENT
 from test_tool import ToolTest
 
 HEADER = b"account,span,start,green_octets,green_packets,yellow_octets,yellow_packets,red_octets,red_packets\n"
-
-EMPTY = b"""tcacct statement 1
-period 3600000
-reports 0
-disputed 0
-unassigned 0
-account alpha
-total 0 0 0 0 0 0
-end
-"""
 
 # Two accounts, one without packets, and periods of a quarter of a second, the last one behind the year 9999.
 WIDE = b"""tcacct statement 1
@@ -138,6 +128,7 @@ class Sums(ToolTest):
         self.assert_tool_refused(self.run_tool("add", "s", "cut", "period"), "cut", "statement", 1)
         self.assert_tool_refused(self.run_tool("add", "s", "most", "cut"), "most", "statement", 4)
         self.assert_tool_refused(self.run_tool("add", "s", "missing"), "missing", "read", 1)
+        self.assert_tool_refused(self.run_tool("add", "absent", "missing"), "absent", "read", 1)
         self.assert_done(self.run_tool("add", "most"), STATEMENT.replace(b"1500 1", most + b" 1"))
 
 
@@ -167,6 +158,20 @@ class Statements(ToolTest):
                 self.assert_tool_refused(self.run_tool(command, "s"), "s", "statement", number)
             self.assert_tool_refused(self.run_tool("page", "out", "s"), "s", "statement", number)
             self.assertEqual(self.read("out"), b"")
+
+    def test_words_are_paths(self):
+        """No word of these commands has a session."""
+        self.write("1@s", STATEMENT)
+        self.write("x", STATEMENT)
+        self.assert_done(self.run_tool("add", "1@s"), STATEMENT)
+        for command in ("table", "json"):
+            self.assertEqual(self.run_tool(command, "1@s").status, 0)
+            self.assert_tool_refused(self.run_tool(command, "1@x"), "1@x", "read", 1)
+        self.assert_tool_refused(self.run_tool("add", "x", "1@x"), "1@x", "read", 1)
+        self.assert_done(self.run_tool("page", "2@out", "1@s"), b"")
+        self.assertTrue(self.has("2@out"))
+        self.assertFalse(self.has("out"))
+        self.assert_tool_refused(self.run_tool("page", "out", "1@x"), "1@x", "read", 1)
 
     def test_files(self):
         self.write("s", STATEMENT)

@@ -6,6 +6,7 @@ import subprocess
 
 from model import export
 from program import SECONDS, TOOL, ProgramTest
+from test_commands import noted
 from rows import FIRST, LATE, ONE, SECOND, THIRD, THREE, THREE_1, THREE_2, TIME
 
 PAIRS = b"domain,interface,reports,packets,octets,first,last\n"
@@ -50,6 +51,12 @@ class Differences(ToolTest):
         lines = b"A,1700000000000,7,1,5,1500,10,1\nB,1700000000000,7,2,5,1500,10,1\n"
         self.assert_differ(self.run_tool("diff", "1@one", "2@one"), lines, 1, 1, 0)
 
+    def test_notes_are_not_told(self):
+        self.write("n", noted(2))
+        lines = b"A,1700000000002,7,0,250,60,0,1\nB,1700000000002,7,3,250,60,0,1\n"
+        self.assert_differ(self.run_tool("diff", "n", "3@n"), lines, 1, 1, 0)
+        self.assert_done(self.run_tool("pairs", "n", "3@n"), PAIRS + b"7,1,2,2,120,1700000000002,1700000000002\n")
+
     def test_any_two_sets(self):
         numbers = random.Random(8)
         for _ in range(100):
@@ -75,6 +82,7 @@ class Differences(ToolTest):
         self.write("cut", THREE_2[:96])
         self.write("wire", ONE[:64])
         self.assert_tool_refused(self.run_tool("diff", "cut", "missing"), "missing", "read", 1)
+        self.assert_tool_refused(self.run_tool("diff", "absent", "missing"), "absent", "read", 1)
         self.assert_tool_refused(self.run_tool("diff", "cut", "wire"), "cut", "export", 4)
         self.assert_tool_refused(self.run_tool("diff", "a", "3@wire"), "3@wire", "wire", 1)
         with open("/dev/full", "wb") as full:
@@ -157,3 +165,4 @@ class Pairs(ToolTest):
         self.write("cut", THREE_2[:96])
         self.assert_tool_refused(self.run_tool("pairs", "a", "cut"), "cut", "export", 4)
         self.assert_tool_refused(self.run_tool("pairs", "cut", "missing"), "missing", "read", 1)
+        self.assert_tool_refused(self.run_tool("pairs", "absent", "missing"), "absent", "read", 1)

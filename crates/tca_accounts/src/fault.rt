@@ -8,9 +8,9 @@ use tca_meters::MeterFault;
 use thiserror::Error;
 
 /// Why a text is no plan. Where several hold, it is the first as the document is judged: the top keys, the period, the
-/// accounts one by one, and at last the pairs and names of all accounts together. Of an account come first its keys in
-/// the order of `Key`, then its meter, then how many terms it has, and then its terms one by one, each with its keys in
-/// that order and its meter.
+/// accounts one by one, and at last the pairs and names of all accounts together. Of an account comes first its kind of meter, then a
+/// key that isn't known, then its keys in the order of `Key`, then its meter, then how many terms it has, and then its terms one by
+/// one, each judged in that order.
 #[derive(Clone, Copy, Debug, PartialEq, Eq, Error)]
 pub enum PlanFault {
     /// The text isn't UTF-8 or isn't a TOML document.

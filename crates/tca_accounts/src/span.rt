@@ -1,5 +1,5 @@
 //! The sums of one period.
-ghost use Rattle.std.specs.Prelude.{◌≡◌, ◌↔◌, IfOk, IsTrue, MatchBool, MatchOption};
+ghost use Rattle.std.specs.Prelude.{◌≡◌, ◌↔◌, IfOk, IsTrue};
 ghost use Rattle.tca_accounts.specs.Spans.{Ascend};
 
 use crate::sums::Sums;
@@ -34,17 +34,6 @@ impl Model for Spans {
 }
 
 impl Spans {
-    /// These spans, where their indexes strictly ascend. It takes no memory.
-    pub fn new(list: Vec<Span>) -> Option<Spans>
-        ensures { MatchOption result (¬ Ascend list.items) (λ s. s ≡ list.items) }
-    {
-        if ascend(&list) {
-            Some(Spans { list })
-        } else {
-            None
-        }
-    }
-
     /// Spans whose indexes are known to ascend strictly. It takes no memory.
     pub fn ascending(list: Vec<Span>) -> Spans
         requires { Ascend list.items }
@@ -83,16 +72,4 @@ impl Spans {
     {
         self.list
     }
-}
-
-// Whether the indexes strictly ascend.
-fn ascend(list: &[Span]) -> bool
-    ensures { MatchBool result (Ascend list.now) (¬ Ascend list.now) }
-{
-    for i in 1..list.len() {
-        if list[i - 1].index >= list[i].index {
-            return false;
-        }
-    }
-    true
 }

@@ -61,22 +61,7 @@ impl<L: Side> Shared<L> {
         self.held.lock(rt).take(mine, reports)
     }
 
-    /// Takes the reports of a list as `take` does. The entry shares the list, so that the reports aren't copied.
-    pub fn take_list<R: Wait>(
-        &self,
-        rt: &R,
-        mine: &mut Pass<L>,
-        reports: Items<Report>,
-    ) -> Result<Receipt, ShareFault>
-        ensures noted { IfOk result (λ r. IsNoted mine.old mine.new (entry_view r.entry) r.front) }
-        ensures took { IfOk result (λ r. IsTake reports mine.old.number (entry_view r.entry)) }
-        ensures fault { IfErr result (λ f. f ≢ ShareFault.PassesOut) }
-        ensures err { OnErr result (mine.new ≡ mine.old) }
-    {
-        self.held.lock(rt).take_list(mine, reports)
-    }
-
-    // As `take_list`, with a word to the gate once the lock is held.
+    // As `take`, with a word to the gate once the lock is held. The entry shares the list, so that the reports aren't copied.
     pub(crate) fn take_inside<R: Wait, G: Gate>(
         &self,
         rt: &R,

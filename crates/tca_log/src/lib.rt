@@ -6,9 +6,9 @@
 //! so that no choice of identities or times by a stranger makes a log slow.
 //!
 //! - `rows`: the ordered container, with `chunk`, `locate` and `iter` beneath it;
-//! - `log`, `union`: the log, one report and many reports at a time; `sets`: the set of a list;
-//! - `disputes`, `ascending`, `marks`, `span`: which identities of a set are disputed; `index`, `additions`, `by_identity`:
-//!   the same as reports come one by one;
+//! - `log`, `union`: the log, one report and many reports at a time; `joins`: logs as values that join; `sets`: the set of a list;
+//! - `disputes`, `ascending`, `marks`, `span`, `spans`, `numbers`: which identities of a set are disputed; `index`, `additions`,
+//!   `by_identity`: the same as reports come one by one;
 //! - `settled`: the reports that no other disputes; `answer`, `fault`: what a log answers; `laws`: what one more report
 //!   changes.
 #![tactic(auto)]

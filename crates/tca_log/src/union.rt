@@ -8,7 +8,7 @@ ghost use Rattle.tca_log.specs.Arrivals.{Many, after};
 ghost use Rattle.tca_log.specs.Disputes as disputes;
 ghost use Rattle.tca_log.specs.Rows.Ordered.{put_each, without_each, AreApart, most_rows};
 ghost use Rattle.tca_log.specs.Faults.{IsUnionRefused, IsRefusedBy};
-ghost use Rattle.tca_log.specs.declared.fault.LogFault.TheVariants.{Full};
+ghost use Rattle.tca_log.specs.declared.fault.LogFault.TheVariants.{Full, Memory};
 ghost use Rattle.tca_log.specs.LogJoin.{log_full};
 ghost use Rattle.tca_log.specs.inside.Logs.{index_cmp, index_rows, IsKept, IsLog};
 
@@ -85,7 +85,7 @@ impl<A: Allocator + Copy> Log<A> {
     /// Adds all reports of a list in any order, where some may stand more than once, and answers how many were
     /// new. It sorts the list first, so it is faster than adding one by one. `Full` comes exactly where the log
     /// would have more than 4,194,304 reports, and `Memory` where a growth was refused; both leave the log as it
-    /// was. Where nothing is new no memory is taken. The list is dropped.
+    /// was. Where nothing is new it isn't refused. The list is dropped.
     pub fn add_all(&mut self, reports: Vec<Report, A>) -> Result<u32, LogFault>
         ensures ok { OnOk result (self.new ≡ after (Many reports.items) self.old) }
         ensures count { IfOk result (λ n. n + length self.old ≡ length self.new) }
@@ -160,13 +160,15 @@ impl<A: Allocator + Copy> Log<A> {
         self.add_all(reports)
     }
 
-    /// Adds the reports of a set that may be shared, as `add_list` does.
+    /// Adds the reports of a set that may be shared, as `add_list` does. `Full` comes exactly where the log would have more than 4,194,304
+    /// reports.
     pub fn add_set(&mut self, set: Items<Report, A>) -> Result<u32, LogFault>
         requires { IsStrictlySortedBy report_cmp set }
         ensures ok { OnOk result (self.new ≡ after (Many set) self.old) }
         ensures count { IfOk result (λ n. n + length self.old ≡ length self.new) }
         ensures err { OnErr result (self.new ≡ self.old) }
         ensures full { IfErr result (λ e. e ≡ Full → most_reports < length (in_order report_cmp (self.old ++ set))) }
+        ensures memory { IfErr result (λ e. e ≡ Memory → length (in_order report_cmp (self.old ++ set)) ≤ most_reports) }
     {
         let new = count_new(&self.rows, set.as_slice());
         if new == 0 {

@@ -11,7 +11,7 @@ use thiserror::Error;
 #[derive(Clone, Copy, Debug, PartialEq, Eq, Error)]
 pub enum SplitFault {
     /// A read failed, or the capture's end was not seen within 2^64 - 1 reads.
-    #[error("{0}")]
+    #[error("the capture couldn't be read to its end")]
     Read(ReadFault),
     /// A header with a fault, or a message that isn't there whole.
     #[error("{0}")]

@@ -202,7 +202,7 @@ impl<'r> Record<'r> {
     }
 
     /// What a usual record tells of its packet: of time, octets, code point and interface, each in a field of its own. `None` says
-    /// nothing of the record: that it isn't usual, or that it stands at the end of its message.
+    /// nothing of the record: that it isn't usual, or that it stands at the end of its set.
     #[inline(always)]
     pub fn numbers(&self) -> Option<Numbers>
         ensures { IfSome result (λ n. AreNumbers self.now n) }

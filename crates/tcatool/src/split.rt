@@ -234,7 +234,11 @@ fn print_parts<W: Write>(parts: Parts, out: &mut W) -> Result<(), RunFault>
 /// - `wire` 1, 2 and 3: a fault of its framing; `limits` 1: a message of one domain more than 4,096. The first of them from the left is
 ///   told, by the first reading, and no file was made.
 /// - `read` 1: a read failed; `read` 2: a reading didn't end within 2^64 - 1 reads. Of the first reading, no file was made; of the second,
-///   files were begun. `read` 1 is also a capture whose second reading has a domain that the first had none of.
+///   files were begun.
+///
+/// A capture that changed between its readings is `read` 1 where the second has a domain that the first had none of, and `wire` 1, 2 or 3
+/// where the second has a fault of its framing; then too files were begun. Where it has other messages of the same domains it is split as
+/// the second reading gives it, and the numbers that are printed are the first one's.
 ///
 /// No input is blamed for these:
 /// - `write` 1: a file of a domain is there already, or couldn't be looked for, and none was made; or one couldn't be made or written, and

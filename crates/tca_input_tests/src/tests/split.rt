@@ -148,9 +148,16 @@ fn nothing_of_a_capture_that_is_cut_is_written(rt: HostRuntime) {
     assert!(rt; is_refused(rt.alloc(), cut, &mut folder, short) && folder.files.is_empty());
 }
 
-// The faults, each with its text; that of a read or of a framing is the text of what it has.
-const FAULTS: [(SplitFault, &str); 7] = [
-    (SplitFault::Read(ReadFault::Read), "the reader failed"),
+// The faults, each with its text; that of a framing is the text of what it has.
+const FAULTS: [(SplitFault, &str); 8] = [
+    (
+        SplitFault::Read(ReadFault::Read),
+        "the capture couldn't be read to its end",
+    ),
+    (
+        SplitFault::Read(ReadFault::Turns),
+        "the capture couldn't be read to its end",
+    ),
     (
         SplitFault::Wire(WireFault::Short),
         "the octets end before the message does",

@@ -74,7 +74,7 @@ fn plan(alloc: Global) -> Result<Plan, PlanFault> {
     Plan::from_text(alloc, PLAN.as_bytes())
 }
 
-// Whether a bill is that of the first three rows.
+// Whether a bill has the octets and the counts of the first three rows.
 fn is_of_three(bill: &Bill) -> bool {
     let octets = match bill.accounts.as_slice().first() {
         Some(tally) => tally.total.octets(),
@@ -127,9 +127,9 @@ fn has_three(alloc: Global, replica: &Replica) -> bool {
 }
 
 // Whether an entry is the bill of the first three rows.
-fn states_three(entry: &Entry) -> bool {
+fn states_three(alloc: Global, entry: &Entry) -> bool {
     match entry {
-        Entry::Answered { bill, .. } => is_of_three(bill),
+        Entry::Answered { bill, .. } => is_of_three(bill) && is_stated(alloc, bill, STATEMENT),
         _ => false,
     }
 }

@@ -199,7 +199,7 @@ fn parts_that_come_too_early_come_again(rt: HostRuntime) {
 
 #[test]
 fn a_run_that_was_refused_is_completed(rt: HostRuntime) -> Result<(), Fail> {
-    // To be run with each growth refused in turn, where want of memory for what it prepares is an error, not a failed assertion.
+    // It is run with each growth refused in turn, too, where want of memory for what it prepares is an error, not a failed assertion.
     let went = goes(rt.alloc(), 2).ok_or("no memory to prepare it")?;
     assert!(rt; went);
     Ok(())

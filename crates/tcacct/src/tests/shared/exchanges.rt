@@ -39,6 +39,7 @@ pub(super) fn tells<I: Side, F: Side, R: Wait>(
 // Whether the statement is that of the first three rows, and the entry of this front.
 pub(super) fn ends<L: Side, R: Wait>(
     rt: &R,
+    alloc: Global,
     shared: &Shared<L>,
     pass: &mut Pass<L>,
     front: u64,
@@ -46,7 +47,7 @@ pub(super) fn ends<L: Side, R: Wait>(
     let Ok(receipt) = shared.statement(rt, pass) else {
         return false;
     };
-    receipt.front == front && states_three(&receipt.entry)
+    receipt.front == front && states_three(alloc, &receipt.entry)
 }
 
 // Closes with one pass.
@@ -88,8 +89,8 @@ fn tell_by_one_pass<I: Side, F: Side, R: Wait>(
     let back = tells(rt, (from, theirs), (into, mine), 4, 2);
     let again = tells(rt, (into, mine), (from, theirs), 6, 0);
     let back_again = tells(rt, (from, theirs), (into, mine), 7, 0);
-    let ended = ends(rt, into, mine, 8);
-    let other_ended = ends(rt, from, theirs, 8);
+    let ended = ends(rt, alloc, into, mine, 8);
+    let other_ended = ends(rt, alloc, from, theirs, 8);
     let told = there && back && again && back_again;
     (taken, other_taken) == (Some(1), Some(1)) && told && ended && other_ended
 }

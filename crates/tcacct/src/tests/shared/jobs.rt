@@ -132,8 +132,8 @@ fn tell_each_other<I: Side, F: Side, R: Wait>(
     let back = tells(rt, (from, theirs), (into, mine), 5, 2);
     let again = tells(rt, (into, mine), (from, theirs), 8, 0);
     let back_again = tells(rt, (from, theirs), (into, mine), 8, 0);
-    let ended = ends(rt, into, mine, 10);
-    let other_ended = ends(rt, from, theirs, 9);
+    let ended = ends(rt, alloc, into, mine, 10);
+    let other_ended = ends(rt, alloc, from, theirs, 9);
     gap && there && back && again && back_again && ended && other_ended
 }
 

@@ -1,5 +1,6 @@
-//! Workers that may be refused a growth, and the same workers again. The test is run with each growth refused in turn, once each: whatever
-//! is refused, the jobs are done whole one of the two times, and the passes that are handed back close the replica.
+//! Workers that may be refused a growth, alone and followed by the same workers again. The tests are run with each growth refused in turn,
+//! once each: whatever is refused, the passes that are handed back close the replica, whose log and bill are those of its journal, and one
+//! of two times the jobs are done whole.
 ghost use Rattle.std.specs.Prelude.{◌≡◌, ◌≤◌, length};
 
 use super::jobs::exports;
@@ -12,11 +13,11 @@ use std::test::Fail;
 use std::thread::Threads;
 use tca_accounts::{Bill, Plan};
 use tca_ingest::{
-    Done, Entry, JobFault, NoGate, Pass, ShareFault, Shared, Side, WorkFault, WorkRefused, Worked,
-    work,
+    Closed, Done, Entry, JobFault, NoGate, Pass, ShareFault, Shared, Side, WorkFault, WorkRefused,
+    Worked, work,
 };
 use tca_log::LogFault;
-use tca_report::{Input, InputFault};
+use tca_report::{Input, InputFault, Report};
 
 // Whether a job was done, or was refused for memory.
 fn is_done(done: &Done) -> bool {
@@ -84,15 +85,56 @@ fn passes_of_twice<L: Side + Send + Sync, R: Threads + Wait + Sync>(
     Ok(passes)
 }
 
-// Whether a bill is that of the first two rows, or was refused for memory.
-fn is_of_two(bill: &Result<Bill, AllocError>) -> bool {
+// Whether a bill has these octets and so many reports, or was refused for memory.
+fn is_of(bill: &Result<Bill, AllocError>, octets: [u64; 3], count: u32) -> bool {
     let Ok(bill) = bill else {
         return true;
     };
     match bill.accounts.as_slice().first() {
-        Some(tally) => (tally.total.octets(), bill.reports) == ([1500, 1000, 0], 2),
+        Some(tally) => (tally.total.octets(), bill.reports) == (octets, count),
         None => false,
     }
+}
+
+// Whether an entry is a take of this report alone.
+fn took(entry: &Entry, report: &Report) -> bool {
+    match entry {
+        Entry::Took { reports, .. } => {
+            reports.len() == 1 && reports.as_slice().first() == Some(report)
+        }
+        _ => false,
+    }
+}
+
+// Whether an entry is a take of no report.
+fn took_nothing(entry: &Entry) -> bool {
+    match entry {
+        Entry::Took { reports, .. } => reports.len() == 0,
+        _ => false,
+    }
+}
+
+// Whether each entry is a take of one of the two rows or of nothing, and log and bill are those of these takes.
+fn is_after(closed: &Closed, list: &[Report]) -> bool {
+    let [first, second] = list else {
+        return false;
+    };
+    let journal = closed.journal.as_slice();
+    let are_takes = journal.iter().all(|entry| {
+        took(entry, first) || took(entry, second) || took_nothing(entry)
+    });
+    let (one, other) = (
+        journal.iter().any(|entry| took(entry, first)),
+        journal.iter().any(|entry| took(entry, second)),
+    );
+    let (held, octets, count): (&[Report], [u64; 3], u32) = match (one, other) {
+        (true, true) => (list, [1500, 1000, 0], 2),
+        (true, false) => (list.get(..1).unwrap_or(list), [1500, 0, 0], 1),
+        (false, true) => (list.get(1..).unwrap_or(list), [1000, 0, 0], 1),
+        (false, false) => (&[], [0, 0, 0], 0),
+    };
+    let bill = closed.replica.totals();
+    are_takes && has_list(&closed.replica, held) && is_of(&bill, octets, count)
 }
 
 fn works_and_closes<L: Side + Send + Sync, R: Threads + Wait + Sync>(
@@ -112,12 +154,48 @@ fn works_and_closes<L: Side + Send + Sync, R: Threads + Wait + Sync>(
     let shared = Shared::<L>::new(alloc, blank, name, plan)?;
     let passes = passes_of_twice(rt, alloc, &shared, &inputs)?;
     let closed = closed_with(shared, passes).ok_or("a close")?;
-    Ok(has_list(&closed.replica, &list) && is_of_two(&closed.replica.totals()))
+    Ok(has_list(&closed.replica, &list) && is_of(&closed.replica.totals(), [1500, 1000, 0], 2))
 }
 
 #[test]
 fn workers_that_were_refused_close(rt: HostRuntime) -> Result<(), Fail> {
     let plan = plan(rt.alloc())?;
     assert!(rt; works_and_closes::<Brand, _>(&rt, rt.alloc(), Blank::new(PARTS), 1, plan)?);
+    Ok(())
+}
+
+// Whether a replica whose workers may have been refused a growth closes, and is what its journal says.
+fn closes_after<L: Side>(shared: Shared<L>, passes: Vec<Pass<L>>, list: &[Report]) -> bool {
+    match closed_with(shared, passes) {
+        Some(closed) => is_after(&closed, list),
+        None => false,
+    }
+}
+
+fn works_once<L: Side + Send + Sync, R: Threads + Wait + Sync>(
+    rt: &R,
+    alloc: Global,
+    blank: Blank,
+    name: u32,
+    plan: Plan,
+) -> Result<bool, Fail>
+    requires name { blank.name ≡ L.name }
+    requires parts { (blank.parts ≡ L.parts) × (L.parts ≡ 65537) }
+    requires called { name ≡ L.called }
+    requires plan { plan ≡ L.plan }
+{
+    let inputs = exports(alloc, &[FIRST, SECOND]).ok_or("inputs")?;
+    let list = reports(alloc, &[FIRST, SECOND]).ok_or("reports")?;
+    let shared = Shared::<L>::new(alloc, blank, name, plan)?;
+    match passes_of(rt, alloc, &shared, &inputs) {
+        Some((_all, passes)) => Ok(closes_after(shared, passes, &list)),
+        None => Ok(false),
+    }
+}
+
+#[test]
+fn workers_that_were_refused_close_at_once(rt: HostRuntime) -> Result<(), Fail> {
+    let plan = plan(rt.alloc())?;
+    assert!(rt; works_once::<Brand, _>(&rt, rt.alloc(), Blank::new(PARTS), 1, plan)?);
     Ok(())
 }

@@ -13,43 +13,61 @@ use tca_ingest::{Entry, Pass, Receipt, ShareFault, Shared, Side};
 use tca_log::LogFault;
 use tca_report::Report;
 
-// How many reports the entry of a take has, where at most memory stopped it.
-fn held_in(entry: &Entry) -> Option<usize> {
-    match entry {
-        Entry::Took { reports, stop, .. } => {
-            if *stop == Some(LogFault::Full) {
-                None
-            } else {
-                Some(reports.len())
-            }
-        }
-        _ => None,
+// Whether a take of a list holds so many of its reports: all where nothing stopped it, else memory did.
+fn stops_at(stop: Option<LogFault>, held: usize, list: &[Report]) -> bool {
+    if held == list.len() {
+        stop == None
+    } else {
+        stop == Some(LogFault::Memory)
     }
 }
 
-// How many reports a take holds, where at most memory was refused; 0 where no entry was made.
-fn held(receipt: &Result<Receipt, ShareFault>) -> Option<usize> {
+// How many reports the entry of a take has: the first of the list, of which so many were held before.
+fn held_in(entry: &Entry, list: &[Report], before: usize) -> Option<usize> {
+    let Entry::Took {
+        reports,
+        fresh,
+        stop,
+        ..
+    } = entry
+    else {
+        return None;
+    };
+    let held = reports.len();
+    let are_first = list.get(..held) == Some(reports.as_slice());
+    let is_fresh = *fresh == held.saturating_sub(before) as u64;
+    if are_first && is_fresh && stops_at(*stop, held, list) {
+        Some(held)
+    } else {
+        None
+    }
+}
+
+// How many reports a take names as held, where at most memory was refused; 0 where no entry was made.
+fn held(receipt: &Result<Receipt, ShareFault>, list: &[Report], before: usize) -> Option<usize> {
     match receipt {
-        Ok(receipt) => held_in(&receipt.entry),
+        Ok(receipt) => held_in(&receipt.entry, list, before),
         Err(ShareFault::Memory) => Some(0),
         Err(_) => None,
     }
 }
 
-// Takes reports, and answers how many are held then; None where the list of the pass isn't longer just where there is a receipt.
+// Takes reports of which so many are held, and answers how many are named then; None where the list of the pass isn't longer just
+// where there is a receipt.
 fn takes<L: Side, R: Wait>(
     rt: &R,
     shared: &Shared<L>,
     pass: &mut Pass<L>,
     list: &[Report],
+    before: usize,
 ) -> Option<usize> {
-    let before = pass.calls().len();
+    let calls = pass.calls().len();
     let receipt = shared.take(rt, pass, list);
-    let noted = pass.calls().len() != before;
+    let noted = pass.calls().len() != calls;
     if noted != receipt.is_ok() {
         return None;
     }
-    held(&receipt)
+    held(&receipt, list, before)
 }
 
 // Whether a bill may be refused for memory, or is that of the first three rows.
@@ -60,28 +78,39 @@ fn is_right(bill: &Result<Bill, AllocError>) -> bool {
     }
 }
 
-// Takes the three rows twice by a pass that is put to the others; answers how many the takes held.
-fn takes_twice<L: Side, R: Wait>(
+// Takes reports twice. Whether one of the takes holds all, which one refusal leaves: how many new ones the second finds tells how
+// many the first held.
+fn are_taken<L: Side, R: Wait>(
     rt: &R,
     shared: &Shared<L>,
-    passes: &mut Vec<Pass<L>>,
+    pass: &mut Pass<L>,
     list: &[Report],
-) -> Result<(usize, usize), Fail> {
-    let mut pass = shared.pass(rt)?;
-    let first = takes(rt, shared, &mut pass, list).ok_or("a take")?;
-    let again = takes(rt, shared, &mut pass, list).ok_or("a take")?;
-    passes.push(pass)?;
-    Ok((first, again))
+) -> bool {
+    let Some(first) = takes(rt, shared, pass, list, 0) else {
+        return false;
+    };
+    let Some(again) = takes(rt, shared, pass, list, first) else {
+        return false;
+    };
+    first == list.len() || again == list.len()
 }
 
-// Takes the three rows twice, and closes. One refusal leaves one of the two takes whole.
+// Whether a replica that took the first three rows closes, and has them and their bill.
+fn closes<L: Side>(shared: Shared<L>, passes: Vec<Pass<L>>, list: &[Report]) -> bool {
+    let Some(closed) = closed_with(shared, passes) else {
+        return false;
+    };
+    has_list(&closed.replica, list) && is_right(&closed.replica.totals())
+}
+
+// Takes the three rows twice, and closes.
 fn twice<L: Side, R: Wait>(rt: &R, alloc: Global, shared: Shared<L>) -> Result<bool, Fail> {
     let mut passes = Vec::with_capacity(alloc, 1)?;
     let list = reports(alloc, &[FIRST, SECOND, THIRD]).ok_or("reports")?;
-    let (first, again) = takes_twice(rt, &shared, &mut passes, &list)?;
-    let closed = closed_with(shared, passes).ok_or("a close")?;
-    let held = has_list(&closed.replica, &list);
-    Ok((first == 3 || again == 3) && held && is_right(&closed.replica.totals()))
+    let mut pass = shared.pass(rt)?;
+    let taken = are_taken(rt, &shared, &mut pass, &list);
+    passes.push(pass)?;
+    Ok(taken && closes(shared, passes, &list))
 }
 
 fn takes_again<L: Side, R: Wait>(

@@ -20,7 +20,7 @@ fn asks<L: Side, R: Wait>(rt: &R, alloc: Global, shared: &Shared<L>) -> bool {
     let Ok(said) = shared.statement(rt, &mut pass) else {
         return false;
     };
-    let stated = said.entry.pass() == 0 && states_three(&said.entry);
+    let stated = said.entry.pass() == 0 && states_three(alloc, &said.entry);
     taken == Some(1) && said.front == 2 && stated
 }
 
@@ -79,7 +79,7 @@ fn wants<L: Side>(
     }
 }
 
-// Two passes take once each, and one of them is held back.
+// A pass takes once and another one twice, which is held back.
 fn one_back<L: Side, R: Wait>(rt: &R, alloc: Global, shared: Shared<L>) -> bool {
     let Ok(mut first) = shared.pass(rt) else {
         return false;
@@ -89,15 +89,16 @@ fn one_back<L: Side, R: Wait>(rt: &R, alloc: Global, shared: Shared<L>) -> bool 
     };
     let one = take(rt, alloc, &shared, &mut first, &[FIRST]);
     let other = take(rt, alloc, &shared, &mut second, &[SECOND]);
+    let again = take(rt, alloc, &shared, &mut second, &[SECOND]);
     let fault = CloseFault::Missing {
-        journal: 2,
+        journal: 3,
         given: 1,
     };
     let Ok(given) = alone(alloc, first) else {
         return false;
     };
     let wanted = wants(shared, given, fault, second);
-    one == Some(1) && other == Some(2) && wanted
+    one == Some(1) && other == Some(2) && again == Some(3) && wanted
 }
 
 fn holds_one_back<L: Side, R: Wait>(

@@ -1,5 +1,5 @@
 use Rattle.std.proofs.Common.{◌≡◌, ◌++◌, ◌∙◌, List, length, ap, sym, arith}
-use Rattle.tca_join.specs.Sets.{in_order}
+use Rattle.std.proofs.lemmas.Grind.{common_steps}
 use Rattle.tca_report.specs.report.Reports.{PacketReport, report_cmp}
 use Rattle.tca_report.proofs.lemmas.report.Order.{report_total, report_exact}
 use Rattle.tca_log.specs.Disputes.{disputed}
@@ -45,3 +45,19 @@ returns-clause-count g c =
     let size = union_length report_cmp report_total report_exact rows set c.self.invariant.rises c.requires in
     let all : c.take_in.new.rows.rows ≡ in_order report_cmp (rows ++ set) = c.in_ok-take_in.ensures.ok ∙ ap (λ (l : List PacketReport). put_each report_cmp l rows) c.in_ok-news.ensures ∙ union_is report_cmp report_total report_exact rows set c.self.invariant.rises in
     omega (arith, size, ap length all, ap length c.self.view_is, count)
+
+pub returns-in_err-news-clause-memory : goal.returns-in_err-news-clause-memory
+returns-in_err-news-clause-memory g c =
+    let rows = c.self.inside.rows.rows in
+    let set = c.args.set in
+    let count = c.count_new-new.ensures ∙ ap (λ (l : List PacketReport). length (without_each report_cmp rows l)) c.as_slice.ensures in
+    let size = union_length report_cmp report_total report_exact rows set c.self.invariant.rises c.requires in
+    rw (← c.self.view_is) (grind (arith, size, count, c.if-new-len.false, c.len.ensures.length, common_steps))
+
+pub returns-in_err-take_in-clause-memory : goal.returns-in_err-take_in-clause-memory
+returns-in_err-take_in-clause-memory g c =
+    let rows = c.self.inside.rows.rows in
+    let set = c.args.set in
+    let count = c.count_new-new.ensures ∙ ap (λ (l : List PacketReport). length (without_each report_cmp rows l)) c.as_slice.ensures in
+    let size = union_length report_cmp report_total report_exact rows set c.self.invariant.rises c.requires in
+    rw (← c.self.view_is) (grind (arith, size, count, c.if-new-len.false, c.len.ensures.length, common_steps))
