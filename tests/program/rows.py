@@ -5,6 +5,16 @@ TIME = 1_700_000_000_000
 
 SINGLE = Meter(2697, (1000, 2000), (0, 1000))
 PLAN = Plan(3_600_000, [Account("alpha", SINGLE, [(7, 1)])])
+# The same plan as a person writes it.
+WRITTEN = b"""period = 3600000
+[[account]]
+name = "alpha"
+meter = "rfc2697"
+cir = 1000
+cbs = 2000
+ebs = 1000
+keys = [[7, 1]]
+"""
 TERMED = Plan(
     3_600_000,
     [Account("alpha", SINGLE, [(7, 1)], terms=[(TIME + 100, Meter(2697, (1000, 1000), (0, 1000)))])],

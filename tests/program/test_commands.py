@@ -4,7 +4,7 @@ import random
 
 from model import Account, Meter, Plan, capture, export, statement
 from program import ROOT, TOOL, ProgramTest
-from rows import (FIRST, LATE, LINES, ONE, OTHER, PLAN, SECOND, SHORT, STATEMENT, TERMED, THIRD, THREE, THREE_1, THREE_2, TIME)
+from rows import (FIRST, LATE, LINES, ONE, OTHER, PLAN, SECOND, SHORT, STATEMENT, TERMED, THIRD, THREE, THREE_1, THREE_2, TIME, WRITTEN)
 
 SPEC = "rfc2697:1000:2000:1000:blind"
 
@@ -262,6 +262,21 @@ class Bills(ProgramTest):
         self.assert_refused(self.run_program("bill", "zero", "a"), "zero", "plan", 3)
         self.assert_refused(self.run_program("bill", "zero", "missing"), "missing", "read", 1)
         self.assert_refused(self.run_program("bill", "missing", "a"), "missing", "read", 1)
+
+    def test_a_plan_as_a_person_writes_it(self):
+        self.write("a", THREE_1)
+        self.write("plan", WRITTEN)
+        self.assert_done(self.run_program("bill", "plan", "a"), STATEMENT)
+        for old, new, number in (
+            (b"3600000", b"0", 3),
+            (b"cbs = 2000\n", b"", 2),
+            (b"keys", b"colour = 1\nkeys", 4),
+            (b"cbs = 2000\nebs = 1000\n", b"cbs = 0\nebs = 0\n", 5),
+            (b"cir = 1000\n", b"cir = 1000000000001\n", 5),
+            (b"[[7, 1]]", b"[[7, 1], [7, 1]]", 6),
+        ):
+            self.write("wrong", WRITTEN.replace(old, new))
+            self.assert_refused(self.run_program("bill", "wrong", "a"), "wrong", "plan", number)
 
     def test_refusals_of_terms(self):
         self.write("a", THREE_2)

@@ -4,7 +4,7 @@ import random
 from model import capture, colours, export, settled
 from program import TOOL
 from test_commands import noted
-from rows import FIRST, LATE, PLAN, SECOND, TERMED, THIRD, THREE, THREE_2, TIME
+from rows import FIRST, LATE, PLAN, SECOND, TERMED, THIRD, THREE, THREE_1, THREE_2, TIME
 from test_tool import ToolTest
 
 HEADER = b"time,domain,session,place,octets,dscp,interface,state,account,colour\n"
@@ -36,7 +36,9 @@ class Lists(ToolTest):
             b"1700000000100,7,0,1,1000,0,1,settled,alpha,yellow\n"
             b"1700000000200,7,0,2,800,0,1,settled,alpha,red\n"
         )
-        self.assert_done(self.run_tool("list", "--plan", "plan", "a"), HEADER + lines)
+        self.write("old", THREE_1)
+        for name in ("a", "old"):
+            self.assert_done(self.run_tool("list", "--plan", "plan", name), HEADER + lines)
         without = lines.replace(b"alpha,green", b",").replace(b"alpha,yellow", b",").replace(b"alpha,red", b",")
         self.assert_done(self.run_tool("list", "a"), HEADER + without)
 
