@@ -152,12 +152,6 @@ class Memory(ProgramTest):
         self.write("capture", b"".join(message_with(b"".join(pairs[at : at + 3_000])) for at in range(0, len(pairs), 3_000)))
         self.assert_done(self.run_within((16 << 20) + self.LITTLE, "combine", "out", "capture"), b"reports 0\n")
 
-    def test_withdrawals_of_all(self):
-        """Each goes over the templates that there are, and not over all that there were."""
-        pairs = [template(256 + n % 65_000) + withdrawal(2) for n in range(1_200_000)]
-        self.write("capture", b"".join(message_with(b"".join(pairs[at : at + 3_000])) for at in range(0, len(pairs), 3_000)))
-        self.assert_done(self.run_program("combine", "out", "capture"), b"reports 0\n")
-
     def test_a_template_that_is_defined_again(self):
         many = struct.pack(">HH", 2, 4 + 8 * 8_000) + struct.pack(">HHHH", 300, 1, 224, 8) * 8_000
         self.write("capture", message_with(many) * 500)
