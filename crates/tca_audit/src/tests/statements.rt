@@ -377,6 +377,26 @@ fn issues_under(alloc: Global, plan: &Plan, before: &Bill, after: &Bill) -> Opti
     Some(issues_all(&mut issuer, before, after))
 }
 
+// Issues one amount after the other for a period.
+fn issues_many(issuer: &mut Issuer, bill: &Bill) -> bool
+    requires { length bill.now.accounts ≡ issuer.old.accounts }
+{
+    for _n in 0..70_000 {
+        if issuer.issue(bill, 0, SPAN).is_err() {
+            return false;
+        }
+    }
+    issuer.issued(0, SPAN).len() == 70_000
+}
+
+fn issues_many_under(alloc: Global, plan: &Plan, bill: &Bill) -> Option<bool> {
+    if bill.accounts.as_slice().len() != plan.accounts() as usize {
+        return None;
+    }
+    let mut issuer = Issuer::new(alloc, plan).ok()?;
+    Some(issues_many(&mut issuer, bill))
+}
+
 fn billed(alloc: Global, plan: &Plan, rows: &[Row]) -> Option<Bill> {
     let log = logged(alloc, rows)?;
     bill_all(alloc, plan, &log).ok()
@@ -395,4 +415,16 @@ fn issues_by_bills(alloc: Global) -> Option<bool> {
 fn issues_what_has_changed(rt: HostRuntime) -> Result<(), Fail> {
     assert!(rt; issues_by_bills(rt.alloc()).ok_or("two bills")?);
     Ok(())
+}
+
+// None where what the issues need isn't there.
+fn issues_many_by_a_bill(alloc: Global) -> Option<bool> {
+    let plan = Plan::from_text(alloc, PLAN).ok()?;
+    let bill = billed(alloc, &plan, &FIRST)?;
+    issues_many_under(alloc, &plan, &bill)
+}
+
+#[test]
+fn a_period_may_have_many_amounts(rt: HostRuntime) {
+    assert!(rt; issues_many_by_a_bill(rt.alloc()) == Some(true));
 }
