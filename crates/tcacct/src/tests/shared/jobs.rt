@@ -356,3 +356,52 @@ fn workers_want_a_pass_each(rt: HostRuntime) {
     };
     assert!(rt; lacks_a_pass::<Brand, _>(&rt, rt.alloc(), Blank::new(PARTS), 1, plan));
 }
+
+// 5,000 inputs without octets.
+fn many_inputs(alloc: Global) -> Option<Vec<Input>>
+    ensures { IfSome result (λ all. length all.items ≤ 5000) }
+{
+    let mut all = Vec::new(alloc);
+    for _ in 0..5000 {
+        if all.push(plain(Vec::new(alloc))).is_err() {
+            return None;
+        }
+    }
+    if all.len() > 5000 {
+        return None;
+    }
+    Some(all)
+}
+
+// Whether each of many inputs has a result, by two workers.
+fn does_many<L: Side + Send + Sync, R: Threads + Wait + Sync>(
+    rt: &R,
+    alloc: Global,
+    blank: Blank,
+    name: u32,
+    plan: Plan,
+) -> bool
+    requires name { blank.name ≡ L.name }
+    requires parts { (blank.parts ≡ L.parts) × (L.parts ≡ 65537) }
+    requires called { name ≡ L.called }
+    requires plan { plan ≡ L.plan }
+{
+    let Ok(shared) = Shared::<L>::new(alloc, blank, name, plan) else {
+        return false;
+    };
+    let Some(inputs) = many_inputs(alloc) else {
+        return false;
+    };
+    match work(rt, alloc, &shared, &inputs, &NoGate, 2) {
+        Ok(worked) => worked.done.len() == 5000,
+        Err(_) => false,
+    }
+}
+
+#[test]
+fn many_inputs_have_a_result_each(rt: HostRuntime) {
+    let Ok(plan) = plan(rt.alloc()) else {
+        panic!(rt; "a plan");
+    };
+    assert!(rt; does_many::<Brand, _>(&rt, rt.alloc(), Blank::new(PARTS), 1, plan));
+}
