@@ -4,7 +4,8 @@
 //! a statement, and meters each account in the plainest way: the tokens that come between two packets are let in one
 //! at a time, each packet is judged as its RFC says, and where the plan has a term start both buckets are set full. Of the
 //! other crates it takes the readers of plans and exports, the table of code points, the account that owns a report, the sums of
-//! three colours to which a packet is counted (`Sums::count`), and the text of a bill. A token is let in only where a bucket has room for it, so between two packets no more are let in than packets took out before.
+//! three colours to which a packet is counted (`Sums::count`), and the text of a bill. A token is let in only where a bucket has
+//! room for it, so between two packets no more are let in than packets took out before.
 //! Where the identities of the reports don't ascend, it takes 12 octets of memory for each report beside the list of
 //! reports itself.
 //!

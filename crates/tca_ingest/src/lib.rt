@@ -10,7 +10,8 @@
 //!
 //! - `entry`: one call with its answer; `copies`: the room for an entry in the three places where it stands, which share the list of a
 //!   take;
-//! - `held`: what lies under the lock, and the calls on it; `note`: how a call is written down; `pass`: who calls; `side`: which replica it is;
+//! - `held`: what lies under the lock, and the calls on it; `note`: how a call is written down; `pass`: who calls;
+//!   `side`: which replica it is;
 //! - `shared`: the calls by threads, and the exchange between two replicas;
 //! - `close`: what comes of passes that are given back; `fitting`: whether they are all that there were; `closed`: many replicas
 //!   that nobody shares any more;

@@ -44,7 +44,8 @@ pub fn run_words<R: Files + Clock + AllocGlobal, W: Write, V: io::Write>(
 }
 
 /// Runs the words of a command line, of which the first is the program's own name, and gives the exit
-/// status. All files are read first, but the capture of `split`, which is read as it goes; then the command is run. What can't be written to `errors` is left out.
+/// status. All files are read first, but the capture of `split`, which is read as it goes; then the command is run. What can't be
+/// written to `errors` is left out.
 /// The exit status is 2 only where the words ask for no command.
 pub fn run<R: Files + Clock + AllocGlobal, W: Write, V: io::Write>(
     rt: &R,
