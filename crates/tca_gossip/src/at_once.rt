@@ -4,7 +4,7 @@
 //! Reports are sorted once, and metered when the bill is asked, where one by one each report is searched for, put in its place and noted
 //! in its lane. Where there is no room for that nothing has changed, so the reports can still be taken one by one, which names the
 //! first that has no room.
-ghost use Rattle.std.specs.Prelude.{◌≡◌, ℕ, ◌+◌, ◌≤◌, ◌++◌, length, true, false, IfOk, IfSome, OnErr, OnOk, None};
+ghost use Rattle.std.specs.Prelude.{◌≡◌, ℕ, ◌+◌, ◌/◌, ◌≤◌, max, ◌++◌, length, true, false, IfOk, IfSome, OnErr, OnOk, None};
 ghost use Rattle.std.specs.List.Sorted.{IsStrictlySortedBy};
 ghost use Rattle.tca_join.specs.Sets.{in_order};
 ghost use Rattle.tca_report.specs.report.Reports.{report_cmp};
@@ -29,7 +29,7 @@ const LEAST: usize = 1_024;
 // The least list that is taken at once beside a log: an eighth of it, since the chains are copied, and the whole
 // log is merged and metered, for the list.
 fn least_beside(log: &Log) -> usize
-    ensures { 1024 ≤ result }
+    ensures { result ≡ max 1024 (length log.now / 8) }
 {
     LEAST.max(log.len() as usize / 8)
 }
@@ -52,7 +52,7 @@ impl Contents {
     pub(crate) fn take_at_once(&mut self, reports: &Items<Report>) -> Option<u64>
         ensures state { IfSome result (λ _. self.new.replica ≡ taken self.old.replica reports.now) }
         ensures fresh { IfSome result (λ n. n ≡ length (fresh_of self.old.replica.log reports.now)) }
-        ensures same { result ≡ None → self.new.replica ≡ self.old.replica }
+        ensures same { result ≡ None → self.new ≡ self.old }
     {
         if reports.len() < least_beside(&self.log) {
             return None;
@@ -67,7 +67,7 @@ impl Contents {
     fn take_whole(&mut self, reports: &Items<Report>) -> Result<u64, LogFault>
         ensures state { OnOk result (self.new.replica ≡ taken self.old.replica reports.now) }
         ensures fresh { IfOk result (λ n. n ≡ length (fresh_of self.old.replica.log reports.now)) }
-        ensures err { OnErr result (self.new.replica ≡ self.old.replica) }
+        ensures err { OnErr result (self.new ≡ self.old) }
     {
         if self.take_ascending(reports)? {
             return Ok(reports.len() as u64);
@@ -79,7 +79,7 @@ impl Contents {
     fn take_by_set(&mut self, reports: &Items<Report>) -> Result<u64, LogFault>
         ensures state { OnOk result (self.new.replica ≡ taken self.old.replica reports.now) }
         ensures fresh { IfOk result (λ n. n ≡ length (fresh_of self.old.replica.log reports.now)) }
-        ensures err { OnErr result (self.new.replica ≡ self.old.replica) }
+        ensures err { OnErr result (self.new ≡ self.old) }
     {
         let set = set_in(self.alloc, reports)?;
         let fresh = fresh_in(self.alloc, &self.log, set.as_slice(), reports)?;
@@ -93,8 +93,8 @@ impl Contents {
     fn take_ascending(&mut self, reports: &Items<Report>) -> Result<bool, AllocError>
         ensures state { IfOk result (λ took. took ≡ true → self.new.replica ≡ taken self.old.replica reports.now) }
         ensures fresh { IfOk result (λ took. took ≡ true → fresh_of self.old.replica.log reports.now ≡ reports.now) }
-        ensures kept { IfOk result (λ took. took ≡ false → self.new.replica ≡ self.old.replica) }
-        ensures err { OnErr result (self.new.replica ≡ self.old.replica) }
+        ensures kept { IfOk result (λ took. took ≡ false → self.new ≡ self.old) }
+        ensures err { OnErr result (self.new ≡ self.old) }
     {
         let mut log = Log::new(self.alloc);
         if self.log.len() > 0 || !log.take_shared(reports)? {
@@ -118,7 +118,7 @@ impl Contents {
         requires rises { IsStrictlySortedBy report_cmp set }
         ensures state { OnOk result (self.new.replica ≡ appended self.old.replica (with_origin self.old.replica.name fresh)) }
         ensures count { IfOk result (λ n. n ≡ length fresh) }
-        ensures err { OnErr result (self.new.replica ≡ self.old.replica) }
+        ensures err { OnErr result (self.new ≡ self.old) }
     {
         let count = fresh.len();
         if count > LIMIT - self.log.len() as usize {
@@ -144,7 +144,7 @@ impl Contents {
         requires right { AreRuns runs.now }
         requires good { first_fault self.old.replica.name (chain_of self.old.replica) runs.now ≡ None }
         ensures state { result ≡ true → self.new.replica ≡ appended self.old.replica (rests (chain_of self.old.replica) runs.now) }
-        ensures same { result ≡ false → self.new.replica ≡ self.old.replica }
+        ensures same { result ≡ false → self.new ≡ self.old }
     {
         if count < least_beside(&self.log) as u64 {
             return false;
@@ -160,7 +160,7 @@ impl Contents {
         requires right { AreRuns runs.now }
         requires good { first_fault self.old.replica.name (chain_of self.old.replica) runs.now ≡ None }
         ensures ok { OnOk result (self.new.replica ≡ appended self.old.replica (rests (chain_of self.old.replica) runs.now)) }
-        ensures err { OnErr result (self.new.replica ≡ self.old.replica) }
+        ensures err { OnErr result (self.new ≡ self.old) }
     {
         let mut chains = self.chains.copy()?;
         let list = extend_all(self.alloc, &mut chains, runs)?;

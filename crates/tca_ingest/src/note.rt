@@ -24,8 +24,8 @@ pub(crate) fn reserve(
     places.reserve(1)
 }
 
-/// Writes an entry down in the journal and in the list of its pass, both of which have room, and answers its receipt. The ledger
-/// counts it in both, so that the list is never longer than the journal.
+/// Writes an entry down in the journal and in the list of its pass, and its place in the journal in the list of places, all of which
+/// have room, and answers its receipt. The ledger counts it in both, so that the list is never longer than the journal.
 pub(crate) fn note<L: Side>(
     journal: &mut Vec<Entry>,
     book: &mut Book<L>,
@@ -38,7 +38,7 @@ pub(crate) fn note<L: Side>(
     requires counted { (book.old.total ≡ length journal.old.items) × (share.old.amount ≡ length calls.old.items) × (share.old.parts ≡ 1) }
     ensures journal { entry_views journal.new.items ≡ entry_views journal.old.items ++ entry ∷ [] }
     ensures calls { entry_views calls.new.items ≡ entry_views calls.old.items ++ entry ∷ [] }
-    ensures places { length places.new.items ≡ length places.old.items + 1 }
+    ensures places { places.new.items ≡ places.old.items ++ length journal.old.items ∷ [] }
     ensures book { book.new.total ≡ length journal.new.items }
     ensures share { (share.new.amount ≡ length calls.new.items) × (share.new.parts ≡ 1) }
     ensures grown { length calls.new.items ≡ length calls.old.items + 1 }

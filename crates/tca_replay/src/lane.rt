@@ -1,5 +1,5 @@
 //! The rows of one account, metered again from marks.
-ghost use Rattle.std.specs.Prelude.{◌≡◌, ℕ, true, false, ◌+◌, ◌-◌, ◌*◌, ◌<◌, ◌≤◌, [], length, take, get_or, IfOk, OnOk, OnErr, None, Some, IfSome, vec_len, vec_capacity};
+ghost use Rattle.std.specs.Prelude.{◌≡◌, ℕ, true, false, ◌+◌, ◌-◌, ◌*◌, ◌^◌, ◌<◌, ◌≤◌, min, [], length, take, get_or, IfOk, OnOk, OnErr, None, Some, IfSome, vec_len, vec_capacity};
 ghost use Rattle.tca_report.specs.report.Reports.{report_cmp, time_end};
 ghost use Rattle.tca_join.specs.Sets.{has, put};
 ghost use Rattle.tca_log.specs.Rows.Ordered.{without, rank, most_rows};
@@ -188,7 +188,7 @@ impl<M: Meter, A: Allocator + Copy> Lane<M, A> {
     }
 }
 
-// Makes room for so many spans.
+// Makes room for so many spans. Where there is too little it makes room for twice as many, so that further rows seldom copy them.
 fn reserve_spans<A: Allocator + Copy>(
     closed: &mut Vec<Span, A>,
     count: usize,
@@ -196,6 +196,8 @@ fn reserve_spans<A: Allocator + Copy>(
     ensures items { closed.new.items ≡ closed.old.items }
     ensures capacity { vec_capacity closed.old ≤ vec_capacity closed.new }
     ensures room { OnOk result (count ≤ vec_capacity closed.new) }
+    ensures stays { count ≤ vec_capacity closed.old → vec_capacity closed.new ≡ vec_capacity closed.old }
+    ensures ample { OnOk result (vec_capacity closed.old < count → min (count + count) (2 ^ 64 - 1) ≤ vec_capacity closed.new) }
 {
     if count <= closed.capacity() {
         return Ok(());

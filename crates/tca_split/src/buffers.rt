@@ -1,5 +1,5 @@
 //! The second reading of a capture: each message goes to the file of its domain, by a buffer of its own.
-ghost use Rattle.std.specs.Prelude.{◌≡◌, ◌≢◌, ◌⊎◌, ◌≤◌, ◌<◌, ◌++◌, ◌∷◌, [], ℕ, List, Some, Ok, Err, ◌==◌, false, true, length, take, drop, IfOk, IfErr, IfSome, IfNone, OnOk, OnErr, IsErrOf, ◌+◌, ◌-◌};
+ghost use Rattle.std.specs.Prelude.{◌≡◌, ◌≢◌, ◌⊎◌, ◌≤◌, ◌<◌, ◌++◌, ◌∷◌, [], ℕ, List, Some, Ok, Err, ◌==◌, false, true, length, take, drop, IfOk, IfErr, IfSome, IfNone, OnOk, OnErr, IsErrOf, ◌+◌, ◌*◌, ◌-◌};
 ghost use Rattle.std.specs.Vec.{vec_len, vec_capacity};
 ghost use Rattle.tca_wire.specs.Frames.{Holds, IsFrame, IsPart, IsFaulty, frames_of, ending};
 ghost use Rattle.tca_wire.specs.declared.fault.WireFault.{WireFault};
@@ -29,7 +29,10 @@ pub(crate) struct Buffers {
 }
 
 // How many octets each of so many buffers has.
-fn room_of(domains: usize) -> usize {
+fn room_of(domains: usize) -> usize
+    ensures each { result ≤ 1048576 }
+    ensures all { result * domains ≤ 33554432 }
+{
     if domains == 0 {
         return MOST_ROOM;
     }

@@ -73,4 +73,5 @@ returns-in-Err-clause-err c =
     ap (λ (v : ChainView PacketReport). v.items) c.of-in-Err.ensures ∙ c.first.ensures ∙ ap (take (length held)) (c.in_ok-both.ensures ∙ c.in_ok-list.ensures) ∙ take-append_seam held c.args.fresh ∙ c.held_of-held.ensures.items in
     let chains = λ (q : ℕ). ap (λ (gs : List (ℕ × ChainView PacketReport)). held_of gs q) gone ∙ back_held es rises name c.of.result c.of-in-Err.result items q in
     let gs_rise : Rises c.set-in-Err.new.self = subst Rises (sym gone) (back_rises es rises name c.of.result c.of-in-Err.result) in
-    rw (← c.self.view_is) (again_is name c.self.inside.log c.add_set.new.self es c.set-in-Err.new.self c.self.inside.billing c.self.invariant gs_rise chains c.in-Err.ensures.err)
+    let again = again_is name c.self.inside.log c.add_set.new.self es c.set-in-Err.new.self c.self.inside.billing c.self.invariant gs_rise chains c.in-Err.ensures.err in
+    rw (← c.self.view_is) (λ i. record { replica = again i; billing = c.self.inside.billing })

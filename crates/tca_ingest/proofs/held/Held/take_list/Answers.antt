@@ -1,5 +1,6 @@
 use Rattle.std.proofs.lemmas.Grind.{common_steps}
-use Rattle.std.proofs.Common.{take, length, ap, ◌≡◌, ◌∙◌, arith}
+use Rattle.std.proofs.Common.{◌∷◌, [], take, length, ap, ◌≡◌, ◌∙◌, arith}
+use Rattle.std.proofs.lemmas.List.{length-append}
 use Rattle.tca_ingest.specs.Entries.{Took, pass_of}
 use Rattle.tca_ingest.specs.EntryViews.{entry_views}
 use Rattle.tca_ingest.proofs.Histories.{push_took}
@@ -28,7 +29,7 @@ pub invariant_of-mine-2 : goal.invariant_of-mine-2
 invariant_of-mine-2 g c = (
   c.note.ensures.share.1,
   c.note.ensures.share.0,
-  omega (arith, c.note.ensures.places, c.note.ensures.grown, ap length c.reserve.ensures.places, ap length c.reserve.ensures.calls, c.mine.invariant.2),
+  omega (arith, ap length c.note.ensures.places ∙ length-append c.reserve.new.places.items (length c.reserve.new.journal.items ∷ []), c.note.ensures.grown, ap length c.reserve.ensures.places, ap length c.reserve.ensures.calls, c.mine.invariant.2),
   whose_noted c.mine.inside.number c.mine.inside.calls.items c.reserve.new.calls.items c.note.new.calls.items c.into_entries-entry.result c.mine.invariant.3 c.reserve.ensures.calls c.note.ensures.calls (ap pass_of c.into_entries-entry.ensures),
 )
 
