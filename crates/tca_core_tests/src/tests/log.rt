@@ -1057,6 +1057,86 @@ fn a_refused_list_leaves_the_log_as_it_was(rt: HostRuntime) {
     assert!(rt; refuses_each_growth(rt.alloc(), Call::AddAll));
 }
 
+// 2,000 reports and four more, each of its own identity and after those before it. They leave room in their last chunk.
+fn two_thousand_and_four(alloc: Global) -> Option<Vec<Report>> {
+    let mut list = Vec::new(alloc);
+    for i in 0..2_004 {
+        let Some(report) = within_ranges(i, i, 40) else {
+            return None;
+        };
+        if list.push(report).is_err() {
+            return None;
+        }
+    }
+    Some(list)
+}
+
+// Whether a log that takes three reports by a call, and then one alone, holds as many octets of its heap as before after each. The
+// reports have room beside the others, so only an index that is given back or made anew would change that.
+fn keeps_index<'a>(
+    (log, small): (&mut Log<&'a LocalHeap>, &LocalHeap),
+    call: Call,
+    other: &Log<&'a LocalHeap>,
+    given: Vec<Report, &'a LocalHeap>,
+    next: Report,
+) -> bool {
+    let used = small.used();
+    let took = called(log, call, other, given) == Ok(3) && small.used() == used;
+    took && log.add(next) == Ok(Added::Fresh) && small.used() == used
+}
+
+// The same of a log that gets so many one by one here, and then has an index.
+fn long_keeps_index<'a>(
+    small: &'a LocalHeap,
+    call: Call,
+    other: &Log<&'a LocalHeap>,
+    given: Vec<Report, &'a LocalHeap>,
+    (long, next): (&[Report], Report),
+) -> bool {
+    let mut log = Log::new(small);
+    if add_to(&mut log, long).is_err() {
+        return false;
+    }
+    keeps_index((&mut log, small), call, other, given, next)
+}
+
+// The same where the three are in another heap.
+fn call_keeps_index<'a>(
+    (small, ample): (&'a LocalHeap, &'a LocalHeap),
+    call: Call,
+    list: &[Report],
+    next: Report,
+) -> Result<bool, AllocError> {
+    let few = part(list, 2_000, 2_003);
+    let Some(other) = log_of(ample, few, 3) else {
+        return Ok(false);
+    };
+    let given = Vec::from_slice(ample, few)?;
+    let long = part(list, 0, 2_000);
+    Ok(long_keeps_index(small, call, &other, given, (long, next)))
+}
+
+// The log has 131,000 octets, half of them of its index. The rest of the heap is more than twice the 22,000 that the call takes and gives
+// back, and less than half the 120,000 that making an index takes.
+fn short_keeps_index(alloc: Global, call: Call, list: &[Report]) -> Result<bool, AllocError> {
+    let Some(next) = list.last() else {
+        return Ok(false);
+    };
+    let ample = LocalHeap::new(alloc, 1 << 17)?;
+    let small = LocalHeap::new(alloc, 184_000)?;
+    call_keeps_index((&small, &ample), call, list, *next)
+}
+
+#[test]
+fn a_short_list_keeps_the_index(rt: HostRuntime) -> Result<(), Fail> {
+    let list = two_thousand_and_four(rt.alloc()).ok_or("2004 reports")?;
+    for call in [Call::Union, Call::AddAll] {
+        let keeps = short_keeps_index(rt.alloc(), call, &list)?;
+        assert!(rt; keeps);
+    }
+    Ok(())
+}
+
 // Takes all that a heap has left, so that it refuses each growth.
 fn exhausted(alloc: Global, heap: &LocalHeap) -> Result<Vec<Vec<u8, &LocalHeap>>, AllocError> {
     let mut taken = Vec::new(alloc);

@@ -497,18 +497,19 @@ fn takes_too_many_reads(alloc: Global) -> bool {
     stopped && never_failed && (device.calls, device.room) == (4_194_304, left)
 }
 
-fn takes_five_reads(alloc: Global) -> bool {
-    let mut input = make_narrow(alloc, 1_000_000, 200_000, false);
+// Whether three times 65,536 octets are read by so many calls, and the end by one more.
+fn takes_four_reads(alloc: Global) -> bool {
+    let mut input = make_narrow(alloc, 1_000_000, 196_608, false);
     let Ok(read) = read_octets(alloc, &mut input) else {
         return false;
     };
-    read.len() == 200_000 && input.into_inner().calls == 5
+    read.len() == 196_608 && input.into_inner().calls == 4
 }
 
 #[test]
 fn a_reader_may_take_too_many_reads(rt: HostRuntime) {
     assert!(rt; takes_too_many_reads(rt.alloc()));
-    assert!(rt; takes_five_reads(rt.alloc()));
+    assert!(rt; takes_four_reads(rt.alloc()));
 }
 
 fn is_written(rt: &HostRuntime, path: Path<'_>) -> bool {

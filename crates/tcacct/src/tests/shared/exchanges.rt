@@ -1,4 +1,4 @@
-//! What two shared replicas tell each other, absorbs that are refused, and closed replicas that don't agree.
+//! What two shared replicas tell each other and one tells itself, absorbs that are refused, and closed replicas that don't agree.
 ghost use Rattle.std.specs.Prelude.{◌≡◌};
 
 use super::{
@@ -167,6 +167,46 @@ fn two_replicas_with_a_pass_each_tell_each_other(rt: HostRuntime) {
     let one = (Blank::new(PARTS), 1, first);
     let two = (Blank::new(PARTS), 2, second);
     assert!(rt; tells_by_one_pass::<Brand, Brand, _>(&rt, rt.alloc(), one, two));
+}
+
+// Whether a replica that is told by itself what it took appends nothing.
+fn tells_itself<L: Side, R: Wait>(rt: &R, alloc: Global, shared: &Shared<L>) -> bool {
+    let Ok(mut mine) = shared.pass(rt) else {
+        return false;
+    };
+    let Ok(mut theirs) = shared.pass(rt) else {
+        return false;
+    };
+    let taken = take(rt, alloc, shared, &mut mine, &[FIRST, SECOND]);
+    let told = tells(rt, (shared, &mut mine), (shared, &mut theirs), 4, 0);
+    taken == Some(1) && told
+}
+
+fn is_told_by_itself<L: Side, R: Wait>(
+    rt: &R,
+    alloc: Global,
+    blank: Blank,
+    name: u32,
+    plan: Plan,
+) -> bool
+    requires name { blank.name ≡ L.name }
+    requires parts { (blank.parts ≡ L.parts) × (L.parts ≡ 65537) }
+    requires called { name ≡ L.called }
+    requires plan { plan ≡ L.plan }
+{
+    let Ok(shared) = Shared::<L>::new(alloc, blank, name, plan) else {
+        return false;
+    };
+    tells_itself(rt, alloc, &shared)
+}
+
+// One lock is held at a time, so that nobody waits for good where both are one.
+#[test]
+fn a_replica_tells_itself_nothing_new(rt: HostRuntime) {
+    let Ok(plan) = plan(rt.alloc()) else {
+        panic!(rt; "a plan");
+    };
+    assert!(rt; is_told_by_itself::<Brand, _>(&rt, rt.alloc(), Blank::new(PARTS), 1, plan));
 }
 
 // A delta of one run.

@@ -107,23 +107,24 @@ impl<'a, R: Clock + Sync> Gate for Rounds<'a, R> {
     }
 }
 
-// 192 inputs without octets.
-fn empty_inputs(alloc: Global) -> Option<Vec<Input>>
+// 191 inputs without octets, and at last an export that is cut.
+fn inputs_of_rounds(alloc: Global) -> Option<Vec<Input>>
     ensures { IfSome result (λ all. length all.items ≤ 192) }
 {
     let mut all = Vec::new(alloc);
-    for _ in 0..192 {
+    for _ in 0..191 {
         if all.push(plain(Vec::new(alloc))).is_err() {
             return None;
         }
     }
-    if all.len() > 192 {
+    let cut = Vec::from_slice(alloc, b"TCAX").ok()?;
+    if all.push(plain(cut)).is_err() || all.len() > 192 {
         return None;
     }
     Some(all)
 }
 
-// Whether 192 jobs came, took and ended, and no wait met the limit.
+// Whether 192 jobs came and ended, all but the one that is cut took, and no wait met the limit.
 fn is_through<R: Clock>(gate: &Rounds<'_, R>) -> bool {
     let met = (
         gate.came.load(Ordering::SeqCst),
@@ -133,7 +134,7 @@ fn is_through<R: Clock>(gate: &Rounds<'_, R>) -> bool {
         gate.took.load(Ordering::SeqCst),
         gate.ended.load(Ordering::SeqCst),
     );
-    met == (192, 0) && through == (192, 192)
+    met == (192, 0) && through == (191, 192)
 }
 
 // Whether this many workers take 192 inputs by rounds.
@@ -145,7 +146,7 @@ fn go_by_rounds<L: Side + Send + Sync, R: Threads + Wait + Clock + Sync>(
 ) -> bool
     requires workers { (1 ≤ workers) × (workers ≤ 64) }
 {
-    let Some(inputs) = empty_inputs(alloc) else {
+    let Some(inputs) = inputs_of_rounds(alloc) else {
         return false;
     };
     let gate = Rounds {
@@ -157,7 +158,7 @@ fn go_by_rounds<L: Side + Send + Sync, R: Threads + Wait + Clock + Sync>(
         ended: AtomicU64::new(0),
     };
     let counts = taken(rt, alloc, shared, &inputs, &gate, workers);
-    is_through(&gate) && counts == Some((192, 192, 0))
+    is_through(&gate) && counts == Some((192, 191, 0))
 }
 
 fn goes_by_rounds<L: Side + Send + Sync, R: Threads + Wait + Clock + Sync>(

@@ -1,10 +1,10 @@
-//! Workers: two replicas that tell each other what they hold, an input that is refused among good ones, and too few passes.
+//! Workers: two replicas that tell each other what they hold, an input that is refused among good ones, too few passes, and a long input.
 ghost use Rattle.std.specs.Prelude.{◌≡◌, ◌≤◌, IfSome, length};
 
 use super::exchanges::{are_of_three, both, ends, is_gap, tells};
 use super::limits::makes;
 use super::{FIRST, PARTS, SECOND, START, THIRD, closed_with, lengths, plan, with_one_more};
-use crate::tests::commands::plain;
+use crate::tests::commands::{TEMPLATE_AND_RECORD, plain};
 use std::alloc::{AllocError, Global};
 use std::marker::Brand;
 use std::process::Abort;
@@ -12,7 +12,7 @@ use std::sync::Wait;
 use std::sync::ledger::Blank;
 use std::thread::Threads;
 use tca_accounts::Plan;
-use tca_ingest::{Done, Entry, JobFault, NoGate, Pass, Shared, Side, WorkFault, work};
+use tca_ingest::{Closed, Done, Entry, JobFault, NoGate, Pass, Shared, Side, WorkFault, work};
 use tca_report::{Input, InputFault, Notes};
 
 // The octets of the log export of one report, spelled here by hand.
@@ -355,6 +355,85 @@ fn workers_want_a_pass_each(rt: HostRuntime) {
         panic!(rt; "a plan");
     };
     assert!(rt; lacks_a_pass::<Brand, _>(&rt, rt.alloc(), Blank::new(PARTS), 1, plan));
+}
+
+// The message of one report 1,024 times, as an input.
+fn long_input(alloc: Global) -> Result<Input, AllocError> {
+    let mut octets = Vec::new(alloc);
+    for _ in 0..1024 {
+        octets.extend_from_slice(&TEMPLATE_AND_RECORD)?;
+    }
+    Ok(plain(octets))
+}
+
+// How many reports a take has, and the set beside them.
+fn counts(entry: &Entry) -> Option<(usize, usize)> {
+    match entry {
+        Entry::Took { reports, .. } => {
+            let set = reports.other().ok()??;
+            Some((reports.len(), set.len()))
+        }
+        _ => None,
+    }
+}
+
+// The passes of a worker that took the inputs, and of a caller who then asked for the statement.
+fn taken_and_stated<L: Side + Send + Sync, R: Threads + Wait + Sync>(
+    rt: &R,
+    alloc: Global,
+    shared: &Shared<L>,
+    inputs: &[Input],
+) -> Option<Vec<Pass<L>>>
+    requires { length inputs.now ≤ 3 }
+{
+    let worked = work(rt, alloc, shared, inputs, &NoGate, 1).ok()?;
+    let mut pass = shared.pass(rt).ok()?;
+    shared.statement(rt, &mut pass).ok()?;
+    with_one_more(worked.passes, pass).ok()
+}
+
+// Whether a take of 1,024 equal reports has their set beside, and a book is kept.
+fn has_set_and_book(closed: &Closed) -> bool {
+    match closed.journal.as_slice().first() {
+        Some(entry) => counts(entry) == Some((1024, 1)) && closed.replica.keeps_book(),
+        None => false,
+    }
+}
+
+// Whether a long input that is taken at once leaves its set and, after a statement, a book.
+fn leaves_set_and_book<L: Side + Send + Sync, R: Threads + Wait + Sync>(
+    rt: &R,
+    alloc: Global,
+    blank: Blank,
+    name: u32,
+    plan: Plan,
+) -> bool
+    requires name { blank.name ≡ L.name }
+    requires parts { (blank.parts ≡ L.parts) × (L.parts ≡ 65537) }
+    requires called { name ≡ L.called }
+    requires plan { plan ≡ L.plan }
+{
+    let Ok(shared) = Shared::<L>::new(alloc, blank, name, plan) else {
+        return false;
+    };
+    let Ok(input) = long_input(alloc) else {
+        return false;
+    };
+    let Some(passes) = taken_and_stated(rt, alloc, &shared, &[input]) else {
+        return false;
+    };
+    match closed_with(shared, passes) {
+        Some(closed) => has_set_and_book(&closed),
+        None => false,
+    }
+}
+
+#[test]
+fn a_long_input_leaves_its_set_and_a_book(rt: HostRuntime) {
+    let Ok(plan) = plan(rt.alloc()) else {
+        panic!(rt; "a plan");
+    };
+    assert!(rt; leaves_set_and_book::<Brand, _>(&rt, rt.alloc(), Blank::new(PARTS), 1, plan));
 }
 
 // 5,000 inputs without octets.

@@ -1,10 +1,10 @@
 //! Workers that may be refused a growth, alone and followed by the same workers again. The tests are run with each growth refused in turn,
-//! once each: whatever is refused, the passes that are handed back close the replica, whose log and bill are those of its journal, and one
-//! of two times the jobs are done whole.
+//! once each: whatever is refused, the passes that are handed back close the replica, whose log and bill are those of its journal, one
+//! of two times the jobs are done whole, and a worker that gets no thread does nothing.
 ghost use Rattle.std.specs.Prelude.{◌≡◌, ◌≤◌, length};
 
 use super::jobs::exports;
-use super::{FIRST, PARTS, SECOND, closed_with, has_list, plan, reports, whole};
+use super::{FIRST, PARTS, SECOND, closed_with, has_list, lengths, plan, reports, whole};
 use std::alloc::{AllocError, Global};
 use std::marker::Brand;
 use std::sync::Wait;
@@ -197,5 +197,44 @@ fn works_once<L: Side + Send + Sync, R: Threads + Wait + Sync>(
 fn workers_that_were_refused_close_at_once(rt: HostRuntime) -> Result<(), Fail> {
     let plan = plan(rt.alloc())?;
     assert!(rt; works_once::<Brand, _>(&rt, rt.alloc(), Blank::new(PARTS), 1, plan)?);
+    Ok(())
+}
+
+// Whether a worker that was refused its thread made no entry.
+fn is_idle_without_thread<L: Side + Send + Sync, R: Threads + Wait + Sync>(
+    rt: &R,
+    alloc: Global,
+    shared: Shared<L>,
+    inputs: &[Input],
+) -> bool
+    requires { length inputs.now ≤ 3 }
+{
+    let Err(refused) = work(rt, alloc, &shared, inputs, &NoGate, 1) else {
+        return true;
+    };
+    refused.fault != WorkFault::NoThread || lengths(shared, refused.passes) == Some((0, 0))
+}
+
+fn works_by_one<L: Side + Send + Sync, R: Threads + Wait + Sync>(
+    rt: &R,
+    alloc: Global,
+    blank: Blank,
+    name: u32,
+    plan: Plan,
+) -> Result<bool, Fail>
+    requires name { blank.name ≡ L.name }
+    requires parts { (blank.parts ≡ L.parts) × (L.parts ≡ 65537) }
+    requires called { name ≡ L.called }
+    requires plan { plan ≡ L.plan }
+{
+    let inputs = exports(alloc, &[FIRST]).ok_or("inputs")?;
+    let shared = Shared::<L>::new(alloc, blank, name, plan)?;
+    Ok(is_idle_without_thread(rt, alloc, shared, &inputs))
+}
+
+#[test]
+fn a_worker_that_was_refused_its_thread_does_nothing(rt: HostRuntime) -> Result<(), Fail> {
+    let plan = plan(rt.alloc())?;
+    assert!(rt; works_by_one::<Brand, _>(&rt, rt.alloc(), Blank::new(PARTS), 1, plan)?);
     Ok(())
 }
