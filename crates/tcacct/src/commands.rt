@@ -64,9 +64,9 @@ alone is of session 0, and so is ./N@PATH, for a file with such a name.
 
 A report is told from others by its domain, session and sequence number. So the records of
 two sessions of one domain under one number fall on the same identities and dispute each
-other, and disputed reports aren't metered. A file with the messages of two sessions has to
-be cut into two inputs. A log export carries the session of each report, so that N makes no
-difference there.
+other, and disputed reports aren't metered. Collect each session into a file of its own: one
+with the messages of two can't be cut afterwards. A log export carries the session of each
+report, so that N makes no difference there.
 
 Examples: tcacct meter rfc2697:1000:2000:1000:blind monday.tcax
           tcacct meter rfc2698:2000:2000:1000:1000:blind 1@north.ipfix 2@south.ipfix";

@@ -112,20 +112,24 @@ const SPLIT: &str = "Cuts a capture into one for each observation domain";
 const SPLIT_AFTER: &str =
     "DIR/D.ipfix gets the messages of domain D, octet by octet and in order. DIR has to be there. No
 file is written over: where DIR has a file of such a name, nothing is written. CAPTURE is
-read twice, in pieces, and may be of any length; it is a path alone, never N@PATH. It has
-messages of at most 4096 domains. Of its faults those of messages' headers alone are told,
-wire 1 to 3. Two lines are printed: domains N and messages M.
+read twice, in pieces, and may be of any length; so it is a regular file, no pipe, and isn't to
+change meanwhile. It is a path alone, never N@PATH. It has messages of at most 4096 domains. Of
+its faults those of messages' headers alone are told, wire 1 to 3. Two lines are printed:
+domains N and messages M. --progress tells of the second reading alone.
 
 Example: tcatool split shards link.ipfix";
 
-const ADD: &str = "Prints the sum of statements of one plan over different domains";
+const ADD: &str =
+    "Prints the sum of statements of one plan over different domains or windows of time";
 
 const ADD_AFTER: &str =
     "The statements are of one period and have the same accounts in the same order. The sum is a
 statement: its counts, and each account's total and periods, are added up. It is the
 statement of all reports together where no two statements have reports of one observation
-domain and each account has pairs of the domains of one statement alone; it is not where two
-statements have reports of one account, whose meter would have seen both.
+domain and each account has pairs of the domains of one statement alone; or where they are of
+windows of time, a term of each account starts with every window but the first, and no
+identity has contents in two. Else, where two statements have reports of one account, it is
+not: that account's meter would have seen both.
 
 Example: tcatool add north.txt south.txt";
 

@@ -40,9 +40,17 @@ impl<'r, R: Files + AllocGlobal> Directory<'r, R> {
     }
 }
 
+// The path of the file of a domain. No folder has an empty name: such a path would lead to the root.
+fn path_of(alloc: Global, folder: &str, domain: u32) -> io::Result<String> {
+    if folder.is_empty() {
+        return Err(io::Error::from(ErrorKind::NotFound));
+    }
+    Ok(format!(in alloc; "{folder}/{domain}.ipfix")?)
+}
+
 // Whether the file of a domain is there.
 fn look_for<R: Files + AllocGlobal>(rt: &R, folder: &str, domain: u32) -> io::Result<bool> {
-    let path = format!(in rt.alloc(); "{folder}/{domain}.ipfix")?;
+    let path = path_of(rt.alloc(), folder, domain)?;
     match fs::symlink_metadata(rt, path.as_str()) {
         Ok(_) => Ok(true),
         Err(error) if error.kind() == ErrorKind::NotFound => Ok(false),
@@ -59,7 +67,7 @@ fn open_file<R: Files + AllocGlobal>(
     domain: u32,
     how: &OpenOptions,
 ) -> io::Result<()> {
-    let path = format!(in rt.alloc(); "{folder}/{domain}.ipfix")?;
+    let path = path_of(rt.alloc(), folder, domain)?;
     for _ in 0..=open.len() {
         match how.open(rt, path.as_str()) {
             Ok(file) => {
@@ -285,6 +293,16 @@ pub fn run_split<A: Read, B: Read, F: Folder, W: Write>(
     }
 }
 
+// The length of the capture's file, which has to be a regular one: of a pipe, as of the shell's, a second reading gives nothing.
+fn length_of<R: Files>(rt: &R, capture: &str) -> Result<u64, RunFault>
+    ensures refused { IfErr result (λ e. e ≡ refusal (Some 0) family.Read 1) }
+{
+    match fs::metadata(rt, capture) {
+        Ok(metadata) if metadata.is_file() => Ok(metadata.len()),
+        _ => Err(RunFault::read(Some(0), ReadFault::Read)),
+    }
+}
+
 // Opens the capture.
 fn open<R: Files>(rt: &R, capture: &str) -> Result<Host<R::File>, RunFault>
     ensures refused { IfErr result (λ e. e ≡ refusal (Some 0) family.Read 1) }
@@ -327,8 +345,8 @@ fn split_watched<R: Files + AllocGlobal, T: Watch, W: Write>(
 /// Splits the file of a capture into files of a folder, one for each observation domain. Where it is asked for, how far the second
 /// reading is is told on standard error.
 ///
-/// The file is opened twice before the folder is looked at: `read` 1, of input 0, where it can't be opened, or where its length is asked
-/// for and can't be told. The rest is refused as `run_split` does, and leaves what that leaves. A folder that isn't there is `write` 1, which blames no
+/// The file is opened twice before the folder is looked at: `read` 1, of input 0, where it can't be opened or isn't a regular file, as a
+/// pipe, which can't be read twice. The rest is refused as `run_split` does, and leaves what that leaves. A folder that isn't there is `write` 1, which blames no
 /// input, once its first file is to be made.
 pub fn split_file<R: Files + Clock + AllocGlobal, W: Write, V: io::Write>(
     rt: &R,
@@ -343,13 +361,10 @@ pub fn split_file<R: Files + Clock + AllocGlobal, W: Write, V: io::Write>(
     ensures refused { IfErr result (IsFilesRefused
         (device W.written W.failures out.old) (device W.written W.failures out.new)) }
 {
+    let all = length_of(rt, capture)?;
     if !tells {
         return split_watched(rt, folder, capture, &mut Silent, out);
     }
-    let all = match fs::metadata(rt, capture) {
-        Ok(metadata) => metadata.len(),
-        Err(_) => return Err(RunFault::read(Some(0), ReadFault::Read)),
-    };
     let mut progress = Progress::new(rt, errors, "split", Some(all));
     split_watched(rt, folder, capture, &mut progress, out)
 }
