@@ -18,7 +18,9 @@ def main():
     suite = loader.loadTestsFromNames(names) if names else loader.discover(str(HERE), top_level_dir=str(HERE))
     result = unittest.TextTestRunner(stream=sys.stdout, verbosity=2).run(suite)
     failed = len({test.id().split(" ")[0] for test, _ in result.failures + result.errors})
-    print(f"{result.testsRun - failed} passed, {failed} failed")
+    for test, why in result.skipped:
+        print(f"skipped: {test.id()}: {why}")
+    print(f"{result.testsRun - failed - len(result.skipped)} passed, {failed} failed")
     return 1 if failed or result.testsRun == 0 else 0
 
 

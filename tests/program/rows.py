@@ -37,6 +37,12 @@ span 472222 1500 1 1000 1 800 1
 end
 """
 
+OBJECT = (
+    b'{"accounts":[{"name":"alpha","spans":[{"green":{"octets":1500,"packets":1},"index":472222,"red":{"octets":800,"packets":1},'
+    b'"start":"2023-11-14T22:00:00Z","yellow":{"octets":1000,"packets":1}}],"total":{"green":{"octets":1500,"packets":1},'
+    b'"red":{"octets":800,"packets":1},"yellow":{"octets":1000,"packets":1}}}],"disputed":0,"format":1,"period":3600000,"reports":3,"unassigned":0}\n'
+)
+
 # That of no reports under the same plan.
 EMPTY = b"""tcacct statement 1
 period 3600000

@@ -8,6 +8,9 @@ from rows import (FIRST, LATE, LINES, ONE, OTHER, PLAN, SECOND, SHORT, STATEMENT
 
 SPEC = "rfc2697:1000:2000:1000:blind"
 
+# Of its template set the ID isn't one of a template.
+DECODE = ONE[:20] + b"\x00\xff" + ONE[22:]
+
 
 def noted(n):
     """A capture of one report, with notes: n + 1 records that are none, n skipped sets, and one set of an unknown template."""
@@ -62,7 +65,7 @@ class Meters(ProgramTest):
         self.write("cut", THREE_2[:96])
         self.write("later", THREE_2[:5] + b"\x03" + THREE_2[6:])
         self.write("wire", ONE[:64])
-        self.write("decode", ONE[:20] + b"\x00\xff" + ONE[22:])
+        self.write("decode", DECODE)
         self.assert_refused(self.run_program("meter", "rfc2697:1000:2000:1000", "a"), "rfc2697:1000:2000:1000", "spec", 1)
         self.assert_refused(self.run_program("meter", "rfc2697:1000:0:0:blind", "a"), "rfc2697:1000:0:0:blind", "spec", 2)
         self.assert_refused(self.run_program("meter", SPEC, "cut"), "cut", "export", 4)
@@ -99,6 +102,13 @@ class Combines(ProgramTest):
         self.write("x", export([FIRST]))
         self.assert_refused(self.run_program("combine", "out", "x", "absent", "missing"), "absent", "read", 1)
         self.assertFalse(self.has("out"))
+
+    def test_the_first_fault(self):
+        self.write("x", export([FIRST]))
+        self.write("cut", ONE[:64])
+        self.write("decode", DECODE)
+        self.assert_refused(self.run_program("combine", "out", "x", "1@cut", "2@decode"), "1@cut", "wire", 1)
+        self.assert_refused(self.run_program("combine", "out", "x", "1@decode", "2@cut"), "1@decode", "decode", 1)
 
     def test_more_words_than_forty(self):
         rows = [(TIME + n, 7, 0, n, 100 + n, 0, 1) for n in range(100)]
@@ -247,10 +257,14 @@ class Bills(ProgramTest):
         self.write("quiet", THREE_2)
         run = self.run_program("bill", "plan", *words, "quiet")
         self.assertEqual((run.status, run.err.decode()), (0, "".join(lines)))
+        # Where a later input is refused its line is the only one.
+        self.write("cut", ONE[:64])
+        self.assert_refused(self.run_program("bill", "plan", *words, "cut"), "cut", "wire", 1)
 
     def test_refusals(self):
         self.write("a", THREE_2)
         self.write("cut", ONE[:64])
+        self.write("decode", DECODE)
         self.write("zero", PLAN.toml().replace(b"period = 3600000", b"period = 0"))
         names = [self.write(f"n{n}", export([row])) for n, row in enumerate(THREE)]
         for replicas in (1, 2, 3, 16):
@@ -259,6 +273,9 @@ class Bills(ProgramTest):
                 options = ("--replicas", replicas, "--workers", workers, "--export", "out")
                 self.assert_refused(self.run_program("bill", *options, "plan", *names, "4@cut"), "4@cut", "wire", 1)
                 self.assertEqual(self.read("out"), b"")
+                # The first one's fault, whichever replica has the other one.
+                self.assert_refused(self.run_program("bill", *options, "plan", "n0", "1@cut", "2@decode"), "1@cut", "wire", 1)
+                self.assert_refused(self.run_program("bill", *options, "plan", "n0", "1@decode", "2@cut"), "1@decode", "decode", 1)
         self.assert_refused(self.run_program("bill", "zero", "a"), "zero", "plan", 3)
         self.assert_refused(self.run_program("bill", "zero", "missing"), "missing", "read", 1)
         self.assert_refused(self.run_program("bill", "missing", "a"), "missing", "read", 1)

@@ -1,6 +1,7 @@
 """The examples, each of which has a `run` that ends by itself and compares."""
 import os
 import shutil
+import socket
 import subprocess
 import unittest
 
@@ -18,7 +19,11 @@ class Examples(ProgramTest):
 
     @unittest.skipUnless(shutil.which("socat"), "needs socat")
     def test_collector(self):
-        self.check("collector")
+        # A port that nobody has, and time enough for the exporter to start on a busy machine.
+        with socket.socket(socket.AF_INET, socket.SOCK_DGRAM) as free:
+            free.bind(("127.0.0.1", 0))
+            port = free.getsockname()[1]
+        self.check("collector", PORT=str(port), QUIET="8")
 
     @unittest.skipUnless(shutil.which("make"), "needs make")
     def test_cluster(self):

@@ -1,11 +1,11 @@
 """Files and devices: large ones, pipes, folders, files without the right to read, full devices, OUT that is an input."""
+import filecmp
 import os
 import resource
 import shutil
 import struct
 import subprocess
 import threading
-import unittest
 
 from model import capture, export, statement
 from program import PROGRAM, SECONDS, ProgramTest
@@ -39,11 +39,13 @@ class Files(ProgramTest):
                     pipe.write(THREE_2[at : at + 7])
                     pipe.flush()
 
-        feeder = threading.Thread(target=feed)
+        # A program that never opens the pipe leaves the feeder waiting.
+        feeder = threading.Thread(target=feed, daemon=True)
         feeder.start()
         run = self.run_program("bill", "plan", "pipe")
-        feeder.join()
         self.assert_done(run, STATEMENT)
+        feeder.join(SECONDS)
+        self.assertFalse(feeder.is_alive())
 
     def test_a_folder(self):
         (self.folder / "folder").mkdir()
@@ -51,19 +53,29 @@ class Files(ProgramTest):
         self.assert_refused(self.run_program("combine", "folder", "three"), "combine", "write", 1)
         self.assert_refused(self.run_program("combine", "missing/out", "three"), "combine", "write", 1)
 
-    @unittest.skipUnless(os.geteuid() == 0, "needs another user to be")
     def test_a_file_without_the_right_to_read(self):
-        os.chmod(self.folder / "three", 0o600)
-        # Another user may not come to the repository, so the program is copied.
-        program = shutil.copy(PROGRAM, self.folder / "program")
-        run = self.run_program("bill", "plan", "three", program=program, user=65534, group=65534)
+        os.chmod(self.folder / "three", 0)
+        if os.geteuid():
+            run = self.run_program("bill", "plan", "three")
+        else:
+            # Another user may not come to the repository, so the program is copied.
+            program = shutil.copy(PROGRAM, self.folder / "program")
+            run = self.run_program("bill", "plan", "three", program=program, user=65534, group=65534)
         self.assert_refused(run, "three", "read", 1)
 
     def test_a_full_device(self):
         self.assert_refused(self.run_program("combine", "/dev/full", "three"), "combine", "write", 1)
-        with open("/dev/full", "wb") as full:
-            run = self.run_program("bill", "plan", "three", stdout=full)
-        self.assertEqual((run.status, run.err), (1, b"tcacct: bill: write 1\n"))
+        self.write("statement", STATEMENT)
+        for words in (
+            ("meter", "rfc2697:1000:2000:1000:blind", "three"),
+            ("combine", "out", "three"),
+            ("bill", "plan", "three"),
+            ("audit", "plan", "three", "statement"),
+        ):
+            with open("/dev/full", "wb") as full:
+                run = self.run_program(*words, stdout=full)
+            self.assertEqual((run.status, run.err), (1, f"tcacct: {words[0]}: write 1\n".encode()))
+        self.assertEqual(self.read("out"), THREE_2)
         with open("/dev/full", "wb") as full:
             run = self.run_program("bill", "plan", "missing", stderr=full)
         self.assertEqual((run.status, run.out), (1, b""))
@@ -124,8 +136,8 @@ class Files(ProgramTest):
         self.assert_done(self.run_program("bill", "plan", "half", "other"), statement(PLAN, rows))
 
 
-def message_with(sets):
-    return struct.pack(">HHIII", 10, 16 + len(sets), TIME // 1000, 0, 7) + sets
+def message_with(sets, domain=7):
+    return struct.pack(">HHIII", 10, 16 + len(sets), TIME // 1000, 0, domain) + sets
 
 
 def template(number):
@@ -135,6 +147,42 @@ def template(number):
 
 def withdrawal(number):
     return struct.pack(">HHHH", 2, 8, number, 0)
+
+
+# The withdrawal of all templates of a domain.
+ALL = struct.pack(">HHHH", 2, 8, 2, 0)
+
+
+class Limits(ProgramTest):
+    def test_as_many_reports_as_a_log_holds(self):
+        """They are read, written, and read again; one more isn't."""
+        most, each = 4_194_304, 2_048
+        with open(self.folder / "most", "wb") as file:
+            for n in range(most // each):
+                file.write(capture(7, each * n, [(TIME + n, 1500, 0, 1)] * each))
+        told = f"reports {most}\n".encode()
+        self.assert_done(self.run_program("combine", "whole", "most"), told)
+        self.assertEqual(os.path.getsize(self.folder / "whole"), 10 + 29 * most)
+        self.assert_done(self.run_program("combine", "again", "whole"), told)
+        self.assertTrue(filecmp.cmp(self.folder / "whole", self.folder / "again", shallow=False))
+        self.write("one", ONE)
+        self.assert_refused(self.run_program("combine", "out", "whole", "1@one"), "1@one", "log", 1)
+
+    def test_as_many_sets_as_a_message_holds(self):
+        self.write("capture", message_with(struct.pack(">HH", 4, 4) * 16_379) + ONE)
+        self.write("plan", PLAN.toml())
+        run = self.run_program("bill", "plan", "capture")
+        self.assertEqual((run.status, run.err), (0, b"tcacct: capture: notes 0 0 16379\n"))
+        self.assertIn(b"\nreports 1\n", run.out)
+
+
+class Time(ProgramTest):
+    def test_withdrawals_of_all_beside_many_templates(self):
+        """A withdrawal of all templates of a domain goes over those that were defined since the last one, however many were before."""
+        stay = [message_with(b"".join(template(256 + n) for n in range(3_000)), domain=8)]
+        gone = [message_with(b"".join(template(256 + n) for n in range(900)) + ALL)] * 3
+        self.write("capture", b"".join(stay + gone) + message_with(struct.pack(">HH", 2, 4 + 4 * 16_000) + ALL[4:] * 16_000) * 400)
+        self.assert_done(self.run_program("combine", "out", "capture"), b"reports 0\n")
 
 
 class Memory(ProgramTest):
@@ -152,9 +200,18 @@ class Memory(ProgramTest):
         self.write("capture", b"".join(message_with(b"".join(pairs[at : at + 3_000])) for at in range(0, len(pairs), 3_000)))
         self.assert_done(self.run_within((16 << 20) + self.LITTLE, "combine", "out", "capture"), b"reports 0\n")
 
+    def test_templates_that_come_and_go_beside_others(self):
+        """In a domain of their own too."""
+        stay = message_with(b"".join(template(number) for number in range(65_000, 65_005)))
+        pairs = [template(256 + n % 64_000) + withdrawal(256 + n % 64_000) for n in range(600_000)]
+        texts = [message_with(b"".join(pairs[at : at + 3_000]), n % 100) for n, at in enumerate(range(0, len(pairs), 3_000))]
+        self.write("capture", stay + b"".join(texts))
+        self.assert_done(self.run_within((16 << 20) + self.LITTLE, "combine", "out", "capture"), b"reports 0\n")
+
     def test_a_template_that_is_defined_again(self):
         many = struct.pack(">HH", 2, 4 + 8 * 8_000) + struct.pack(">HHHH", 300, 1, 224, 8) * 8_000
-        self.write("capture", message_with(many) * 500)
+        stay = message_with(b"".join(template(number) for number in range(65_000, 65_005)))
+        self.write("capture", stay + message_with(many) * 500)
         self.assert_done(self.run_within((32 << 20) + self.LITTLE, "combine", "out", "capture"), b"reports 0\n")
 
     def test_each_report_is_held_once(self):

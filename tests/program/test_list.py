@@ -5,6 +5,7 @@ from model import capture, colours, export, settled
 from program import TOOL
 from test_commands import noted
 from rows import FIRST, LATE, PLAN, SECOND, TERMED, THIRD, THREE, THREE_1, THREE_2, TIME
+from test_random import some_inputs, some_plan
 from test_tool import ToolTest
 
 HEADER = b"time,domain,session,place,octets,dscp,interface,state,account,colour\n"
@@ -85,6 +86,22 @@ class Lists(ToolTest):
             words = ("--plan", "plan") if plan else ()
             self.assert_done(self.run_tool("list", *words, "a", "b"), HEADER + lines)
         self.assertGreater(coloured, 50)
+
+    def test_any_plans(self):
+        """Several accounts and all meters, code points, sessions, and inputs that come twice."""
+        accounts, marked = set(), 0
+        for case in range(100):
+            with self.subTest(case=case):
+                draw = random.Random(2000 + case)
+                words, reports = some_inputs(self, draw)
+                plan = some_plan(draw, [report[0] for report in reports] or [TIME])
+                self.write("plan", plan.toml())
+                lines = lines_of(plan, reports)
+                self.assert_done(self.run_tool("list", "--plan", "plan", *words), HEADER + lines)
+                accounts |= {text.split(b",")[8] for text in lines.splitlines()}
+                marked += sum(report[5] > 0 for report in reports)
+        self.assertEqual(accounts, {b"", b"account-0", b"account-1", b"account-2"})
+        self.assertGreater(marked, 1000)
 
     def test_items_add_up_to_the_statement(self):
         numbers = random.Random(11)

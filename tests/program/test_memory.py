@@ -10,8 +10,9 @@ from pathlib import Path
 
 from model import capture
 from program import PROGRAM, SECONDS, TESTS, TOOL, ProgramTest
-from rows import EMPTY, ONE, PLAN, SHORT, STATEMENT, THREE, THREE_2, TIME
+from rows import EMPTY, OBJECT, ONE, PLAN, SHORT, STATEMENT, THREE, THREE_2, TIME
 
+HERE = Path(__file__).resolve().parent
 MOST_GROWTHS = 2000
 FAMILIES = (b"memory 1", b"plan 8", b"log 2", b"share 3", b"work 5", b"work 3", b"read 3", b"absorb 4", b"wire 7", b"statement 5")
 
@@ -28,6 +29,7 @@ HOLDS = {
         "tests::shared::memory::a_take_that_was_refused_is_completed",
         "tests::shared::jobs_memory::workers_that_were_refused_close",
         "tests::shared::jobs_memory::workers_that_were_refused_close_at_once",
+        "tests::shared::jobs_memory::a_worker_that_was_refused_its_thread_does_nothing",
         "tests::replicated::writes_nothing_where_it_is_refused",
     ),
 }
@@ -43,7 +45,7 @@ class Growths(ProgramTest):
         cls.tools = Path(tempfile.mkdtemp(prefix="refuse-"))
         cls.addClassCleanup(shutil.rmtree, cls.tools, ignore_errors=True)
         cls.library = cls.tools / "refuse.so"
-        source = Path(__file__).resolve().parent / "refuse.c"
+        source = HERE / "refuse.c"
         subprocess.run(["cc", "-shared", "-fPIC", "-O1", "-o", cls.library, source], check=True)
 
     def run_refused(self, number, words, all_after=False):
@@ -80,9 +82,19 @@ class Growths(ProgramTest):
                     self.assertEqual(done.returncode, 0, done)
                     self.assertGreater(held, 0)
 
-    def check_run(self, words, out, files, all_after, program=PROGRAM, err=b""):
+    def check_words(self, told, reads):
+        """Of lines told one after the other: those of a file that is read name it, in the order of the arguments, and those of what it holds name such a file."""
+        lines = [line.decode().removesuffix("\n").split(": ")[1:] for line in told if line]
+        self.assertEqual(list(dict.fromkeys(word for word, fault in lines if fault == "read 3")), reads)
+        for word, fault in lines:
+            if fault.startswith("plan"):
+                self.assertEqual(word, "plan")
+            if fault.startswith(("log", "wire", "decode", "statement")):
+                self.assertIn(word, reads)
+
+    def check_run(self, words, out, files, all_after, reads, program=PROGRAM, err=b""):
         """Each growth of this run refused: it writes what it writes, or says in its own name that it lacks memory and has written nothing."""
-        name_of_it, told = b"tcatool: " if program == TOOL else b"tcacct: ", set()
+        name_of_it, told = b"tcatool: " if program == TOOL else b"tcacct: ", []
         for number in range(1, MOST_GROWTHS):
             for name in files:
                 (self.folder / name).unlink(missing_ok=True)
@@ -99,8 +111,8 @@ class Growths(ProgramTest):
                 self.assertTrue(not done.stderr or done.stderr.rstrip().endswith(FAMILIES), done.stderr)
                 self.assertTrue(not done.stderr or done.stderr.startswith(name_of_it), done.stderr)
                 for name in files:
-                    self.assertIn(self.read(name) if self.has(name) else b"", (b"",), number)
-            told.add(done.stderr)
+                    self.assertEqual(self.read(name) if self.has(name) else b"", b"", number)
+                told.append(done.stderr)
             # Where one growth alone is refused there is memory for the line.
             self.assertTrue(all_after or done.returncode == 0 or done.stderr, number)
         else:
@@ -108,6 +120,7 @@ class Growths(ProgramTest):
         self.assertGreater(number, 10)
         if not all_after:
             self.assertIn(name_of_it + name_of_it + b"memory 1\n", told)
+            self.check_words(told, reads)
 
     def test_of_the_program(self):
         self.write("plan", PLAN.toml())
@@ -117,15 +130,15 @@ class Growths(ProgramTest):
         self.write("reports", THREE_2)
         names = ["n0", "n1", "n2"]
         for all_after in (False, True):
-            for words, out, files in (
-                (["bill", "plan", *names], STATEMENT, {}),
-                (["bill", "--replicas", "3", "--export", "out", "plan", *names], STATEMENT, {"out": THREE_2}),
-                (["combine", "out", *names], b"reports 3\n", {"out": THREE_2}),
-                (["meter", "rfc2697:1000:2000:1000:blind", "n0", "n1"], b"green 1500 1\nyellow 1000 1\nred 0 0\n", {}),
-                (["audit", "plan", "reports", "statement"], b"agrees\n", {}),
+            for words, out, files, reads in (
+                (["bill", "plan", *names], STATEMENT, {}, ["plan", *names]),
+                (["bill", "--replicas", "3", "--export", "out", "plan", *names], STATEMENT, {"out": THREE_2}, ["plan", *names]),
+                (["combine", "out", *names], b"reports 3\n", {"out": THREE_2}, names),
+                (["meter", "rfc2697:1000:2000:1000:blind", "n0", "n1"], b"green 1500 1\nyellow 1000 1\nred 0 0\n", {}, ["n0", "n1"]),
+                (["audit", "plan", "reports", "statement"], b"agrees\n", {}, ["plan", "reports", "statement"]),
             ):
                 with self.subTest(words=words, all_after=all_after):
-                    self.check_run(words, out, files, all_after)
+                    self.check_run(words, out, files, all_after, reads)
 
     def test_of_the_tool(self):
         self.write("plan", PLAN.toml())
@@ -145,17 +158,20 @@ class Growths(ProgramTest):
         pairs = b"domain,interface,reports,packets,octets,first,last\n7,1,3,3,3300,1700000000000,1700000000200\n"
         sides = b"side,time,domain,session,place,octets,dscp,interface\n"
         same = b"tcatool: diff: only A 0, only B 0, both 3\n"
+        page = (HERE / "page.html").read_bytes()
         for all_after in (False, True):
-            for words, out, err in (
-                (["pairs", "reports"], pairs, b""),
-                (["list", "--plan", "plan", "reports"], header + items, b""),
-                (["diff", "reports", "reports"], sides, same),
-                (["table", "statement"], table, b""),
-                (["add", "statement"], STATEMENT, b""),
-                (["add", "statement", "none"], STATEMENT, b""),
+            for words, out, files, err, reads in (
+                (["pairs", "reports"], pairs, {}, b"", ["reports"]),
+                (["list", "--plan", "plan", "reports"], header + items, {}, b"", ["plan", "reports"]),
+                (["diff", "reports", "reports"], sides, {}, same, ["reports"]),
+                (["table", "statement"], table, {}, b"", ["statement"]),
+                (["json", "statement"], OBJECT, {}, b"", ["statement"]),
+                (["page", "out", "statement"], b"", {"out": page}, b"", ["statement"]),
+                (["add", "statement"], STATEMENT, {}, b"", ["statement"]),
+                (["add", "statement", "none"], STATEMENT, {}, b"", ["statement", "none"]),
             ):
                 with self.subTest(words=words, all_after=all_after):
-                    self.check_run(words, out, {}, all_after, TOOL, err)
+                    self.check_run(words, out, files, all_after, reads, TOOL, err)
 
     def test_of_a_split(self):
         """Want of memory leaves no file. Where the folder lacked it for a file's path, that is a failed write, and may leave files that were begun."""
@@ -187,3 +203,5 @@ class Growths(ProgramTest):
             self.fail("each run met a refusal")
         self.assertGreater(number, 10)
         self.assertIn(b"tcatool: split: memory 1\n", told)
+        lines = ("tcatool: memory 1", "split: memory 1", "split: write 1", "capture: read 1")
+        self.assertLessEqual(told, {f"tcatool: {line}\n".encode() for line in lines})

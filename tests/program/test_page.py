@@ -141,9 +141,9 @@ class WholePages(ToolTest):
         self.assertEqual(self.page_of(statement(3_600_000, ROW)), (HERE / "page.html").read_bytes())
 
     def test_counts(self):
-        rows = self.tree_of(statement(250, ROW, 7, 5, 6)).findall(".//div[@class='counts wide']/table/tbody/tr")
-        told = [(row.find("th").text, row.find("td").text.replace("\u00a0", " ")) for row in rows]
-        wanted = [("Length of a period", "250 ms"), ("Reports", "7"), ("Disputed identities", "5"), ("Reports of no account", "6")]
+        rows = self.tree_of(statement(250, ROW, 2**64 - 1, 5, 6)).findall(".//div[@class='counts wide']/table/tbody/tr")
+        told = [(row.find("th").text, row.find("td").text.replace("\u00a0", " ").replace("\u202f", " ")) for row in rows]
+        wanted = [("Length of a period", "250 ms"), ("Reports", "18 446 744 073 709 551 615"), ("Disputed identities", "5"), ("Reports of no account", "6")]
         self.assertEqual(told, wanted)
 
     def test_moments_below_the_bars(self):
@@ -161,7 +161,8 @@ class WholePages(ToolTest):
         self.assertEqual([section.find("h2").text for section in sections], [name for name, _ in accounts])
         for section, (_, spans) in zip(sections, accounts):
             cells = [re.sub(r"\D", "", cell.text) for cell in section.findall(".//tbody/tr/td")]
-            self.assertEqual(cells[:6], [str(number) for number in total(spans)])
+            whole = total(spans)
+            self.assertEqual(cells[:8], [str(number) for number in (*whole, sum(whole[::2]), sum(whole[1::2]))])
             titles = [bar.find("title").text for bar in section.findall(".//figure/svg/g")]
             self.assertEqual(len(titles), len(spans))
             for title, (index, sums) in zip(titles, spans):
@@ -187,6 +188,33 @@ class WholePages(ToolTest):
                 floor = int(piece["y"])
             self.assertGreaterEqual(floor, int(column["y"]))
 
+    def test_bars_share_one_axis(self):
+        """Each bar stands in its own column, its pieces as high as their octets by the axis, and moments below the bars that they are of."""
+        numbers = random.Random(13)
+        spans = [(n, [number for _ in COLOURS for number in numbers.choice([(0, 0), (numbers.randrange(1, 10**6), 1)])]) for n in range(90)]
+        spans = [span for span in spans if any(span[1])]
+        picture = self.tree_of(statement(3_600_000, [("alpha", spans)])).find(".//figure/svg")
+        number, unit = [text.text.split() for text in picture.findall("text") if text.get("class") == "end"][-1]
+        full = int(number) * UNITS[unit]
+        bars = [bar.findall("rect") for bar in picture.findall("g")]
+        for (column, *pieces), (_, sums) in zip(bars, spans, strict=True):
+            left, width, height = (int(column.get(key)) for key in ("x", "width", "height"))
+            tops = [sum(sums[: 2 * n : 2]) * height // full for n in range(4)]
+            wanted = [(colour, top - low) for colour, low, top in zip(COLOURS, tops, tops[1:]) if top > low]
+            self.assertEqual([(piece.get("class"), int(piece.get("height"))) for piece in pieces], wanted)
+            for piece in pieces:
+                self.assertLessEqual(left, int(piece.get("x")))
+                self.assertLessEqual(int(piece.get("x")) + int(piece.get("width")), left + width)
+        marks = [re.match(r"M(\d+) \d+V", path.get("d")) for path in picture.findall("path")]
+        middles = [int(mark[1]) for mark in marks if mark]
+        for middle, place in zip(middles, (0, len(bars) // 2, len(bars) - 1), strict=True):
+            column = bars[place][0]
+            self.assertAlmostEqual(middle, int(column.get("x")) + int(column.get("width")) // 2, delta=1)
+        # A label has 340 of the picture's 3600 units on either side of its middle.
+        for text in picture.findall("text"):
+            if text.get("class") == "middle":
+                self.assertTrue(340 <= int(text.get("x")) <= 3260)
+
     def test_units(self):
         """Of each unit one, one and a half, and three quarters, which are told in the unit below; of the least one these are octets."""
         wholes = list(UNITS.items())
@@ -199,6 +227,28 @@ class WholePages(ToolTest):
             self.assertEqual(found, texts if n else texts[:2] + texts[3:])
             self.assert_scaled(section, sums)
 
+    def test_axes(self):
+        """Of few octets, and where four steps are just as high as the bar."""
+        for sums, last in (((600, 1, 700, 1, 500, 1), "2000 octets"), ((4096, 1), "4 KiB"), ((4097, 1), "8 KiB")):
+            sums = (*sums, 0, 0, 0, 0)[:6]
+            section = self.tree_of(statement(3_600_000, [("alpha", [(0, sums)])])).find(".//section")
+            self.assert_scaled(section, sums)
+            texts = [text.text for text in section.findall("figure/svg/text") if text.get("class") == "end"]
+            self.assertEqual(texts[-1], last)
+
+    def test_sizes_are_cut_off(self):
+        sums = (1535, 1, 1_043_400, 1, 2**60 - 1, 1)
+        section = self.tree_of(statement(3_600_000, [("alpha", [(0, sums)])])).find(".//section")
+        found = [small.text.replace("\u00a0", " ") for small in section.findall(".//tbody/tr/td/small")]
+        self.assertEqual(found, ["1.49 KiB", "1018.94 KiB", "1023.99 PiB", "1.00 EiB"])
+
+    def test_a_period_behind_the_last_moment(self):
+        """It has its index in a moment's place."""
+        picture = self.tree_of(statement(1, [("alpha", [(2**48 - 1, ONE)])])).find(".//figure/svg")
+        self.assertEqual(picture.find("g/title").text.split("\n")[0], "period 281474976710655")
+        texts = [text.text for text in picture.findall("text") if text.get("class") != "end"]
+        self.assertEqual(texts, ["period", "281474976710655"])
+
     def assert_scaled(self, section, sums):
         """The words of the axis ascend in equal steps, reach all octets of the one bar, and fit the heights of its pieces."""
         picture = section.find("figure/svg")
@@ -207,5 +257,5 @@ class WholePages(ToolTest):
         self.assertEqual(steps, [n * steps[1] for n in range(len(steps))])
         self.assertGreaterEqual(steps[-1], sums[0] + sums[2] + sums[4])
         column, *pieces = picture.findall("g/rect")
-        for piece, octets in zip(pieces, sums[::2], strict=True):
+        for piece, octets in zip(pieces, filter(None, sums[::2]), strict=True):
             self.assertAlmostEqual(int(piece.get("height")), octets * int(column.get("height")) / steps[-1], delta=1)

@@ -30,12 +30,14 @@ class Progress(ProgramTest):
         return self.run_program(*words, program=TOOL, env=settings)
 
     def split(self, step, *options):
-        """What is told of a split of 8 MiB and a half, whose files are there as without a clock."""
+        """What is told of a split of 8 MiB and a half, by a link to it, whose files are there as without a clock."""
         parts = self.folder / "parts"
         shutil.rmtree(parts, ignore_errors=True)
         parts.mkdir()
         messages = [message(n % 3, n.to_bytes(4, "big") * 250) for n in range(8772)]
-        self.write("capture", b"".join(messages))
+        self.write("behind", b"".join(messages))
+        (self.folder / "capture").unlink(missing_ok=True)
+        (self.folder / "capture").symlink_to("behind")
         run = self.run_by_clock(step, "split", *options, "parts", "capture")
         self.assertEqual((run.status, run.out), (0, b"domains 3\nmessages 8772\n"))
         for domain in range(3):
@@ -59,10 +61,24 @@ class Progress(ProgramTest):
         self.write("small", message(7))
         shutil.rmtree(self.folder / "parts")
         (self.folder / "parts").mkdir()
-        self.assert_done(self.run_program("split", "--progress", "parts", "small", program=TOOL), b"domains 1\nmessages 1\n")
+        self.assert_done(self.run_by_clock(1, "split", "--progress", "parts", "small"), b"domains 1\nmessages 1\n")
 
     def test_a_split_that_is_not_asked(self):
         self.assertEqual(self.split(1000), "")
+
+    def test_the_first_reading_is_not_told(self):
+        """A capture that is refused by its first reading has no second one."""
+        (self.folder / "parts").mkdir()
+        self.write("capture", message(7) + message(7, version=9))
+        run = self.run_by_clock(1000, "split", "--progress", "parts", "capture")
+        self.assertEqual((run.status, run.out, run.err), (1, b"", b"tcatool: capture: wire 2\n"))
+
+    def test_a_page_that_is_refused(self):
+        self.write("wrong", statement(3_600_000, ROW)[:-1])
+        self.write("right", statement(3_600_000, ROW))
+        for out, word, line in (("out", "wrong", b"wrong: statement 1"), ("/dev/full", "right", b"page: write 1")):
+            run = self.run_by_clock(1, "page", "--progress", out, word)
+            self.assertEqual((run.status, run.out, run.err), (1, b"", b"tcatool: " + line + b"\n"))
 
     def test_a_page(self):
         numbers = random.Random(22)

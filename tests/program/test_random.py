@@ -39,27 +39,28 @@ def some_rows(draw):
     return rows
 
 
-class RandomBills(ProgramTest):
-    def inputs(self, draw):
-        """Words of inputs, and the reports that these hold."""
-        words, reports = [], set()
-        for n in range(draw.randint(1, 5)):
-            domain, session, first, rows = draw.choice((7, 7, 8)), draw.choice((0, 1, 2)), draw.choice((0, 0, 5, 2**32 - 3)), some_rows(draw)
-            held = {(row[0], domain, session, (first + k) % 2**32) + row[1:] for k, row in enumerate(rows)}
-            reports |= held
-            if draw.random() < 0.5:
-                self.write(f"n{n}", export(held))
-                words.append(f"{draw.randint(0, 9)}@n{n}")
-            else:
-                self.write(f"n{n}", capture(domain, first, rows, draw.choice((1, 3, 1000))))
-                words.append(f"{session}@n{n}" if session or draw.random() < 0.5 else f"n{n}")
-        return words + draw.sample(words, draw.randint(0, 1)), reports
+def some_inputs(test, draw):
+    """Words of inputs, which are written into the test's folder, and the reports that these hold."""
+    words, reports = [], set()
+    for n in range(draw.randint(1, 5)):
+        domain, session, first, rows = draw.choice((7, 7, 8)), draw.choice((0, 1, 2)), draw.choice((0, 0, 5, 2**32 - 3)), some_rows(draw)
+        held = {(row[0], domain, session, (first + k) % 2**32) + row[1:] for k, row in enumerate(rows)}
+        reports |= held
+        if draw.random() < 0.5:
+            test.write(f"n{n}", export(held))
+            words.append(f"{draw.randint(0, 9)}@n{n}")
+        else:
+            test.write(f"n{n}", capture(domain, first, rows, draw.choice((1, 3, 1000))))
+            words.append(f"{session}@n{n}" if session or draw.random() < 0.5 else f"n{n}")
+    return words + draw.sample(words, draw.randint(0, 1)), reports
 
+
+class RandomBills(ProgramTest):
     def test_as_the_model_says(self):
         for case in range(CASES):
             with self.subTest(case=case):
                 draw = random.Random(case)
-                words, reports = self.inputs(draw)
+                words, reports = some_inputs(self, draw)
                 times = [report[0] for report in reports] or [TIME]
                 plan = some_plan(draw, times)
                 self.write("plan", plan.toml())
@@ -75,7 +76,7 @@ class RandomBills(ProgramTest):
         for case in range(CASES):
             with self.subTest(case=case):
                 draw = random.Random(1000 + case)
-                words, reports = self.inputs(draw)
+                words, reports = some_inputs(self, draw)
                 meter = some_meter(draw)
                 rate, size = meter.other
                 mode = "aware" if meter.aware else "blind"

@@ -73,16 +73,22 @@ class Splitting(ProgramTest):
         self.assertEqual((run.status, run.out, run.err), (1, b"", b"tcatool: split: write 1\n"))
         self.assertEqual(os.listdir(self.folder / "parts"), ["7.ipfix"])
 
-    def split_beside(self, **settings):
+    def split_beside(self, preexec_fn=None, **settings):
         """A split beside another program, which a small library before the C library is."""
         library = self.folder / "between.so"
         source = Path(__file__).resolve().parent / "between.c"
         subprocess.run(["cc", "-shared", "-fPIC", "-O1", "-o", library, source], check=True)
-        return self.split("parts", "capture", env={**os.environ, "LD_PRELOAD": str(library), **settings})
+        return self.split("parts", "capture", env={**os.environ, "LD_PRELOAD": str(library), **settings}, preexec_fn=preexec_fn)
 
     def test_a_file_that_is_made_in_between(self):
         self.write("capture", M10 + M21)
         self.assert_refused_by(self.split_beside(), "split", "write", 1, {"7.ipfix": b"mine"})
+
+    def test_a_part_that_goes_in_between(self):
+        """It isn't made anew without what was written to it."""
+        self.write("capture", b"".join(message(domain) for domain in range(40)))
+        run = self.split_beside(GONE="1", preexec_fn=lambda: resource.setrlimit(resource.RLIMIT_NOFILE, (12, 12)))
+        self.assertEqual((run.status, run.out, run.err), (1, b"", b"tcatool: split: write 1\n"))
 
     def test_a_capture_that_changes_in_between(self):
         """Its second reading has a domain that the first had none of."""
@@ -111,12 +117,37 @@ class Splitting(ProgramTest):
         self.assert_refused_by(self.split("2@parts", "capture"), "split", "write", 1)
 
     def test_a_folder_that_is_not_there(self):
-        self.write("capture", M10)
-        self.assert_refused_by(self.split("nowhere", "capture"), "split", "write", 1)
+        """Nor is one without a name, which isn't the root."""
+        self.write("capture", message(4_294_967_295))
+        for folder in ("nowhere", ""):
+            self.assert_refused_by(self.split(folder, "capture"), "split", "write", 1)
+        self.assertFalse(os.path.exists("/4294967295.ipfix"))
 
     def test_a_capture_that_is_not_there(self):
         for options in ((), ("--progress",)):
             self.assert_refused_by(self.split(*options, "parts", "capture"), "capture", "read", 1)
+
+    def test_a_capture_that_cannot_be_read_twice(self):
+        """A folder, and a pipe that would give its octets once: the parts would be empty."""
+        (self.folder / "folder").mkdir()
+        reading, writing = os.pipe()
+        os.write(writing, M10)
+        os.close(writing)
+        self.addCleanup(os.close, reading)
+        for options in ((), ("--progress",)):
+            self.assert_refused_by(self.split(*options, "parts", "folder"), "folder", "read", 1)
+            pipe = f"/dev/fd/{reading}"
+            self.assert_refused_by(self.split(*options, "parts", pipe, pass_fds=(reading,)), pipe, "read", 1)
+
+    def test_the_capture_is_judged_before_the_folder(self):
+        self.write("parts/7.ipfix", b"mine")
+        left = {"7.ipfix": b"mine"}
+        self.write("capture", M10 + M21[:-1])
+        for folder in ("parts", "nowhere"):
+            self.assert_refused_by(self.split(folder, "capture"), "capture", "wire", 1, left)
+            self.assert_refused_by(self.split(folder, "absent"), "absent", "read", 1, left)
+        self.write("capture", M10 + b"".join(message(domain) for domain in range(4097)))
+        self.assert_refused_by(self.split("parts", "capture"), "capture", "limits", 1, left)
 
     def test_framing(self):
         for octets, number in (
@@ -137,7 +168,9 @@ class Splitting(ProgramTest):
     def test_most_domains(self):
         most = [message(domain * 7, bytes(domain % 90)) for domain in range(4096)]
         self.write("capture", b"".join(most))
-        self.assert_split(most, self.split("parts", "capture"))
+        # 32 MiB of buffers, and little else.
+        run = self.split("parts", "capture", preexec_fn=lambda: resource.setrlimit(resource.RLIMIT_DATA, (40 << 20, 40 << 20)))
+        self.assert_split(most, run)
 
     def test_one_domain_more(self):
         more = b"".join(message(domain) for domain in range(4097))
@@ -149,6 +182,16 @@ class Splitting(ProgramTest):
         self.assert_refused_by(self.split("parts", "capture"), "capture", "wire", 2)
         self.write("capture", more[:-1])
         self.assert_refused_by(self.split("parts", "capture"), "capture", "wire", 1)
+
+    def test_messages_that_end_in_the_next_piece(self):
+        """Of the longest message all that a piece of 65,536 octets can have, or all but its last octet, is in the first one."""
+        longest = message(7, bytes(65_519))
+        for before in ([], [message(8)], [message(8, b"x")]):
+            messages = [*before, longest, longest]
+            self.write("capture", b"".join(messages))
+            self.assert_split(messages, self.split("parts", "capture"))
+            for name in self.parts():
+                (self.folder / "parts" / name).unlink()
 
     def any_messages(self, numbers, domains, count, longest):
         return [message(numbers.choice(domains), numbers.randbytes(numbers.randrange(longest))) for _ in range(count)]
@@ -164,10 +207,39 @@ class Splitting(ProgramTest):
                 (self.folder / "parts" / name).unlink()
 
     def test_few_open_files(self):
+        """Files that aren't open any more are opened again, also amid a domain, and each at most so often as its buffer is full."""
+        library = self.folder / "openings.so"
+        source = Path(__file__).resolve().parent / "openings.c"
+        subprocess.run(["cc", "-shared", "-fPIC", "-O1", "-o", library, source, "-ldl"], check=True)
         messages = self.any_messages(random.Random(4), range(700), 9000, 4000)
+        # Of three domains more than one buffer holds.
+        messages += self.any_messages(random.Random(6), [1, 350, 699], 150, 6000)
         self.write("capture", b"".join(messages))
-        run = self.split("parts", "capture", preexec_fn=lambda: resource.setrlimit(resource.RLIMIT_NOFILE, (12, 12)))
+        settings = {**os.environ, "LD_PRELOAD": str(library), "OPENINGS": str(self.folder / "openings")}
+        run = self.split("parts", "capture", env=settings, preexec_fn=lambda: resource.setrlimit(resource.RLIMIT_NOFILE, (12, 12)))
         self.assert_split(messages, run)
+        # Each file is made once and, as its buffer is full, opened again; the capture is opened twice.
+        openings = len(self.read("openings"))
+        self.assertGreater(openings, 700 + 2)
+        self.assertLess(openings, 3 * 700)
+
+    def test_a_capture_longer_than_its_memory(self):
+        parts = [message(domain, bytes([domain]) * 65_519) for domain in range(3)]
+        with open(self.folder / "capture", "wb") as capture:
+            for n in range(768):
+                capture.write(parts[n % 3])
+        most = 12 << 20
+        run = self.split("parts", "capture", preexec_fn=lambda: resource.setrlimit(resource.RLIMIT_DATA, (most, most)))
+        self.assert_done(run, b"domains 3\nmessages 768\n")
+        self.assertEqual(self.parts(), {f"{domain}.ipfix": parts[domain] * 256 for domain in range(3)})
+
+    def test_output_that_fails(self):
+        """The files are whole then."""
+        self.write("capture", M10 + M21)
+        with open("/dev/full", "wb") as full:
+            run = self.split("parts", "capture", stdout=full)
+        self.assertEqual((run.status, run.err), (1, b"tcatool: split: write 1\n"))
+        self.assertEqual(self.parts(), {"7.ipfix": M10, "9.ipfix": M21})
 
     def test_a_late_write_that_fails(self):
         def limit():

@@ -2,11 +2,13 @@
 import datetime
 import json
 import xml.dom.minidom
+from pathlib import Path
 
 from program import TOOL
-from rows import EMPTY, STATEMENT
+from rows import EMPTY, OBJECT, STATEMENT
 from test_tool import ToolTest
 
+HERE = Path(__file__).resolve().parent
 HEADER = b"account,span,start,green_octets,green_packets,yellow_octets,yellow_packets,red_octets,red_packets\n"
 
 # Two accounts, one without packets, and periods of a quarter of a second, the last one behind the year 9999.
@@ -82,12 +84,7 @@ class Objects(ToolTest):
         run = self.run_tool("json", "s")
         self.assertEqual((run.status, run.err), (0, b""))
         self.assertEqual(json.loads(run.out), read(STATEMENT))
-        text = (
-            '{"accounts":[{"name":"alpha","spans":[{"green":{"octets":1500,"packets":1},"index":472222,"red":{"octets":800,"packets":1},'
-            '"start":"2023-11-14T22:00:00Z","yellow":{"octets":1000,"packets":1}}],"total":{"green":{"octets":1500,"packets":1},'
-            '"red":{"octets":800,"packets":1},"yellow":{"octets":1000,"packets":1}}}],"disputed":0,"format":1,"period":3600000,"reports":3,"unassigned":0}\n'
-        )
-        self.assertEqual(run.out.decode(), text)
+        self.assertEqual(run.out, OBJECT)
 
     def test_moments(self):
         self.write("s", WIDE)
@@ -185,6 +182,11 @@ class Statements(ToolTest):
             self.assertEqual((run.status, run.err), (1, f"tcatool: {command}: write 1\n".encode()))
         self.assert_tool_refused(self.run_tool("page", "/dev/full", "s"), "page", "write", 1)
 
+    def test_out_that_is_the_statement(self):
+        self.write("s", STATEMENT)
+        self.assert_done(self.run_tool("page", "s", "s"), b"")
+        self.assertEqual(self.read("s"), (HERE / "page.html").read_bytes())
+
 
 class Pages(ToolTest):
     def page(self, statement):
@@ -212,3 +214,5 @@ class Pages(ToolTest):
         for word in ("a-1_Z", "beta"):
             self.assertIn(word, text)
         self.assertIn("<svg", text)
+        # Of the account without packets.
+        self.assertEqual(text.count("<p>No period has a packet.</p>"), 1)

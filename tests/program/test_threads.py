@@ -1,17 +1,19 @@
 """How many threads there are: as many as `--replicas` and `--workers` ask for."""
 import os
 import subprocess
-import time
 from pathlib import Path
 
 from model import capture
-from program import PROGRAM, SECONDS, ProgramTest
+from program import ProgramTest
 from rows import PLAN, TIME
 
 
 class Threads(ProgramTest):
     def setUp(self):
         super().setUp()
+        self.library = self.folder / "threads.so"
+        source = Path(__file__).resolve().parent / "threads.c"
+        subprocess.run(["cc", "-shared", "-fPIC", "-O1", "-o", self.library, source, "-ldl", "-lpthread"], check=True)
         self.write("plan", PLAN.toml())
         rows = [(TIME + n // 8, 1500, 0, 1) for n in range(1000)]
         message = capture(7, 0, rows)
@@ -20,39 +22,31 @@ class Threads(ProgramTest):
                 for k in range(100):
                     file.write(message[:8] + (1000 * (100 * n + k)).to_bytes(4, "big") + message[12:])
 
-    def most_at_once(self, *options):
-        """The most workers that were there at once."""
-        names = [f"n{n}" for n in range(16)]
-        running = subprocess.Popen(
-            [str(PROGRAM), "bill", *options, "plan", *names], cwd=self.folder, stdout=subprocess.PIPE, stderr=subprocess.PIPE
-        )
-        tasks, most = Path(f"/proc/{running.pid}/task"), 0
-        deadline = time.monotonic() + SECONDS
-        while running.poll() is None and time.monotonic() < deadline:
-            try:
-                most = max(most, len(os.listdir(tasks)))
-            except FileNotFoundError:
-                break
-        out, err = running.communicate(timeout=SECONDS)
-        self.assertEqual((running.returncode, err), (0, b""))
-        self.assertIn(b"\nreports 1600000\n", out)
-        return most - 1
+    def count(self, names, *options):
+        """How many workers a run starts, in all and at once."""
+        files = {setting: self.folder / f"counted-{setting}" for setting in ("THREADS", "MOST")}
+        for file in files.values():
+            file.write_bytes(b"")
+        settings = {**os.environ, "LD_PRELOAD": str(self.library), **{setting: str(file) for setting, file in files.items()}}
+        run = self.run_program("bill", *options, "plan", *names, env=settings)
+        self.assertEqual((run.status, run.err), (0, b""))
+        self.assertIn(f"\nreports {100_000 * len(names)}\n".encode(), run.out)
+        return tuple(file.stat().st_size for file in files.values())
 
     def test_as_many_are_started(self):
         """In all, so that replicas count too: each starts its own workers."""
-        library = self.folder / "threads.so"
-        source = Path(__file__).resolve().parent / "threads.c"
-        subprocess.run(["cc", "-shared", "-fPIC", "-O1", "-o", library, source, "-ldl"], check=True)
-        names = ["n0", "n1", "n2", "n3"]
+        names = [f"n{n}" for n in range(4)]
         for replicas, workers in ((1, 1), (1, 8), (2, 3), (3, 2), (16, 1)):
-            mark = self.folder / f"started-{replicas}-{workers}"
-            settings = {**os.environ, "LD_PRELOAD": str(library), "THREADS": str(mark)}
-            run = self.run_program("bill", "--replicas", replicas, "--workers", workers, "plan", *names, env=settings)
-            self.assertEqual((run.status, run.err), (0, b""))
-            self.assertEqual(mark.stat().st_size, replicas * workers, (replicas, workers))
+            started, _ = self.count(names, "--replicas", replicas, "--workers", workers)
+            self.assertEqual(started, replicas * workers, (replicas, workers))
 
-    def test_as_many_as_are_asked_for(self):
-        self.assertEqual(self.most_at_once("--replicas", "1", "--workers", "8"), 8)
-        self.assertEqual(self.most_at_once("--replicas", "2", "--workers", "3"), 3)
-        self.assertEqual(self.most_at_once("--replicas", "4", "--workers", "1"), 1)
-        self.assertEqual(self.most_at_once(), 2)
+    def test_as_many_are_there_at_once(self):
+        """Those of one replica: the next one's start behind them."""
+        names = [f"n{n}" for n in range(16)]
+        for options, most in (
+            (("--replicas", 1, "--workers", 8), 8),
+            (("--replicas", 2, "--workers", 3), 3),
+            (("--replicas", 4, "--workers", 1), 1),
+            ((), 2),
+        ):
+            self.assertEqual(self.count(names, *options)[1], most, options)

@@ -46,6 +46,12 @@ class Differences(ToolTest):
         lines = b"A,1700000000050,7,0,3,600,0,1\nB,1700000000050,7,0,3,601,0,1\n"
         self.assert_differ(self.run_tool("diff", "a", "b"), lines, 1, 1, 0)
 
+    def test_repeats(self):
+        self.write("one", ONE)
+        self.write("twice", ONE + ONE)
+        self.assert_differ(self.run_tool("diff", "twice", "one"), b"", 0, 0, 1)
+        self.assert_differ(self.run_tool("diff", "one", "twice"), b"", 0, 0, 1)
+
     def test_captures_in_sessions(self):
         self.write("one", ONE)
         lines = b"A,1700000000000,7,1,5,1500,10,1\nB,1700000000000,7,2,5,1500,10,1\n"
@@ -105,9 +111,32 @@ class Differences(ToolTest):
             self.assertEqual(self.read("out"), whole[:most])
 
     def test_wrong_lines(self):
-        for words in ((), ("diff",), ("diff", "a"), ("diff", "a", "b", "c"), ("pairs",), ("bill", "a")):
-            run = self.run_tool(*words)
-            self.assertEqual((run.status, run.out), (2, b""), words)
+        for words in (
+            (),
+            ("bill", "a"),
+            ("pairs",),
+            ("pairs", "--progress", "a"),
+            ("list",),
+            ("list", "--plan", "p"),
+            ("list", "--plan", "p", "--plan", "p", "a"),
+            ("diff",),
+            ("diff", "a"),
+            ("diff", "a", "b", "c"),
+            ("table",),
+            ("table", "a", "b"),
+            ("json",),
+            ("json", "a", "b"),
+            ("page", "o"),
+            ("page", "o", "a", "b"),
+            ("page", "--progress", "--progress", "o", "a"),
+            ("add",),
+            ("split", "d"),
+            ("split", "d", "c", "e"),
+            ("split", "--plan", "p", "d", "c"),
+        ):
+            with self.subTest(words):
+                self.assert_wrong_line(self.run_tool(*words))
+        self.assertFalse(self.has("o"))
         run = self.run_tool("diff", "--help")
         self.assertEqual((run.status, run.err), (0, b""))
         self.assertIn(b"Example: tcatool diff", run.out)
@@ -139,6 +168,12 @@ class Pairs(ToolTest):
         self.write("a", export([]))
         self.assert_done(self.run_tool("pairs", "a"), PAIRS)
 
+    def test_repeats(self):
+        self.write("a", THREE_1)
+        self.write("one", ONE + ONE)
+        self.assert_done(self.run_tool("pairs", "a", "a"), PAIRS + b"7,1,3,3,3300,1700000000000,1700000000200\n")
+        self.assert_done(self.run_tool("pairs", "one", "one"), PAIRS + b"7,1,1,1,1500,1700000000000,1700000000000\n")
+
     def test_any_sets(self):
         numbers = random.Random(9)
         for _ in range(100):
@@ -166,3 +201,6 @@ class Pairs(ToolTest):
         self.assert_tool_refused(self.run_tool("pairs", "a", "cut"), "cut", "export", 4)
         self.assert_tool_refused(self.run_tool("pairs", "cut", "missing"), "missing", "read", 1)
         self.assert_tool_refused(self.run_tool("pairs", "absent", "missing"), "absent", "read", 1)
+        with open("/dev/full", "wb") as full:
+            run = self.run_program("pairs", "a", program=TOOL, stdout=full)
+        self.assertEqual((run.status, run.err), (1, b"tcatool: pairs: write 1\n"))
