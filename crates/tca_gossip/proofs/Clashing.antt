@@ -24,9 +24,10 @@ module _ (eq : PacketReport → PacketReport → Bool) (es fs : List (ℕ × Cha
   pub named : (r : Option JoinFault) → r ≡ refusal (clash_key (chain_clash eq) es fs) (map_full chain_full es fs) → clash_in r ≡ clash_key (differ_at eq) (held_in es) (held_in fs)
   named r is = ap clash_in is ∙ clash_of_refusal (clash_key (chain_clash eq) es fs) (map_full chain_full es fs) ∙ clash_held eq es fs rises
 
-  -- where no chains clash their join is refused for memory alone
-  pub memory_alone : (e : JoinFault) → IsJoinFault (clash_key (chain_clash eq) es fs) (map_full chain_full es fs) e → clash_key (differ_at eq) (held_in es) (held_in fs) ≡ None → e ≡ Memory
-  memory_alone (Clash key) fault none = absurd (some_none (sym fault ∙ clash_held eq es fs rises ∙ none)) where
+-- where no chains clash their join is refused for memory alone
+module _ (eq : PacketReport → PacketReport → Bool) (es fs : List (ℕ × ChainView PacketReport)) where
+  pub memory_alone : (e : JoinFault) → IsJoinFault (clash_key (chain_clash eq) es fs) (map_full chain_full es fs) e → clash_key (chain_clash eq) es fs ≡ None → e ≡ Memory
+  memory_alone (Clash key) fault none = absurd (some_none (sym fault ∙ none)) where
     some_none : Some key ≡ None → ⊥
     some_none e = cc
   memory_alone Full fault none = absurd (true_false (sym fault.1 ∙ never fs)) where

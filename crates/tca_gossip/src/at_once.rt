@@ -12,6 +12,7 @@ ghost use Rattle.tca_gossip.specs.Replicas.{appended, chain_of, fresh_of, of, re
 ghost use Rattle.tca_gossip.specs.Runs.{AreRuns, first_fault, rest_of, rests};
 ghost use Rattle.tca_gossip.specs.inside.Storage.{held_of};
 ghost use Rattle.tca_join.specs.Chains.{most_items};
+ghost use Rattle.tca_join.specs.Maps.{Rises};
 
 use crate::chains::{extend, held_of};
 use crate::contents::Contents;
@@ -96,14 +97,13 @@ impl Contents {
         ensures kept { IfOk result (λ took. took ≡ false → self.new ≡ self.old) }
         ensures err { OnErr result (self.new ≡ self.old) }
     {
-        let mut log = Log::new(self.alloc);
-        if self.log.len() > 0 || !log.take_shared(reports)? {
+        if self.log.len() > 0 || reports.len() > LIMIT {
             return Ok(false);
         }
-        let mut chains = self.chains.copy()?;
-        extend(&mut chains, self.name, reports.share()?)?;
-        let _rises = chains.keys();
-        self.log = log;
+        let chains = extended_copy(&self.chains, self.name, reports)?;
+        if !self.log.take_shared(reports)? {
+            return Ok(false);
+        }
         self.billing.release(self.alloc);
         self.chains = chains;
         Ok(true)
@@ -188,6 +188,22 @@ fn with_fresh(
     all.extend_from_slice(held)?;
     all.extend_from_slice(fresh.as_slice())?;
     Items::of(alloc, all)
+}
+
+// A copy of chains, with a list at the end of the chain of an origin, which shares the list where there was no such chain.
+fn extended_copy(
+    chains: &ByKey<Chain<Report>>,
+    origin: u32,
+    reports: &Items<Report>,
+) -> Result<ByKey<Chain<Report>>, AllocError>
+    requires { length (held_of chains.now origin) + length reports.now ≤ most_items }
+    ensures rises { IfOk result (λ all. Rises all) }
+    ensures kept { IfOk result (λ all. (q : ℕ) → held_of all q ≡ held_of chains.now q ++ of q (with_origin origin reports.now)) }
+{
+    let mut all = chains.copy()?;
+    extend(&mut all, origin, reports.share()?)?;
+    let _rises = all.keys();
+    Ok(all)
 }
 
 // Appends what a run has past the chain of its origin, and answers with it.

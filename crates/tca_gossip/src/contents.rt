@@ -3,9 +3,10 @@ ghost use Rattle.std.specs.Prelude.{◌≡◌, ◌≢◌, ℕ, ◌⊎◌, ◌<�
 ghost use Rattle.tca_report.specs.report.Reports.{report_cmp};
 ghost use Rattle.tca_join.specs.Sets.{has};
 ghost use Rattle.tca_accounts.specs.Bills.{bill_of};
-ghost use Rattle.tca_join.specs.Chains.{differ_at, most_items};
+ghost use Rattle.tca_join.specs.Chains.{chain_clash, chain_joined, differ_at, most_items};
 ghost use Rattle.tca_join.specs.Faults.{IsJoinFault};
-ghost use Rattle.tca_join.specs.Maps.{clash_key};
+ghost use Rattle.tca_join.specs.declared.fault.JoinFault.TheVariants.{Memory};
+ghost use Rattle.tca_join.specs.Maps.{clash_key, merged};
 ghost use Rattle.tca_gossip.specs.Replicas.{IsReplica, append_one, chain_of, least_of, merge_clash, merge_full, merged_with, new_replica, take_one};
 ghost use Rattle.tca_gossip.specs.Runs.{AreRuns, delta_of, first_fault, summary_count};
 ghost use Rattle.tca_gossip.specs.Coupling.{counts_of};
@@ -167,30 +168,11 @@ impl Contents {
         if let Some(fault) = self.log.refusal(&other.log) {
             return Err(fault);
         }
-        let mut chains = self.chains.copy()?;
-        if let Err(fault) = chains.join_from(&other.chains) {
-            return Err(fault);
-        }
-        let mut log = self.log.copy()?;
-        if let Err(fault) = log.join_from(&other.log) {
-            return Err(fault);
-        }
+        let chains = joined_copy(&self.chains, &other.chains)?;
+        self.log.join_from(&other.log)?;
         self.billing.release(self.alloc);
         self.chains = chains;
-        self.log = log;
         Ok(())
-    }
-
-    /// Takes another log and other chains in place of these.
-    pub(crate) fn refill(&mut self, all: Log, chains: ByKey<Chain<Report>>)
-        requires replica { IsReplica (replica_of self.old.replica.name self.old.replica.plan all chains) }
-        requires within { IsOwnWithin (replica_of self.old.replica.name self.old.replica.plan all chains) }
-        ensures { self.new.replica ≡ replica_of self.old.replica.name self.old.replica.plan all chains }
-    {
-        let _rises = chains.keys();
-        self.billing.release(self.alloc);
-        self.chains = chains;
-        self.log = all;
     }
 
     /// How long each chain is, without empty ones.
@@ -250,6 +232,20 @@ impl Contents {
     {
         let _rises = self.chains.keys();
     }
+}
+
+// A copy of chains, joined with others where no two of one origin clash. It is refused for want of memory alone.
+fn joined_copy(
+    chains: &ByKey<Chain<Report>>,
+    others: &ByKey<Chain<Report>>,
+) -> Result<ByKey<Chain<Report>>, JoinFault>
+    requires { clash_key (chain_clash ⟦<Report as PartialEq>⟧.eq) chains.now others.now ≡ None }
+    ensures all { IfOk result (λ all. all ≡ merged chain_joined chains.now others.now) }
+    ensures fault { IfErr result (λ e. e ≡ Memory) }
+{
+    let mut all = chains.copy()?;
+    all.join_from(others)?;
+    Ok(all)
 }
 
 // The origin that a clash names.
