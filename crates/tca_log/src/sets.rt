@@ -1,5 +1,5 @@
 //! The set of the reports of a list.
-ghost use Rattle.std.specs.Prelude.{◌≡◌, ◌≤◌, length, take, IfOk, IfSome, IsTrue};
+ghost use Rattle.std.specs.Prelude.{◌≡◌, ◌≤◌, length, take, true, is_some, IfOk, IfSome, IsTrue};
 ghost use Rattle.std.specs.List.Sorted.{IsStrictlySortedBy};
 ghost use Rattle.tca_join.specs.Sets.{in_order};
 ghost use Rattle.tca_report.specs.report.Reports.{report_cmp};
@@ -57,7 +57,8 @@ pub fn with_set<A: Allocator + Copy>(alloc: A, list: Items<Report, A>) -> Items<
 pub fn set_beside<A: Allocator + Copy>(
     list: &Items<Report, A>,
 ) -> Result<Option<Items<Report, A>>, AllocError>
-    ensures { IfOk result (λ found. IfSome found (λ set. set ≡ in_order report_cmp list.now)) }
+    ensures set { IfOk result (λ found. IfSome found (λ set. set ≡ in_order report_cmp list.now)) }
+    ensures own { IsStrictlySortedBy report_cmp list.now → IfOk result (λ found. is_some found ≡ true) }
 {
     if ascend(list.as_slice()) {
         return Ok(Some(list.share()?));

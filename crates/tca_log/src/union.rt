@@ -119,6 +119,7 @@ impl<A: Allocator + Copy> Log<A> {
         ensures none { IfOk result (λ took. took ≡ true → self.old ≡ []) }
         ensures rises { IfOk result (λ took. took ≡ true → IsStrictlySortedBy report_cmp list.now) }
         ensures limit { IfOk result (λ took. took ≡ true → length list.now ≤ most_reports) }
+        ensures all { IfOk result (λ took. self.old ≡ [] → IsStrictlySortedBy report_cmp list.now → length list.now ≤ most_reports → took ≡ true) }
         ensures kept { IfOk result (λ took. took ≡ false → self.new ≡ self.old) }
         ensures err { OnErr result (self.new ≡ self.old) }
     {
@@ -193,7 +194,8 @@ impl<A: Allocator + Copy> Log<A> {
 // Whether reports ascend, which may be known.
 fn rise(reports: &[Report], ascends: bool) -> bool
     requires { IsTrue ascends → IsStrictlySortedBy report_cmp reports.now }
-    ensures { IsTrue result → IsStrictlySortedBy report_cmp reports.now }
+    ensures rises { IsTrue result → IsStrictlySortedBy report_cmp reports.now }
+    ensures all { IsStrictlySortedBy report_cmp reports.now → IsTrue result }
 {
     ascends || ascend(reports)
 }

@@ -1,5 +1,5 @@
 -- A list that is seen to rise, member by member.
-use Rattle.std.proofs.Common.{◌≡◌, ℕ, zero, suc, ◌+◌, ◌-◌, ◌<◌, true, List, [], ◌∷◌, length, get_or, take, sym, ap, ◌∙◌, arith, add-one}
+use Rattle.std.proofs.Common.{◌≡◌, ℕ, zero, suc, ◌+◌, ◌-◌, ◌<◌, true, false, true≢false, List, [], ◌∷◌, length, get_or, take, sym, ap, ◌∙◌, arith, add-one}
 use Rattle.std.specs.List.Sorted.{IsStrictlySortedBy}
 use Rattle.std.specs.Ordering.{is_lt}
 use Rattle.std.specs.Cmp.{IsTotalOrder}
@@ -31,3 +31,20 @@ module _ {K : Type 0} (R : K → K → Ordering) (o : IsTotalOrder R) where
   unfolding IsStrictlySortedBy
   rises_first [] = tt
   rises_first (x ∷ xs) = (tt, tt)
+
+  next_less : (xs : List K) (i : ℕ) (d : K) → suc i < length xs → IsStrictlySortedBy R xs → R (get_or xs i d) (get_or xs (suc i) d) ≡ Less
+  unfolding IsStrictlySortedBy
+  next_less [] i d h s = absurd (omega arith)
+  next_less (x ∷ []) i d h s = absurd (omega arith)
+  next_less (x ∷ y ∷ ys) zero d h s = s.0.0
+  next_less (x ∷ y ∷ ys) (suc i) d h s = next_less (y ∷ ys) i d (omega arith) s.1
+
+  -- a member that doesn't come after the one before it
+  pub falls : (xs : List K) (i : ℕ) (x y : K) → 0 < i → i < length xs → x ≡ get_or xs (i - 1) x → y ≡ get_or xs i y → is_lt (R x y) ≡ false → IsStrictlySortedBy R xs → ⊥
+  falls xs zero x y some h is next not_less s = absurd (omega arith)
+  falls xs (suc i) x y some h is next not_less s =
+      let before : suc i - 1 ≡ i = omega arith in
+      let here : get_or xs (suc i) x ≡ y = get_or_default xs (suc i) x y h ∙ sym next in
+      let there : get_or xs i x ≡ x = ap (λ (n : ℕ). get_or xs n x) (sym before) ∙ sym is in
+      let less : R x y ≡ Less = rw (there, here) at (next_less xs i x h s) in
+      true≢false (sym (ap is_lt less) ∙ not_less)

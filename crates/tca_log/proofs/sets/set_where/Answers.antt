@@ -12,7 +12,7 @@ pub returns-then-ascends : goal.returns-then-ascends
 returns-then-ascends g c = sym (in_order_of_rising report_cmp report_total report_exact c.args.reports.items (c.requires c.if-ascends.true))
 
 pub returns-then-ascend : goal.returns-then-ascend
-returns-then-ascend g c = sym (in_order_of_rising report_cmp report_total report_exact c.args.reports.items (rw c.deref.ensures.value at c.ascend.ensures c.if-ascend.true))
+returns-then-ascend g c = sym (in_order_of_rising report_cmp report_total report_exact c.args.reports.items (rw c.deref.ensures.value at c.ascend.ensures.rises c.if-ascend.true))
 
 pub returns-then-rising-len : goal.returns-then-rising-len
 returns-then-rising-len g c =

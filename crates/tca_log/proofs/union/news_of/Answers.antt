@@ -1,4 +1,4 @@
-use Rattle.std.proofs.Common.{◌∙◌, sym, arith}
+use Rattle.std.proofs.Common.{arith}
 use Rattle.tca_report.specs.report.Reports.{report_cmp}
 use Rattle.tca_report.proofs.lemmas.report.Order.{report_total}
 use Rattle.tca_log.proofs.OrderedRows.Each.{beyond_whole}

@@ -24,14 +24,14 @@ returns-in_err-take_shared-clause-full g c = grind (arith, common_steps)
 pub add_set-requires : goal.add_set-requires
 add_set-requires g c =
     let list = c.args.list in
-    let set : c.in-Some.set ≡ in_order report_cmp list = subst (λ (o : Option (List PacketReport)). IfSome o (λ s. s ≡ in_order report_cmp list)) c.in-Some.is c.in_ok-set.ensures in
+    let set : c.in-Some.set ≡ in_order report_cmp list = subst (λ (o : Option (List PacketReport)). IfSome o (λ s. s ≡ in_order report_cmp list)) c.in-Some.is c.in_ok-set.ensures.set in
     subst (λ (rs : List PacketReport). IsStrictlySortedBy report_cmp rs) (sym set) (rises_in_order report_cmp report_total list)
 
 pub returns-in-Some-clause-ok : goal.returns-in-Some-clause-ok
 returns-in-Some-clause-ok g c =
     let old = c.args.self.now in
     let list = c.args.list in
-    let set : c.in-Some.set ≡ in_order report_cmp list = subst (λ (o : Option (List PacketReport)). IfSome o (λ s. s ≡ in_order report_cmp list)) c.in-Some.is c.in_ok-set.ensures in
+    let set : c.in-Some.set ≡ in_order report_cmp list = subst (λ (o : Option (List PacketReport)). IfSome o (λ s. s ≡ in_order report_cmp list)) c.in-Some.is c.in_ok-set.ensures.set in
     let same : in_order report_cmp (old ++ c.in-Some.set) ≡ in_order report_cmp (old ++ list) = ap (λ (l : List PacketReport). in_order report_cmp (old ++ l)) set ∙ union_set old list in
     let stays : c.take_shared.new.self ≡ old = search rules in
     subst (λ (l : List PacketReport). OnOk c.add_set.result (c.add_set.new.self ≡ l)) (ap (λ (l : List PacketReport). in_order report_cmp (l ++ c.in-Some.set)) stays ∙ same) c.add_set.ensures.ok
@@ -40,7 +40,7 @@ pub returns-in-Some-clause-full : goal.returns-in-Some-clause-full
 returns-in-Some-clause-full g c =
     let old = c.args.self.now in
     let list = c.args.list in
-    let set : c.in-Some.set ≡ in_order report_cmp list = subst (λ (o : Option (List PacketReport)). IfSome o (λ s. s ≡ in_order report_cmp list)) c.in-Some.is c.in_ok-set.ensures in
+    let set : c.in-Some.set ≡ in_order report_cmp list = subst (λ (o : Option (List PacketReport)). IfSome o (λ s. s ≡ in_order report_cmp list)) c.in-Some.is c.in_ok-set.ensures.set in
     let same : in_order report_cmp (old ++ c.in-Some.set) ≡ in_order report_cmp (old ++ list) = ap (λ (l : List PacketReport). in_order report_cmp (old ++ l)) set ∙ union_set old list in
     let stays : c.take_shared.new.self ≡ old = search rules in
     subst (λ (l : List PacketReport). IfErr c.add_set.result (λ e. e ≡ Full → most_reports < length l)) (ap (λ (l : List PacketReport). in_order report_cmp (l ++ c.in-Some.set)) stays ∙ same) c.add_set.ensures.full

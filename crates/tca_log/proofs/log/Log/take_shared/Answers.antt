@@ -17,5 +17,5 @@ returns-clause-new g c =
     let news = c.in_ok-news.news.rows in
     let none : c.self.inside.rows.rows ≡ [] = nil_from_length c.self.inside.rows.rows (omega (arith, c.len.ensures.length, c.if-len-gt0.false)) in
     let is : news ≡ c.args.list.now = c.in_ok-news.ensures ∙ c.in_ok-share.ensures in
-    let rises : IsStrictlySortedBy report_cmp news = subst (IsStrictlySortedBy report_cmp) (c.as_slice-2.ensures ∙ sym is) (c.rise.ensures c.if-not-rise.false) in
+    let rises : IsStrictlySortedBy report_cmp news = subst (IsStrictlySortedBy report_cmp) (c.as_slice-2.ensures ∙ sym is) (c.rise.ensures.rises c.if-not-rise.false) in
     λ e. c.in_ok-take_in.ensures.ok ∙ ap (put_each report_cmp news) none ∙ put_each_none report_cmp report_total news rises ∙ is

@@ -1,6 +1,6 @@
 use Rattle.std.proofs.lemmas.Grind.{common_steps}
 use Rattle.std.proofs.lemmas.List.{append-nil}
-use Rattle.std.proofs.Common.{◌≡◌, ◌∙◌, ◌++◌, ◌∷◌, [], Bool, List, map, not, sym, ap, subst, arith, append_assoc}
+use Rattle.std.proofs.Common.{◌≡◌, ◌∙◌, ◌++◌, ◌∷◌, [], Bool, map, not, sym, ap, subst, arith, append_assoc}
 use Rattle.tca_join.specs.Sets.{has}
 use Rattle.tca_log.proofs.OrderedRows.Passing.{ArePassing, passing_next}
 use Rattle.tca_log.proofs.rows.beyond.are_beyond.Goals as goal
