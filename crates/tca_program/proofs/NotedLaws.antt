@@ -1,5 +1,5 @@
 -- The notes of the inputs, gathered one by one.
-use Rattle.std.proofs.Common.{ℕ, List, [], ◌∷◌, ◌++◌, append_assoc, sym, subst}
+use Rattle.std.proofs.Common.{List, [], ◌∷◌, ◌++◌, append_assoc, sym, subst}
 use Rattle.std.proofs.lemmas.List.{append-nil}
 use Rattle.tca_report.specs.declared.input.Notes.{Notes}
 use Rattle.tca_report.specs.input.Inputs.{InputView}

@@ -1,9 +1,9 @@
 -- Messages that lie whole in octets, and what has to be copied.
-use Rattle.std.proofs.Common.{◌≡◌, ℕ, zero, suc, ◌+◌, ◌-◌, ◌<◌, ◌≤◌, inl, inr, Bool, true, false, List, [], ◌∷◌, ◌++◌, length, take, drop, Option, Some, None, Result, Ok, Err, refl, sym, ap, ap₂, subst, ◌∙◌, arith, append_assoc}
+use Rattle.std.proofs.Common.{◌≡◌, ℕ, ◌+◌, ◌-◌, ◌<◌, ◌≤◌, inl, inr, Bool, true, false, List, [], ◌∷◌, ◌++◌, length, take, drop, Option, Some, None, Ok, refl, sym, ap, ap₂, subst, ◌∙◌, arith, append_assoc}
 use Rattle.std.specs.Prelude.{nat_lt, not, ◌==◌, ◌⊎◌, IfSome, IfNone, is_some}
 use Rattle.std.specs.List.{concat, AllByRecursion}
 use Rattle.std.proofs.lemmas.Bool.Decides.{nat_tests}
-use Rattle.std.proofs.lemmas.List.{append-nil, length-append, length-drop, take_at, drop_at, take-append-drop}
+use Rattle.std.proofs.lemmas.List.{append-nil, length-append, take_at, drop_at, take-append-drop}
 use Rattle.std.proofs.Math.Seq.{take-append-add}
 use Rattle.tca_wire.specs.Messages.{version_at, length_at, judged_length}
 use Rattle.tca_wire.specs.Frames.{IsFrame, AreFrames, IsPart, IsFaulty, Framing, Holds, Failed, EndsAs, HoldsPart, IsStream, Feeds, frames_of, frames_of_both, framing}

@@ -1,5 +1,5 @@
 -- One statement more in a sum of statements.
-use Rattle.std.proofs.Common.{◌≡◌, ◌<◌, ◌+◌, ◌^◌, ℕ, List, [], ◌∷◌, ◌++◌, Some, length, map, take, slice_get, suc, zero, inl, inr, refl, sym, subst, ap, ◌∙◌, arith}
+use Rattle.std.proofs.Common.{◌≡◌, ◌<◌, ◌+◌, ℕ, List, [], ◌∷◌, ◌++◌, Some, length, take, slice_get, suc, zero, inl, inr, refl, sym, subst, ap, ◌∙◌, arith}
 use Rattle.std.specs.Global.{Vec}
 use Rattle.std.specs.Option.{unwrap_or}
 use Rattle.std.proofs.Common.{get_or}
@@ -10,7 +10,7 @@ use Rattle.tca_figures.specs.Sums.{AreAlike, Fits, IsSumFault, added}
 use Rattle.tca_figures.specs.Totals.{Adds, IsSumOf}
 use Rattle.tca_figures.specs.declared.fault.StatementFault.{StatementFault}
 use Rattle.tca_program.specs.declared.fault.RunFault.{RunFault}
-use Rattle.tcatool.specs.Added.{HasNoSum, IsFirstUnfit, IsNoStatement, texts_of}
+use Rattle.tcatool.specs.Added.{IsFirstUnfit, texts_of}
 use Rattle.tcatool.specs.Told.{statement_refusal}
 
 adds_more : (held : Stated) (texts : List (List ℕ)) (sum : Stated) (text : List ℕ) (more : Stated) → Adds held texts sum → IsTextOf text more → AreAlike sum more → Fits (added sum more)

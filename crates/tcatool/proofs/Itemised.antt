@@ -1,6 +1,6 @@
 -- Items add up to the bill.
-use Rattle.std.proofs.Common.{◌≡◌, ◌∙◌, ℕ, suc, ◌+◌, ◌<◌, Bool, true, false, ◌&&◌, ◌||◌, cond, eqb, List, [], ◌∷◌, length, get_or, Option, Some, None, ap, sym, refl, arith, inl, inr, zero-add}
-use Rattle.std.specs.Prelude.{map, filter, filter_map, find, slice_get, slice_index, sum_by, count_by, option_and_then, option_map}
+use Rattle.std.proofs.Common.{◌≡◌, ◌∙◌, ℕ, ◌+◌, ◌<◌, Bool, true, false, ◌&&◌, ◌||◌, cond, eqb, List, [], ◌∷◌, length, get_or, Option, Some, None, ap, sym, refl, arith, inl, inr, zero-add}
+use Rattle.std.specs.Prelude.{map, find, slice_get, sum_by, option_and_then}
 use Rattle.std.specs.List.{cons_option, enumerate_from, list_any}
 use Rattle.std.specs.Ordering.{eq_by_cmp, nat_cmp, is_eq}
 use Rattle.std.proofs.lemmas.Bool.{cases_eq, cases_lt, eq-eqb, ne_eqb, false≢true}
@@ -18,7 +18,6 @@ use Rattle.tca_meters.specs.declared.colour.Colour.TheVariants.{Green, Yellow, R
 use Rattle.tca_meters.specs.Colours.{colour_number}
 use Rattle.tca_accounts.specs.Plans.{AccountPlan, PlannedAccount}
 use Rattle.tca_accounts.specs.Bills.{bill_of, coloured_in, reports_of, tally_of}
-use Rattle.tca_accounts.specs.Metering.{no_sums}
 use Rattle.tca_accounts.specs.Spans.{period_of, spans_of, within}
 use Rattle.tca_accounts.specs.Sums.{octets_in, packets_in, sums_of}
 use Rattle.tca_accounts.specs.declared.span.Span.{Span}

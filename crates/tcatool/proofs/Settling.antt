@@ -1,5 +1,5 @@
 -- The reports of a set beside those that no other disputes, both in order.
-use Rattle.std.proofs.Common.{◌≡◌, ◌∙◌, Bool, true, false, ◌&&◌, cond, List, [], ◌∷◌, ◌++◌, append_assoc, append-nil, Option, Some, None, Bor, ap, sym, subst, refl}
+use Rattle.std.proofs.Common.{◌≡◌, ◌∙◌, Bool, true, false, ◌&&◌, cond, List, [], ◌∷◌, ◌++◌, append_assoc, Option, Some, None, Bor, ap, sym, subst, refl}
 use Rattle.std.specs.Prelude.{map, filter, MatchOption}
 use Rattle.std.specs.List.{AllByRecursion}
 use Rattle.std.specs.List.Sorted.{IsStrictlySortedBy}
@@ -8,9 +8,8 @@ use Rattle.std.specs.Ordering.{eq_by_cmp}
 use Rattle.std.specs.declared.cmp.Ordering.TheVariants.{Less}
 use Rattle.tca_join.specs.Sets.{has}
 use Rattle.tca_report.specs.report.Reports.{PacketReport, report_cmp}
-use Rattle.tca_report.specs.report.Identities.{identity_of}
 use Rattle.tca_report.proofs.lemmas.report.Order.{report_total, report_exact}
-use Rattle.tca_log.specs.Disputes.{contents, undisputed}
+use Rattle.tca_log.specs.Disputes.{undisputed}
 use Rattle.tca_log.proofs.Contents.{has-filter}
 use Rattle.tca_log.proofs.OrderedRows.Each.{members}
 use Rattle.tca_log.proofs.OrderedRows.Parts.{turned}

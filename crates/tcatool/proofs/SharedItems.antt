@@ -1,6 +1,6 @@
 -- The accounts of a plan while each settled report is given to the one that owns it.
-use Rattle.std.proofs.Common.{◌≡◌, ◌∙◌, ℕ, zero, suc, ◌+◌, ◌<◌, ◌≤◌, Bool, true, false, cond, eqb, List, [], ◌∷◌, ◌++◌, append_assoc, append-nil, map-id, length, get_or, set, take, drop, Option, Some, None, ap, sym, subst, refl, arith, inl, inr}
-use Rattle.std.specs.Prelude.{map, filter, filter_map, slice_get, option_and_then, option_map}
+use Rattle.std.proofs.Common.{◌≡◌, ◌∙◌, ℕ, suc, ◌+◌, ◌<◌, ◌≤◌, true, false, cond, List, [], ◌∷◌, ◌++◌, append_assoc, append-nil, map-id, length, get_or, set, take, drop, Option, Some, None, ap, sym, subst, refl, arith, inl, inr}
+use Rattle.std.specs.Prelude.{map, filter, slice_get, option_and_then, option_map}
 use Rattle.std.specs.List.{AllByRecursion, cons_option}
 use Rattle.std.specs.List.Sorted.{IsStrictlySortedBy}
 use Rattle.std.proofs.lemmas.Bool.{cases_eq, eq-eqb, ne_eqb}
@@ -11,11 +11,10 @@ use Rattle.std.proofs.Math.ListN.{drop_of_length-le}
 use Rattle.std.proofs.Math.Seq.{drop-cons}
 use Rattle.tca_report.specs.report.Reports.{PacketReport, report_cmp}
 use Rattle.tca_meters.specs.declared.colour.Colour.{Colour}
-use Rattle.tca_meters.specs.Colours.{colour_number}
 use Rattle.tca_meters.specs.Packets.{coloured}
 use Rattle.tca_meters.specs.Termed.{TermedMeter, termed_rule}
 use Rattle.tca_accounts.specs.Plans.{AccountPlan, PlannedAccount, account_of}
-use Rattle.tca_accounts.specs.Sums.{packet_of, sums_of, with_packet}
+use Rattle.tca_accounts.specs.Sums.{packet_of, with_packet}
 use Rattle.tca_accounts.specs.Bills.{coloured_in, is_number}
 use Rattle.tca_accounts.specs.Metering.{HasRoom, metered_none, owned}
 use Rattle.tca_accounts.proofs.Bills.{coloured_length, field_at, filter_few, from_zero, rest_later}

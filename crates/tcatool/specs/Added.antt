@@ -1,5 +1,5 @@
 -- What the command `add` writes, and what it is refused for.
-use Rattle.std.specs.Prelude.{◌≡◌, ◌⊎◌, ℕ, List, [], ◌∷◌, map, take, slice_get, Some}
+use Rattle.std.specs.Prelude.{◌≡◌, ◌⊎◌, ℕ, List, [], map, take, slice_get, Some}
 use Rattle.std.specs.Global.{Vec}
 use Rattle.tca_figures.specs.Figures.{Stated}
 use Rattle.tca_figures.specs.Lines.{IsTextOf, statement_octets}

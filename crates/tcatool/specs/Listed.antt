@@ -1,6 +1,6 @@
 -- What the command `list` writes, and what it is refused for.
-use Rattle.std.specs.Prelude.{◌≡◌, ◌==◌, ◌++◌, ℕ, Bool, true, false, List, [], ◌∷◌, codes, map, filter, slice_get, Option, Some, None, Ok, option_map, option_and_then, if◌then◌else◌}
-use Rattle.std.specs.List.{All, filter_map}
+use Rattle.std.specs.Prelude.{◌≡◌, ◌==◌, ◌++◌, ℕ, Bool, true, false, List, [], ◌∷◌, codes, map, slice_get, Option, Some, None, Ok, option_map, option_and_then, if◌then◌else◌}
+use Rattle.std.specs.List.{filter_map}
 use Rattle.std.specs.Borrow.{Bor}
 use Rattle.tca_join.specs.Sets.{has}
 use Rattle.tca_report.specs.report.Reports.{PacketReport, report_cmp}

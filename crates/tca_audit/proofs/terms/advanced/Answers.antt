@@ -1,9 +1,8 @@
-use Rattle.std.proofs.Common.{◌≡◌, ◌+◌, ◌<◌, ◌≤◌, ℕ, suc, length, ◌∙◌, ap, sym, add-one, refl, arith}
+use Rattle.std.proofs.Common.{◌≡◌, ◌+◌, ◌<◌, ◌≤◌, suc, length, ◌∙◌, ap, add-one, refl, arith}
 use Rattle.std.proofs.lemmas.List.{get_or_read}
-use Rattle.std.proofs.lemmas.List.Sums.{prefix_len-le-length}
 use Rattle.tca_meters.specs.declared.any_meter.AnyMeter.{AnyMeter}
 use Rattle.tca_meters.specs.AnyMeters.{any_rule}
-use Rattle.tca_meters.specs.Termed.{term, term_at, termed_rule}
+use Rattle.tca_meters.specs.Termed.{term, termed_rule}
 use Rattle.tca_meters.proofs.Terms.{have_times}
 use Rattle.tca_audit.specs.inside.Metering.{levels_of, state_of}
 use Rattle.tca_audit.proofs.TermsInTurn.{at_earlier, at_last, at_later, by_end, starts_here}

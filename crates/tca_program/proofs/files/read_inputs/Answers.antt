@@ -1,4 +1,4 @@
-use Rattle.std.proofs.Common.{◌≡◌, ◌∙◌, ℕ, List, ap, map, subst, sym, length}
+use Rattle.std.proofs.Common.{◌≡◌, ◌∙◌, ℕ, List, ap, map, subst, length}
 use Rattle.std.specs.Prelude.{IfErr}
 use Rattle.std.specs.Borrow.{Bor}
 use Rattle.std.proofs.lemmas.List.{length-map}
@@ -6,7 +6,7 @@ use Rattle.std.proofs.lemmas.Result.{IfOk-weaker}
 use Rattle.std.proofs.lemmas.Slice.Zip.{AllZip-long}
 use Rattle.tca_report.specs.declared.input.Input.{Input}
 use Rattle.tca_program.specs.Reads.{IsReadRefused}
-use Rattle.tca_program.specs.Words.{AreAsked, HaveSessions, IsSplit, texts}
+use Rattle.tca_program.specs.Words.{HaveSessions, IsSplit, texts}
 use Rattle.tca_program.specs.declared.word.Asked.{Asked}
 use Rattle.tca_program.proofs.Asking.{as_many, have_sessions}
 use Rattle.tca_program.proofs.files.read_inputs.Goals as goal

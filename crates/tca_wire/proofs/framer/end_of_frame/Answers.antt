@@ -1,4 +1,4 @@
-use Rattle.std.proofs.Common.{◌≡◌, ◌≤◌, ◌-◌, length, sym, arith}
+use Rattle.std.proofs.Common.{◌≤◌, ◌-◌, length, sym, arith}
 use Rattle.std.proofs.lemmas.Bool.Decides.{nat_tests}
 use Rattle.tca_wire.proofs.Lending.{frame_across}
 use Rattle.tca_wire.proofs.framer.end_of_frame.Goals as goal

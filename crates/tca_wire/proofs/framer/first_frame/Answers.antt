@@ -1,6 +1,5 @@
-use Rattle.std.proofs.Common.{◌≡◌, ◌<◌, List, ℕ, length, take, ap, ap₂, sym, subst, ◌∙◌, ◌∷◌, arith}
+use Rattle.std.proofs.Common.{◌<◌, length, arith}
 use Rattle.std.proofs.lemmas.Bool.Decides.{nat_tests}
-use Rattle.tca_wire.specs.Frames.{AreFrames, frames_of}
 use Rattle.tca_wire.proofs.Lending.{none_first, has_first}
 use Rattle.tca_wire.proofs.framer.first_frame.Goals as goal
 

@@ -1,5 +1,4 @@
 use Rattle.std.proofs.Common.{◌≡◌}
-use Rattle.std.specs.List.{flat_map}
 use Rattle.tca_program.specs.Unions.{union_of}
 use Rattle.tcacct.proofs.answers.sets_of.Given as goal
 

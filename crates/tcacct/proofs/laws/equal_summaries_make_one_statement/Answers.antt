@@ -1,4 +1,4 @@
-use Rattle.std.proofs.Common.{◌≡◌, ◌∙◌, sym}
+use Rattle.std.proofs.Common.{◌∙◌, sym}
 use Rattle.tca_statements.specs.Statements.{statement_text}
 use Rattle.tcacct.proofs.laws.equal_summaries_make_one_statement.Goals as goal
 

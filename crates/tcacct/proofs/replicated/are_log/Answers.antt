@@ -1,4 +1,4 @@
-use Rattle.std.proofs.Common.{◌≡◌, ◌∙◌, ◌++◌, [], false, rules, ap}
+use Rattle.std.proofs.Common.{◌≡◌, ◌∙◌, ◌++◌, false, rules, ap}
 use Rattle.std.specs.Option.{is_some}
 use Rattle.tca_join.proofs.Merge.{in_order_of_rising}
 use Rattle.tca_join.specs.Sets.{in_order}

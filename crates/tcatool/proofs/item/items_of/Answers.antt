@@ -1,5 +1,4 @@
-use Rattle.std.proofs.Common.{◌≡◌, ◌∙◌, ◌∷◌, ◌++◌, List, None, ap, sym, map, filter, rules}
-use Rattle.tca_report.specs.report.Reports.{PacketReport}
+use Rattle.std.proofs.Common.{◌≡◌, ◌∙◌, ◌++◌, List, None, ap, sym, map, filter}
 use Rattle.tca_accounts.proofs.Bills.{rest_later}
 use Rattle.tcatool.specs.Listed.{is_settled, item_alone}
 use Rattle.tcatool.specs.declared.item.Item.{Item}

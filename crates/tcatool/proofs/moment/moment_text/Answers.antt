@@ -1,11 +1,11 @@
-use Rattle.std.proofs.Common.{rules, ◌≡◌, ◌∙◌, ◌<◌, ◌≤◌, ℕ, ◌+◌, ◌*◌, ◌/◌, ◌^◌, ℤ, pos, ◌*ℤ◌, ◌≤ℤ◌, Option, Some, None, Result, Ok, Err, inl, inr, true, false, refl, sym, ap, arith, to_z, of_z, w64, SFits, to_z-of_z, true≢false}
+use Rattle.std.proofs.Common.{◌≡◌, ◌∙◌, ◌<◌, ◌≤◌, ℕ, ◌*◌, ◌/◌, ◌^◌, ℤ, pos, ◌*ℤ◌, Option, Some, None, Result, Ok, Err, inl, inr, refl, sym, ap, arith, to_z, of_z, w64, SFits, to_z-of_z, true≢false}
 use Rattle.std.specs.Option.{is_some, unwrap_or}
 use Rattle.std.proofs.lemmas.Bool.{cases_lt, le-ltb, lt-ltb}
-use Rattle.std.specs.Result.{IfOk, IsOk, OkIff, is_ok, result_ok}
+use Rattle.std.specs.Result.{IfOk, IsOk, OkIff, result_ok}
 use Rattle.jiff_core.proofs.SignedLemmas.{signed_arith}
 use Rattle.jiff_core.specs.Timestamp.{IsTimestampNanos}
 use Rattle.jiff_core.specs.declared.timestamp.Timestamp.{Timestamp}
-use Rattle.tcatool.specs.Moments.{moment_text, first_unshown, shown_moment}
+use Rattle.tcatool.specs.Moments.{moment_text, first_unshown}
 use Rattle.tcatool.proofs.Shown.{shown_is}
 use Rattle.tcatool.proofs.moment.moment_text.Goals as goal
 

@@ -1,4 +1,3 @@
-use Rattle.std.proofs.Common.{◌≡◌, rules}
 use Rattle.tca_program.specs.Devices.{device}
 use Rattle.tcatool.specs.Told.{IsAnyText}
 use Rattle.tcatool.proofs.Telling.{tells, tells_in_part}

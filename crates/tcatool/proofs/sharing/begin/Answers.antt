@@ -1,4 +1,4 @@
-use Rattle.std.proofs.Common.{◌≡◌, ◌∙◌, ◌∷◌, [], ◌++◌, List, ap, arith}
+use Rattle.std.proofs.Common.{◌∙◌, ◌∷◌, [], ◌++◌, List, ap, arith}
 use Rattle.tcatool.specs.declared.sharing.Running.{Running}
 use Rattle.tcatool.proofs.SharedItems.{opened_more}
 use Rattle.tcatool.proofs.sharing.begin.Goals as goal

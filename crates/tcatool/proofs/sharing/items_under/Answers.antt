@@ -1,4 +1,4 @@
-use Rattle.std.proofs.Common.{◌≡◌, ◌∙◌, List, length, map, ap, sym, subst, arith}
+use Rattle.std.proofs.Common.{◌≡◌, ◌∙◌, length, map, ap, sym, subst, arith}
 use Rattle.std.proofs.lemmas.List.{length-map, take_at}
 use Rattle.tcatool.specs.Listed.{AreItemsUnder, item_alone}
 use Rattle.tcatool.specs.declared.item.Item.{Item}

@@ -1,8 +1,7 @@
-use Rattle.std.proofs.Common.{◌≡◌, ◌∙◌, ◌<◌, ◌+◌, Some, None, length, get_or, sym, refl, arith}
+use Rattle.std.proofs.Common.{◌≡◌, ◌∙◌, ◌<◌, Some, None, length, get_or, sym, refl, arith}
 use Rattle.tca_accounts.specs.Plans.{account_of}
 use Rattle.tcatool.proofs.SharedItems.{all_counted, disputed_next, next_has_room, next_in_time, none_shared, shared_next, unowned_next}
 use Rattle.tcatool.specs.declared.item.Item.{Item}
-use Rattle.tcatool.specs.inside.Sharing.{next_colour}
 use Rattle.tcatool.proofs.sharing.share_out.Goals as goal
 
 pub loop-item-init : goal.loop-item-init

@@ -1,8 +1,8 @@
-use Rattle.std.proofs.Common.{◌≡◌, ◌<◌, ◌++◌, [], List, ℕ, length, take, sym, ap, subst, ◌∙◌, arith}
+use Rattle.std.proofs.Common.{◌≡◌, ◌<◌, ◌++◌, [], List, ℕ, length, take, sym, ap, ◌∙◌, arith}
 use Rattle.std.proofs.lemmas.Bool.Decides.{nat_tests}
 use Rattle.std.proofs.lemmas.List.{length-append}
 use Rattle.std.proofs.lemmas.Result.{err_from_is_err_and}
-use Rattle.tca_wire.specs.Frames.{Framing, Holds, Feeds, framing}
+use Rattle.tca_wire.specs.Frames.{framing}
 use Rattle.tca_wire.proofs.Lending.{no_frames, one_frame, faulty_feeds, feed_needs, lend_needs, holds_part}
 use Rattle.tca_wire.proofs.framer.Framer.lend.Goals as goal
 

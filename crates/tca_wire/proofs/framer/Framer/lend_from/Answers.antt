@@ -1,9 +1,9 @@
-use Rattle.std.proofs.Common.{◌≡◌, ◌<◌, ◌++◌, [], List, ℕ, length, take, sym, ap, ap₂, subst, ◌∙◌, arith}
+use Rattle.std.proofs.Common.{◌≡◌, ◌<◌, ◌++◌, List, ℕ, length, take, sym, ap, ap₂, subst, ◌∙◌, arith}
 use Rattle.std.specs.Prelude.{not}
 use Rattle.std.specs.Global.{Vec}
 use Rattle.std.proofs.lemmas.List.{length-append}
 use Rattle.std.proofs.lemmas.Result.{err_from_is_err_and}
-use Rattle.tca_wire.specs.Frames.{Framing, Feeds, HoldsPart, framing, frames_of_both}
+use Rattle.tca_wire.specs.Frames.{Framing, Feeds, framing, frames_of_both}
 use Rattle.tca_wire.proofs.Lending.{holds_same, failed_same, holds_rest, lends, part_needs, begun_needs}
 use Rattle.tca_wire.proofs.framer.Framer.lend_from.Goals.{then-is_none+in_ok-extend_from_slice, else-is_none}
 use Rattle.tca_wire.proofs.framer.Framer.lend_from.Goals as goal
