@@ -27,6 +27,8 @@ use tca_report::Report;
 /// The least list that is taken at once, whatever the log is.
 const LEAST: usize = 1_024;
 
+// A `let _rises` is a call for its clause alone: that keys ascend.
+
 // The least list that is taken at once beside a log: an eighth of it, since the chains are copied, and the whole
 // log is merged and metered, for the list.
 fn least_beside(log: &Log) -> usize
@@ -35,7 +37,6 @@ fn least_beside(log: &Log) -> usize
     LEAST.max(log.len() as usize / 8)
 }
 
-// A `let _rises` or `let _count` is a call for its clause alone: that keys ascend, or how many reports there may be.
 impl Contents {
     /// A list of these reports, unless they are few beside the log or there is no room for it.
     pub(crate) fn list_of(&self, reports: &[Report]) -> Option<Items<Report>>
@@ -100,6 +101,7 @@ impl Contents {
         if self.log.len() > 0 || reports.len() > LIMIT {
             return Ok(false);
         }
+        // The log is the last that may refuse, and whether the list ascends only it tells.
         let chains = extended_copy(&self.chains, self.name, reports)?;
         if !self.log.take_shared(reports)? {
             return Ok(false);

@@ -111,7 +111,7 @@ impl<A: Allocator + Copy> Log<A> {
 }
 
 impl<A: Allocator + Copy> Log<A> {
-    /// Takes the reports of a list, where it has none and they ascend, and answers whether it did. It holds the list with its other owners
+    /// Takes the reports of a list, where it has none, they ascend and are at most 4,194,304, and answers whether it did. It holds the list with its other owners
     /// then, and takes memory for a copy, but makes none before another report comes. `Memory` where a growth was refused, which
     /// leaves the log as it was.
     pub fn take_shared(&mut self, list: &Items<Report, A>) -> Result<bool, AllocError>
