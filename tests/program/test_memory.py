@@ -24,14 +24,14 @@ HOLDS = {
         "tests::gossip::memory::a_merge_that_was_refused_is_completed",
         "tests::gossip::world::a_run_that_was_refused_is_completed",
     ),
-    "tca_audit": ("tests::statements::issues_what_has_changed",),
-    "tcacct": (
-        "tests::shared::memory::a_take_that_was_refused_is_completed",
-        "tests::shared::jobs_memory::workers_that_were_refused_close",
-        "tests::shared::jobs_memory::workers_that_were_refused_close_at_once",
-        "tests::shared::jobs_memory::a_worker_that_was_refused_its_thread_does_nothing",
-        "tests::replicated::writes_nothing_where_it_is_refused",
+    "tca_ingest_tests": (
+        "tests::memory::a_take_that_was_refused_is_completed",
+        "tests::jobs_memory::workers_that_were_refused_close",
+        "tests::jobs_memory::workers_that_were_refused_close_at_once",
+        "tests::jobs_memory::a_worker_that_was_refused_its_thread_does_nothing",
     ),
+    "tca_audit": ("tests::statements::issues_what_has_changed",),
+    "tcacct": ("tests::replicated::writes_nothing_where_it_is_refused",),
 }
 
 

@@ -5,7 +5,6 @@ mod lines;
 mod meeting;
 mod replicated;
 mod sessions;
-mod shared;
 mod shell;
 mod terms;
 mod words;

@@ -1,12 +1,11 @@
-//! A gate by which two jobs wait for each other, and the wait that all gates of the tests use. Each wait has a limit, so that the tests
-//! end where it is not so.
+//! A gate by which two jobs wait for each other. Each wait has a limit, so that the tests end where it is not so.
 use std::sync::atomic::{AtomicU64, Ordering};
 use std::thread;
 use std::time::{Clock, Duration};
 use tca_ingest::Gate;
 
 // Waits until a count comes to this, for at most 10,000 turns of a millisecond. Whether it came.
-pub(super) fn reaches<R: Clock>(rt: &R, count: &AtomicU64, least: u64) -> bool {
+fn reaches<R: Clock>(rt: &R, count: &AtomicU64, least: u64) -> bool {
     for _ in 0..10_000 {
         if count.load(Ordering::SeqCst) >= least {
             return true;

@@ -1,0 +1,7 @@
+use Rattle.tca_ingest_tests.proofs.tests.sessions.workers_take_each_input_in_its_session.Given as goal
+
+abbrev pub ghosts-works_and_closes-L-Ledger : goal.ghosts-works_and_closes-L-Ledger
+ghosts-works_and_closes-L-Ledger g a = record { name = a.blank.name; parts = a.blank.parts }
+
+abbrev pub ghosts-works_and_closes-L-Side : goal.ghosts-works_and_closes-L-Side
+ghosts-works_and_closes-L-Side g a = record { plan = a.plan; called = a.name }
