@@ -177,12 +177,21 @@ class Limits(ProgramTest):
 
 
 class Time(ProgramTest):
+    def seconds(self, capture):
+        """The processor time of a run over a capture that has no reports."""
+        self.write("capture", capture)
+        before = resource.getrusage(resource.RUSAGE_CHILDREN)
+        self.assert_done(self.run_program("combine", "out", "capture"), b"reports 0\n")
+        after = resource.getrusage(resource.RUSAGE_CHILDREN)
+        return after.ru_utime + after.ru_stime - before.ru_utime - before.ru_stime
+
     def test_withdrawals_of_all_beside_many_templates(self):
         """A withdrawal of all templates of a domain goes over those that were defined since the last one, however many were before."""
         stay = [message_with(b"".join(template(256 + n) for n in range(3_000)), domain=8)]
         gone = [message_with(b"".join(template(256 + n) for n in range(900)) + ALL)] * 3
-        self.write("capture", b"".join(stay + gone) + message_with(struct.pack(">HH", 2, 4 + 4 * 16_000) + ALL[4:] * 16_000) * 400)
-        self.assert_done(self.run_program("combine", "out", "capture"), b"reports 0\n")
+        withdrawals = message_with(struct.pack(">HH", 2, 4 + 4 * 16_000) + ALL[4:] * 16_000) * 400
+        alone = self.seconds(withdrawals)
+        self.assertLess(self.seconds(b"".join(stay + gone) + withdrawals), 5 * alone + 1)
 
 
 class Memory(ProgramTest):
