@@ -38,7 +38,7 @@ impl Bill {
             && self.accounts.is_same(&other.accounts)
     }
 
-    /// The same bill once more.
+    /// The same bill once more. `AllocError` comes where a growth was refused, which changes nothing.
     pub fn copy(&self, alloc: Global) -> Result<Bill, AllocError>
         ensures { IfOk result (λ b. b ≡ self.now) }
     {

@@ -118,7 +118,7 @@ impl Plan {
         self.period
     }
 
-    /// The same plan once more.
+    /// The same plan once more. `AllocError` comes where a growth was refused, which changes nothing.
     pub fn copy(&self, alloc: Global) -> Result<Plan, AllocError>
         ensures { IfOk result (λ p. p ≡ self.now) }
     {

@@ -57,7 +57,7 @@ impl Spans {
         self.list.as_slice() == other.list.as_slice()
     }
 
-    /// The same spans once more.
+    /// The same spans once more. `AllocError` comes where a growth was refused, which changes nothing.
     pub fn copy(&self, alloc: Global) -> Result<Spans, AllocError>
         ensures { IfOk result (λ s. s ≡ self.now) }
     {

@@ -22,7 +22,7 @@ impl Tally {
         self.total == other.total && self.spans.is_same(&other.spans)
     }
 
-    /// The same tally once more.
+    /// The same tally once more. `AllocError` comes where a growth was refused, which changes nothing.
     pub fn copy(&self, alloc: Global) -> Result<Tally, AllocError>
         ensures { IfOk result (λ t. t ≡ self.now) }
     {
@@ -78,7 +78,7 @@ impl Tallies {
         true
     }
 
-    /// The same tallies once more.
+    /// The same tallies once more. `AllocError` comes where a growth was refused, which changes nothing.
     pub fn copy(&self, alloc: Global) -> Result<Tallies, AllocError>
         ensures { IfOk result (λ t. t ≡ self.now) }
     {

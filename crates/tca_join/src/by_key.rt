@@ -83,7 +83,8 @@ impl<V: Join, A: Allocator + Clone> ByKey<V, A> {
         }
     }
 
-    /// Sets the value at a key, and drops the one before. Memory is wanted only for a new key.
+    /// Sets the value at a key, and drops the one before. Memory is wanted only for a new key. Where it was
+    /// refused the map is as before, and the value is dropped.
     pub fn set(&mut self, key: u32, value: V) -> Result<(), AllocError>
         ensures ok { OnOk result (self.new ≡ with_value key value self.old) }
         ensures err { OnErr result (self.new ≡ self.old) }

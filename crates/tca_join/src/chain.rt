@@ -82,14 +82,16 @@ impl<T: Copy + Eq, A: Allocator + Clone> Chain<T, A> {
         self.items.as_slice()
     }
 
-    /// The items as a list that others may hold too. Where the chain has a list of its own they are copied.
+    /// The items as a list that others may hold too. Where the chain has a list of its own they are copied. `AllocError`
+    /// comes where memory was refused, or the list can have no owner more; the chain stays as it is.
     pub fn share(&self) -> Result<Items<T, A>, AllocError>
         ensures { IfOk result (λ items. items ≡ self.now.items) }
     {
         self.items.share()
     }
 
-    /// Makes room for one more item. Where room was reserved before, there is nothing to do and no refusal.
+    /// Makes room for one more item. Where room was reserved before, there is nothing to do and no refusal. Where
+    /// memory was refused the chain is as before.
     pub fn reserve(&mut self) -> Result<(), AllocError>
         ensures ok { OnOk result (self.new ≡ chain self.old.items true) }
         ensures err { OnErr result (self.new ≡ self.old) }

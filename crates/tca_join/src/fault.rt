@@ -8,11 +8,11 @@ use thiserror::Error;
 /// Why two values were not joined. Both are then as before.
 #[derive(Clone, Copy, Debug, PartialEq, Eq, Error)]
 pub enum JoinFault {
-    /// They have no join. `key` is the least key of maps at which they have none, or the first index, counted from 0,
-    /// at which chains differ.
+    /// They clash. `key` is the least key of maps at which their values do, or the first index, counted from 0, at
+    /// which chains differ.
     #[error("the values have no join: they clash at {key}")]
     Clash { key: u32 },
-    /// They have a join, and it is above a limit.
+    /// They don't clash, and what their join would be is above a limit.
     #[error("the join is above its limit")]
     Full,
     /// Memory for the join was refused.

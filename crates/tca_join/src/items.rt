@@ -66,7 +66,7 @@ impl<T: Drop, A: Allocator> Items<T, A> {
         }
     }
 
-    /// These items. The list itself is kept, so that they aren't copied.
+    /// These items. The list itself is kept, so that they aren't copied. Where memory was refused the list is gone.
     pub fn of(alloc: A, list: Vec<T, A>) -> Result<Items<T, A>, AllocError>
         ensures { IfOk result (λ i. i ≡ list.items) }
     {
@@ -92,7 +92,8 @@ impl<T: Drop, A: Allocator> Items<T, A> {
         }
     }
 
-    /// The other list of the items, where there is one. It isn't copied.
+    /// The other list of the items, where there is one. It isn't copied, and no memory is taken: `AllocError` comes only
+    /// where it can have no owner more, which changes nothing.
     pub fn other(&self) -> Result<Option<Items<T, A>>, AllocError>
         ensures { IfOk result (λ found. IfSome found (λ other. AreAlike self.now other)) }
     {
@@ -106,7 +107,8 @@ impl<T: Drop, A: Allocator> Items<T, A> {
         }))
     }
 
-    /// The same items for one owner more. They aren't copied.
+    /// The same items for one owner more. They aren't copied, and no memory is taken: `AllocError` comes only where they can
+    /// have no owner more, which changes nothing.
     pub fn share(&self) -> Result<Items<T, A>, AllocError>
         ensures { IfOk result (λ i. i ≡ self.now) }
     {

@@ -52,7 +52,7 @@ pub trait Join: Drop + Sized {
         ensures err { OnErr result (self.new ≡ self.old) }
         ensures fault { IfErr result (IsJoinFault (clash self.old other.now) (full self.old other.now)) };
 
-    /// A value of its own that equals this one.
+    /// A value of its own that equals this one. `AllocError` comes where memory was refused, which changes nothing.
     fn copy(&self) -> Result<Self, AllocError>
         ensures { IfOk result (λ c. c ≡ self.now) };
 

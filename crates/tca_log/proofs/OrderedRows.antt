@@ -1,6 +1,7 @@
 -- Chunks and lists of rows in order, whatever the rows are.
 pub mod Among
 pub mod Each
+pub mod Kept
 pub mod Near
 pub mod Parts
 pub mod Passing

@@ -119,7 +119,8 @@ impl<A: Allocator + Copy> Log<A> {
         Ok(answer)
     }
 
-    /// All reports, in order, as a list. It takes no memory where the log got its reports in long lists alone.
+    /// All reports, in order, as a list. It takes no memory where the log got its reports in long lists alone. `AllocError`
+    /// comes where a growth was refused; the log is then gone.
     pub fn into_reports(self) -> Result<Vec<Report, A>, AllocError>
         ensures all { IfOk result (λ list. list.items ≡ self) }
         ensures rises { OnOk result (IsStrictlySortedBy report_cmp self) }
@@ -129,7 +130,7 @@ impl<A: Allocator + Copy> Log<A> {
         rows.into_list()
     }
 
-    /// A log with the same reports.
+    /// A log with the same reports. `AllocError` comes where a growth was refused, which changes nothing.
     pub fn copy(&self) -> Result<Log<A>, AllocError>
         ensures { IfOk result (λ c. c ≡ self.now) }
     {

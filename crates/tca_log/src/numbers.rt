@@ -17,9 +17,9 @@ use tca_report::{Identity, Report};
 // times the session, so that they begin far apart, however many there are.
 const PARTS: usize = 1 << 31;
 
-const DOMAIN: usize = 1_327_217_885;
+const DOMAIN_STEP: usize = 1_327_217_885;
 
-const SESSION: usize = 889_516_852;
+const SESSION_STEP: usize = 889_516_852;
 
 // There are 2^24 marks at most, for as many reports as a log may have.
 const MOST_BITS: u32 = 24;
@@ -30,8 +30,8 @@ fn number_of(identity: Identity, bits: u32) -> usize
     ensures number { result ≡ number bits identity }
     ensures bound { result < 2 ^ bits }
 {
-    let domain = identity.domain as usize * DOMAIN;
-    let session = identity.session as usize * SESSION;
+    let domain = identity.domain as usize * DOMAIN_STEP;
+    let session = identity.session as usize * SESSION_STEP;
     let first = (domain + session) % PARTS >> (31 - bits);
     (first + identity.place as usize) % (1 << bits)
 }

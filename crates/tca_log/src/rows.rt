@@ -259,10 +259,16 @@ impl<K: Ord + Copy, A: Allocator + Copy> Rows<K, A> {
         self.put_all(&other)
     }
 
-    /// Takes away each row that ties with one of another container. It takes no memory.
+    /// Takes away each row that ties with one of another container. It takes no memory. Where the rows lie in one list it goes
+    /// through them once.
     pub(crate) fn withdraw_all(&mut self, other: &Rows<K, A>)
         ensures { self.new.rows ≡ without_each K.cmp other.now.rows self.old.rows }
     {
+        if self.chunks.len() == 1 {
+            take_all_from(&mut self.chunks, other);
+            self.count = count_of(&self.chunks);
+            return;
+        }
         for key in other.iter() {
             if self.contains(key) {
                 self.withdraw(key);
@@ -426,5 +432,25 @@ fn take_from<K: Ord + Copy, A: Allocator>(chunks: &mut Vec<Chunk<K, A>, A>, key:
     chunk.withdraw(key);
     if chunk.len() == 0 {
         let _ = chunks.remove(at);
+    }
+}
+
+// Takes from the only chunk each row that ties with one of a container, and the chunk away where it has no other.
+fn take_all_from<K: Ord + Copy, A: Allocator + Copy>(
+    chunks: &mut Vec<Chunk<K, A>, A>,
+    others: &Rows<K, A>,
+)
+    requires chunks { AreChunks K.cmp chunks.old.items }
+    requires one { vec_len chunks.old ≡ 1 }
+    ensures joined { joined chunks.new.items ≡ without_each K.cmp others.now.rows (joined chunks.old.items) }
+    ensures chunks { AreChunks K.cmp chunks.new.items }
+    ensures small { All (λ c. length c ≤ 256) chunks.old.items → All (λ c. length c ≤ 256) chunks.new.items }
+    ensures fewer { vec_len chunks.new ≤ 1 }
+    ensures capacity { vec_capacity chunks.new ≡ vec_capacity chunks.old }
+{
+    let chunk = &mut chunks[0];
+    chunk.withdraw_all(others);
+    if chunk.len() == 0 {
+        chunks.clear();
     }
 }

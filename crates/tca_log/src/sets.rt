@@ -53,7 +53,8 @@ pub fn with_set<A: Allocator + Copy>(alloc: A, list: Items<Report, A>) -> Items<
     }
 }
 
-/// The set of a list, where it needs no sorting: the list itself where it ascends, or the one beside it.
+/// The set of a list, where it needs no sorting: the list itself where it ascends, or the one beside it. It takes no memory:
+/// `AllocError` comes only where that list can have no owner more, which changes nothing.
 pub fn set_beside<A: Allocator + Copy>(
     list: &Items<Report, A>,
 ) -> Result<Option<Items<Report, A>>, AllocError>
@@ -72,7 +73,8 @@ pub fn set_beside<A: Allocator + Copy>(
     Ok(None)
 }
 
-/// The set of a list that others may hold too: the one beside it where there is one, else sorted from a copy.
+/// The set of a list that others may hold too: the one beside it where there is one, else sorted from a copy. `AllocError`
+/// comes where a growth was refused, or a list can have no owner more, which changes nothing.
 pub fn set_in<A: Allocator + Copy>(
     alloc: A,
     list: &Items<Report, A>,

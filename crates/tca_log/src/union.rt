@@ -67,7 +67,8 @@ impl<A: Allocator + Copy> Log<A> {
         count_new(&self.rows, set)
     }
 
-    /// Which reports of a set the log doesn't have, in their order. Where they are many it goes through both once.
+    /// Which reports of a set the log doesn't have, in their order. Where they are many it goes through both once. `AllocError`
+    /// comes where a growth was refused, which changes nothing.
     pub fn are_new(&self, set: &[Report]) -> Result<Vec<bool, A>, AllocError>
         requires { IsStrictlySortedBy report_cmp set.now }
         ensures { IfOk result (λ new. new.items ≡ map (λ q. not (has report_cmp self.now q)) set.now) }
@@ -112,7 +113,7 @@ impl<A: Allocator + Copy> Log<A> {
 
 impl<A: Allocator + Copy> Log<A> {
     /// Takes the reports of a list, where it has none, they ascend and are at most 4,194,304, and answers whether it did. It holds the list with its other owners
-    /// then, and takes memory for a copy, but makes none before another report comes. `Memory` where a growth was refused, which
+    /// then, and takes memory for a copy, but makes none before another report comes. `AllocError` comes where a growth was refused, which
     /// leaves the log as it was.
     pub fn take_shared(&mut self, list: &Items<Report, A>) -> Result<bool, AllocError>
         ensures new { IfOk result (λ took. took ≡ true → self.new ≡ list.now) }
@@ -144,7 +145,7 @@ impl<A: Allocator + Copy> Log<A> {
     /// Adds the reports of a list that may be shared, as `add_all` does. Where the log has none it holds their set with its other owners,
     /// if that is the list or stands beside it; else it takes the list, or a copy where it has other owners. `Full` comes only where the
     /// log would have more than 4,194,304 reports, and `Memory` where a growth was refused, also that of the copy; both leave the log
-    /// as it was.
+    /// as it was. Unlike `add_all` it may be refused memory also where nothing is new.
     pub fn add_list(&mut self, list: Items<Report, A>) -> Result<u32, LogFault>
         ensures ok { OnOk result (self.new ≡ after (Many list) self.old) }
         ensures count { IfOk result (λ n. n + length self.old ≡ length self.new) }

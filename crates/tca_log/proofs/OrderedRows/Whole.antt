@@ -8,9 +8,11 @@ use Rattle.std.proofs.lemmas.List.{get_or_default, append-nil}
 use Rattle.std.proofs.lemmas.List.Elements.{All-nil, All-cons}
 use Rattle.tca_join.specs.Sets.{has, put}
 use Rattle.tca_log.specs.inside.Chunks.{starts_after, joined, AreChunks, IsPosition}
-use Rattle.tca_log.specs.Rows.Ordered.{without, tied}
+use Rattle.tca_log.specs.Rows.Ordered.{without, without_each, tied}
+use Rattle.tca_log.proofs.OrderedRows.Each.{beyond_rises}
 use Rattle.tca_log.proofs.OrderedRows.Parts.{rises_front, rises_back, put_past, put_before, above_since}
 use Rattle.tca_log.proofs.OrderedRows.Positions.{below_start, chunk_rises, chunks_put, chunks_split, chunks_less, chunks_gone}
+use Rattle.tca_log.proofs.OrderedRows.Small.{one_list}
 use Rattle.tca_log.proofs.OrderedRows.Ties.{tied_place}
 use Rattle.std.specs.Prelude.{None}
 
@@ -73,6 +75,13 @@ module _ {K : Type 0} (R : K → K → Ordering) (o : IsTotalOrder R) where
   pub no_chunks : AreChunks R []
   unfolding IsStrictlySortedBy
   no_chunks = record { rises = tt; some = All-nil (λ (c : List K). 0 < length c) }
+
+  -- the only chunk, of which some members stay
+  pub only_less : (ks : List K) (cs : List (List K)) (c d : List K) → length cs ≡ 1 → AreChunks R cs → c ≡ get_or cs 0 c → d ≡ without_each R ks c → 0 < length d → AreChunks R (set cs 0 d)
+  only_less ks [] c d one a is less some = absurd (omega (arith, one))
+  only_less ks (x ∷ []) c d one a is less some =
+      one_list R d (subst (IsStrictlySortedBy R) (sym less) (beyond_rises R o ks c (subst (IsStrictlySortedBy R) (append-nil x ∙ sym is) a.rises))) some
+  only_less ks (x ∷ y ∷ cs) c d one a is less some = absurd (omega (arith, one))
 
   pub has_some : (cs : List (List K)) (k : K) → has R (joined cs) k ≡ true → (0 < length cs) × (0 < length (joined cs))
   unfolding has

@@ -4,8 +4,9 @@ ghost use Rattle.std.specs.List.{insert, remove};
 ghost use Rattle.std.specs.List.Sorted.{IsStrictlySortedBy, IsSearchInRange};
 ghost use Rattle.tca_join.specs.Sets.{has, put};
 ghost use Rattle.tca_log.specs.inside.Chunks.{IsStored, rows_of, starts_after};
-ghost use Rattle.tca_log.specs.Rows.Ordered.{without, rank, tied};
+ghost use Rattle.tca_log.specs.Rows.Ordered.{without, without_each, rank, tied};
 
+use crate::rows::Rows;
 use crate::rows::near::told_at;
 use std::alloc::{AllocError, Allocator};
 use std::marker::Model;
@@ -266,6 +267,18 @@ impl<K: Ord + Copy, A: Allocator> Chunk<K, A> {
         let half = self.rows.len() / 2;
         let _ = upper.rows.extend_from_slice(&self.rows[half..]);
         self.rows.truncate(half);
+    }
+}
+
+impl<K: Ord + Copy, A: Allocator + Copy> Chunk<K, A> {
+    /// Takes away each row that ties with one of a container. It goes through its rows once, and takes no memory.
+    pub(crate) fn withdraw_all(&mut self, others: &Rows<K, A>)
+        ensures { self.new ≡ without_each K.cmp others.now.rows self.old }
+    {
+        copy_shared(&mut self.rows, &mut self.shared);
+        let mut near = 0;
+        self.rows
+            .retain(move |row| !others.has_near(&mut near, row));
     }
 }
 
