@@ -48,6 +48,11 @@ pub list_first : (l : List PacketReport) (held : ℕ → List PacketReport) → 
 unfolding rests reports_in
 list_first l held = sym (append-nil l)
 
+-- a run that has nothing past its chain
+pub none_more : (es : List (ℕ × ChainView PacketReport)) (origin : ℕ) (rest : List PacketReport) → rest ≡ [] → (q : ℕ) → held_of es q ≡ held_of es q ++ of q (with_origin origin rest)
+unfolding of with_origin
+none_more es origin rest none q = sym (append-nil (held_of es q)) ∙ ap (λ (l : List PacketReport). held_of es q ++ of q (with_origin origin l)) (sym none)
+
 -- one run more
 module _ (es fs : List (ℕ × ChainView PacketReport)) (runs : List RunView) (i : ℕ) (r : RunView) (h : i < length runs) (is : r ≡ get_or runs i r) (are : AreRuns runs)
     (so_far : (q : ℕ) → held_of fs q ≡ held_of es q ++ of q (rests (held_of es) (take i runs))) where

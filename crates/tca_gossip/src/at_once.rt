@@ -2,8 +2,8 @@
 //!
 //! The chains get those that are new, or a copy of the chains does, which then takes their place; the log gets them too, and no book is kept.
 //! Reports are sorted once, and metered when the bill is asked, where one by one each report is searched for, put in its place and noted
-//! in its lane. Where there is no room for that nothing has changed, so the reports can still be taken one by one, which names the
-//! first that has no room.
+//! in its lane. They go in at once only where they are many beside all that is copied, merged or metered for them. Where there is no room
+//! for that nothing has changed, so the reports can still be taken one by one, which names the first that has no room.
 ghost use Rattle.std.specs.Prelude.{◌≡◌, ℕ, ◌+◌, ◌/◌, ◌≤◌, max, ◌++◌, length, true, false, IfOk, IfSome, OnErr, OnOk, None};
 ghost use Rattle.std.specs.List.Sorted.{IsStrictlySortedBy};
 ghost use Rattle.tca_join.specs.Sets.{in_order};
@@ -14,7 +14,7 @@ ghost use Rattle.tca_gossip.specs.inside.Storage.{held_of};
 ghost use Rattle.tca_join.specs.Chains.{most_items};
 ghost use Rattle.tca_join.specs.Maps.{Rises};
 
-use crate::chains::{extend, held_of};
+use crate::chains::{count_all, extend, held_of};
 use crate::contents::Contents;
 use crate::fresh::fresh_in;
 use crate::run::Run;
@@ -27,14 +27,17 @@ use tca_report::Report;
 /// The least list that is taken at once, whatever the log is.
 const LEAST: usize = 1_024;
 
+/// Of what is copied, merged or metered for reports, one in so many must be among them.
+const PART: usize = 8;
+
 // A `let _rises` is a call for its clause alone: that keys ascend.
 
-// The least list that is taken at once beside a log: an eighth of it, since the chains are copied, and the whole
-// log is merged and metered, for the list.
+// The least list that is taken at once beside a log: an eighth of it, since the whole log is merged and metered for the list. The own
+// chain is copied too, and is no longer than the log, since each of its reports was new there.
 fn least_beside(log: &Log) -> usize
     ensures { result ≡ max 1024 (length log.now / 8) }
 {
-    LEAST.max(log.len() as usize / 8)
+    LEAST.max(log.len() as usize / PART)
 }
 
 impl Contents {
@@ -91,7 +94,8 @@ impl Contents {
         self.put_fresh(fresh, set)
     }
 
-    // Takes all reports of a list that ascends, where none is held yet, and answers whether it did. The log and the own chain share the list.
+    // Takes all reports of a list that ascends, where none is held yet, and answers whether it did. The log and the own chain share the
+    // list. All chains are copied, but where the log has no report they have none either, since the log is the set of theirs.
     fn take_ascending(&mut self, reports: &Items<Report>) -> Result<bool, AllocError>
         ensures state { IfOk result (λ took. took ≡ true → self.new.replica ≡ taken self.old.replica reports.now) }
         ensures fresh { IfOk result (λ took. took ≡ true → fresh_of self.old.replica.log reports.now ≡ reports.now) }
@@ -141,14 +145,17 @@ impl Contents {
     }
 
     /// Appends what runs have past the chains at once, where this is how many reports that is, and answers whether it did. It doesn't
-    /// where they are few beside the log, or where there is no room, and then nothing has changed.
+    /// where they are few beside the log or beside what all chains hold, or where there is no room, and then nothing has changed.
+    ///
+    /// All chains are copied for it, and they may hold far more than the log: another origin's chain may have one report any number
+    /// of times.
     pub(crate) fn append_at_once(&mut self, runs: &[Run], count: u64) -> bool
         requires right { AreRuns runs.now }
         requires good { first_fault self.old.replica.name (chain_of self.old.replica) runs.now ≡ None }
         ensures state { result ≡ true → self.new.replica ≡ appended self.old.replica (rests (chain_of self.old.replica) runs.now) }
         ensures same { result ≡ false → self.new ≡ self.old }
     {
-        if count < least_beside(&self.log) as u64 {
+        if count < least_beside(&self.log) as u64 || count < count_all(&self.chains) / PART as u64 {
             return false;
         }
         match self.append_whole(runs) {
@@ -208,7 +215,7 @@ fn extended_copy(
     Ok(all)
 }
 
-// Appends what a run has past the chain of its origin, and answers with it.
+// Appends what a run has past the chain of its origin, and answers with it. Where that is nothing no chain is made.
 fn extend_one(
     alloc: Global,
     chains: &mut ByKey<Chain<Report>>,
@@ -220,7 +227,9 @@ fn extend_one(
 {
     let origin = run.origin();
     let rest = run.rest(alloc, held_of(chains, origin).len())?;
-    extend(chains, origin, rest.share()?)?;
+    if rest.len() > 0 {
+        extend(chains, origin, rest.share()?)?;
+    }
     Ok(rest)
 }
 

@@ -1,5 +1,5 @@
 //! The chains of a replica, by origin.
-ghost use Rattle.std.specs.Prelude.{◌≡◌, ℕ, ◌+◌, ◌<◌, ◌≤◌, [], ◌∷◌, ◌++◌, length, OnOk, OnErr, Some, true};
+ghost use Rattle.std.specs.Prelude.{◌≡◌, ℕ, ◌+◌, ◌-◌, ◌^◌, ◌<◌, ◌≤◌, [], ◌∷◌, ◌++◌, length, min, sum_by, OnOk, OnErr, Some, true};
 ghost use Rattle.tca_join.specs.Chains.{chain, most_items};
 ghost use Rattle.tca_join.specs.Maps.{Rises, get, put};
 ghost use Rattle.tca_gossip.specs.Replicas.{of, with_origin};
@@ -23,6 +23,17 @@ pub(crate) fn held_of(chains: &ByKey<Chain<Report>>, origin: u32) -> &[Report]
         }
         None => &[],
     }
+}
+
+/// How many reports all chains hold together, at most 18,446,744,073,709,551,615.
+pub(crate) fn count_all(chains: &ByKey<Chain<Report>>) -> u64
+    ensures { result ≡ min (sum_by (λ e. length e.1.items) chains.now) (2 ^ 64 - 1) }
+{
+    let mut count: u64 = 0;
+    for entry in chains.entries() {
+        count = count.saturating_add(entry.1.len() as u64);
+    }
+    count
 }
 
 /// Makes room for one report more in the chain of an origin. No chain gets or loses a report, also on a refusal.

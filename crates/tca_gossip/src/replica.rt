@@ -23,9 +23,9 @@ use tca_report::Report;
 /// What one collector holds: for each origin a chain of reports, in the order in which they were new there, and the log that is
 /// the set of them all. Its own chain is what its own `take` got new.
 ///
-/// A book beside the log keeps the bill, so that a late report costs what follows it and not the whole history. After a list that
-/// was taken at once, and after a merge, there is no book until a single report comes or `keep_book` is called, and the bill is made
-/// from the log when it is asked.
+/// A book beside the log keeps the bill, so that a late report costs what follows it and not the whole history. After new reports of
+/// a list were taken at once, or those of a delta absorbed at once, and after a merge, there is no book until a single report that is
+/// new to its chain comes or `keep_book` is called, and the bill is made from the log when it is asked.
 #[derive(Drop)]
 pub struct Replica {
     contents: Contents,
@@ -43,7 +43,8 @@ impl Model for Replica {
 }
 
 impl Replica {
-    /// A replica of this name that holds nothing. All replicas that tell each other have one plan and distinct names.
+    /// A replica of this name that holds nothing. All replicas that tell each other have one plan and distinct names. `AllocError` comes
+    /// where a growth was refused, and the plan is dropped then.
     pub fn new(alloc: Global, name: u32, plan: Plan) -> Result<Replica, AllocError>
         ensures { IfOk result (λ r. r ≡ new_replica plan name) }
     {
@@ -119,7 +120,8 @@ impl Replica {
     /// `OwnAhead`, `Gap` and `Forked` are tested run by run, in this order, before any change, and change nothing. `Stopped` says how
     /// many of the new reports were appended, and why the log didn't take the next one. A delta with nothing new takes no memory.
     ///
-    /// Where the new reports are many beside the log they are appended at once, which costs less and answers the same.
+    /// Where the new reports are many beside the log and beside all chains they are appended at once, which costs less and answers the
+    /// same.
     pub fn absorb(&mut self, delta: &Delta) -> Result<u64, AbsorbFault>
         ensures state { self.new ≡ absorbed self.old delta.now (outcome_of result) }
         ensures outcome { IsOutcome self.old.name (chain_of self.old) delta.now (outcome_of result) }
@@ -130,7 +132,8 @@ impl Replica {
         outcome
     }
 
-    /// How long each chain is that holds something, by origin.
+    /// How long each chain is that holds something, by origin. `AllocError` comes where a growth was refused, and leaves the replica as
+    /// it was.
     pub fn summary(&self) -> Result<Summary, AllocError>
         ensures exact { IfOk result (λ s. s ≡ counts_of self.now.chains) }
         ensures each { IfOk result (λ s. (o : ℕ) → summary_count s o ≡ length (chain_of self.now o)) }
@@ -138,7 +141,8 @@ impl Replica {
         self.contents.summary()
     }
 
-    /// For each origin of which more is held than the summary counts, the run of the rest.
+    /// For each origin of which more is held than the summary counts, the run of the rest. `AllocError` comes where a growth was
+    /// refused, and leaves the replica as it was.
     pub fn delta(&self, since: &Summary) -> Result<Delta, AllocError>
         ensures { IfOk result (λ d. d ≡ delta_of (summary_count since.now) self.now.chains) }
     {
@@ -181,7 +185,8 @@ impl Replica {
         self.contents.keeps_book()
     }
 
-    /// The bill of the log under the plan: read from the book where one is kept, else metered from the whole log.
+    /// The bill of the log under the plan: read from the book where one is kept, else metered from the whole log. `AllocError` comes
+    /// where a growth was refused, and leaves the replica as it was.
     pub fn totals(&self) -> Result<Bill, AllocError>
         ensures { IfOk result (λ bill. bill ≡ bill_of self.now.plan self.now.log) }
     {

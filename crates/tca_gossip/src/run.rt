@@ -113,7 +113,7 @@ impl Run {
         true
     }
 
-    /// The same run once more. It shares the list.
+    /// The same run once more. It shares the list. `AllocError` comes where a growth was refused, and leaves this run as it was.
     pub fn copy(&self) -> Result<Run, AllocError>
         ensures { IfOk result (λ r. r ≡ self.now) }
     {
@@ -124,7 +124,7 @@ impl Run {
         })
     }
 
-    /// The same runs once more.
+    /// The same runs once more. `AllocError` comes where a growth was refused, and leaves these runs as they were.
     pub fn copies(alloc: Global, runs: &[Run]) -> Result<Vec<Run>, AllocError>
         ensures { IfOk result (λ list. list.items ≡ runs.now) }
     {
@@ -189,7 +189,7 @@ impl Delta {
         Run::are_same(&self.runs, &other.runs)
     }
 
-    /// The same delta once more.
+    /// The same delta once more. `AllocError` comes where a growth was refused, and leaves this delta as it was.
     pub fn copy(&self, alloc: Global) -> Result<Delta, AllocError>
         ensures { IfOk result (λ d. d ≡ self.now) }
     {

@@ -164,22 +164,22 @@ impl World {
         if self.sent.len() >= MESSAGES {
             return Reply::Nothing;
         }
-        match self.place(at) {
-            Some(i) => match self.sent.get(message as usize) {
-                Some(Message::Counts(counts)) => match self.replicas[i].delta(counts) {
-                    Ok(delta) => {
-                        // For its clause alone: the runs of a delta are right.
-                        let _right = delta.runs();
-                        match self.send(Message::Parts(delta)) {
-                            Some(number) => Reply::Sent(number),
-                            None => Reply::NoMemory,
-                        }
+        let Some(i) = self.place(at) else {
+            return Reply::Nothing;
+        };
+        match self.sent.get(message as usize) {
+            Some(Message::Counts(counts)) => match self.replicas[i].delta(counts) {
+                Ok(delta) => {
+                    // For its clause alone: the runs of a delta are right.
+                    let _right = delta.runs();
+                    match self.send(Message::Parts(delta)) {
+                        Some(number) => Reply::Sent(number),
+                        None => Reply::NoMemory,
                     }
-                    Err(_) => Reply::NoMemory,
-                },
-                Some(Message::Parts(_)) => Reply::Nothing,
-                None => Reply::Nothing,
+                }
+                Err(_) => Reply::NoMemory,
             },
+            Some(Message::Parts(_)) => Reply::Nothing,
             None => Reply::Nothing,
         }
     }

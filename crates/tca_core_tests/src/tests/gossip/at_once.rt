@@ -30,16 +30,14 @@ fn takes(alloc: Global, replica: &mut Replica, from: u32) -> Option<Outcome> {
     Some(took(&replica.take(&list)))
 }
 
-fn long_run(alloc: Global) -> Option<Delta> {
+// A delta of one run, from the start of the chain of its origin.
+fn run_of(alloc: Global, origin: u32, reports: Vec<Report>) -> Option<Delta> {
     let mut runs = Vec::new(alloc);
-    let Some(reports) = long_list(alloc, 1000, 2000) else {
-        return None;
-    };
     let Ok(reports) = Items::of(alloc, reports) else {
         return None;
     };
     let run = Run {
-        origin: 2,
+        origin,
         start: 0,
         reports,
     };
@@ -47,6 +45,13 @@ fn long_run(alloc: Global) -> Option<Delta> {
         return None;
     }
     Delta::of(runs)
+}
+
+fn long_run(alloc: Global) -> Option<Delta> {
+    let Some(reports) = long_list(alloc, 1000, 2000) else {
+        return None;
+    };
+    run_of(alloc, 2, reports)
 }
 
 // Whether a replica has the log and the plain bill of so many places.
@@ -137,7 +142,8 @@ fn there_and_back(alloc: Global, list: &[Report]) -> Option<Vec<Report>> {
     Some(all)
 }
 
-// Of reports that stand twice in a long list each goes once into the chain, in the order in which they came first.
+// Of reports that stand twice in a long list each goes once into the chain, in the order in which they came first. They go in at once:
+// a new replica keeps a book, and then there is none.
 fn takes_twice(alloc: Global, one: &mut Replica) -> bool {
     let Some(list) = long_list(alloc, 0, 600) else {
         return false;
@@ -145,7 +151,9 @@ fn takes_twice(alloc: Global, one: &mut Replica) -> bool {
     let Some(all) = there_and_back(alloc, &list) else {
         return false;
     };
-    took(&one.take(&all)) == Outcome::Took(1200, 600, None)
+    one.keeps_book()
+        && took(&one.take(&all)) == Outcome::Took(1200, 600, None)
+        && !one.keeps_book()
         && one.chain(1).len() == 600
         && all.starts_with(one.chain(1))
         && bills(alloc, one, 600)
@@ -216,4 +224,56 @@ fn books(alloc: Global) -> Option<bool> {
 #[test]
 fn a_book_is_kept_where_one_is_asked_for(rt: HostRuntime) {
     assert!(rt; books(rt.alloc()) == Some(true));
+}
+
+// One report, so many times.
+fn repeated(alloc: Global, count: u32) -> Option<Vec<Report>> {
+    let mut list = Vec::new(alloc);
+    for _ in 0..count {
+        let Some(report) = report((0, 0, 1)) else {
+            return None;
+        };
+        if list.push(report).is_err() {
+            return None;
+        }
+    }
+    Some(list)
+}
+
+// Another origin says one report so often that the chains are far longer than the log. That goes in at once.
+fn absorbs_repeated(alloc: Global, one: &mut Replica) -> bool {
+    let Some(list) = repeated(alloc, 10000) else {
+        return false;
+    };
+    let Some(sent) = run_of(alloc, 2, list) else {
+        return false;
+    };
+    absorbed(&one.absorb(&sent)) == Outcome::Absorbed(10000)
+        && !one.keeps_book()
+        && holds(one) == Outcome::Holds(1, [0, 10000, 0])
+}
+
+// A run that is long beside the log but not beside the chains goes in one by one, which makes a book.
+fn absorbs_beside(alloc: Global, one: &mut Replica) -> bool {
+    let Some(list) = long_list(alloc, 0, 1100) else {
+        return false;
+    };
+    let Some(sent) = run_of(alloc, 3, list) else {
+        return false;
+    };
+    absorbed(&one.absorb(&sent)) == Outcome::Absorbed(1100)
+        && one.keeps_book()
+        && holds(one) == Outcome::Holds(1100, [0, 10000, 1100])
+}
+
+fn goes_beside(alloc: Global) -> Option<bool> {
+    let Some(mut one) = replica_under(alloc, PLAN, 1) else {
+        return None;
+    };
+    Some(absorbs_repeated(alloc, &mut one) && absorbs_beside(alloc, &mut one))
+}
+
+#[test]
+fn a_run_that_is_short_beside_the_chains_goes_one_by_one(rt: HostRuntime) {
+    assert!(rt; goes_beside(rt.alloc()) == Some(true));
 }

@@ -39,7 +39,7 @@ returns-in-Some-Parts-clause-steps c m coupled =
     answer_wrong c.args.self.now m coupled c.args.at c.args.message c.in-Some-Parts.field-0-0
     (sym (message_seen c.args.self.now c.self.inside.plan c.self.inside.replicas.items c.self.inside.sent.items c.self.view_is c.args.message) ∙ ap (λ l. slice_get (map message_view l) c.args.message) (sym c.deref.ensures.value) ∙ message_there c.deref.result.now c.args.message c.in-Some-Parts.field-0.now c.in-Some-Parts.ensures.lookup.3.0 c.in-Some-Parts.ensures.lookup.1 ∙ ap (λ z. Some (message_view z)) c.in-Some-Parts.field-0-is)
 
-pub returns-in-None-get-clause-steps : goal.returns-in-None-get-clause-steps
-returns-in-None-get-clause-steps c m coupled =
+pub returns-in-None-clause-steps : goal.returns-in-None-clause-steps
+returns-in-None-clause-steps c m coupled =
     answer_no_message c.args.self.now m coupled c.args.at c.args.message
-    (sym (message_seen c.args.self.now c.self.inside.plan c.self.inside.replicas.items c.self.inside.sent.items c.self.view_is c.args.message) ∙ ap (λ l. slice_get (map message_view l) c.args.message) (sym c.deref.ensures.value) ∙ no_message c.deref.result.now c.args.message c.in-None-get.ensures.lookup.3)
+    (sym (message_seen c.args.self.now c.self.inside.plan c.self.inside.replicas.items c.self.inside.sent.items c.self.view_is c.args.message) ∙ ap (λ l. slice_get (map message_view l) c.args.message) (sym c.deref.ensures.value) ∙ no_message c.deref.result.now c.args.message c.in-None.ensures.lookup.3)
