@@ -4,15 +4,15 @@ use Rattle.std.specs.List.{AllByRecursion, AllZip, remove}
 use Rattle.std.specs.List.Sorted.{IsPermutation}
 use Rattle.std.proofs.lemmas.List.{take_all, take_more, append-nil, append_assoc}
 use Rattle.std.proofs.lemmas.Option.{slice_get-get_or, slice_get_within}
-use Rattle.std.proofs.lemmas.List.Sorted.{IsPermutation-map, IsPermutation-remove, IsPermutation-sym, IsPermutation-trans, IsPermutation-append_right}
+use Rattle.std.proofs.lemmas.List.Sorted.{IsPermutation-map, IsPermutation-middle, IsPermutation-refl, IsPermutation-remove, IsPermutation-sym, IsPermutation-trans, IsPermutation-append_right}
 use denote.Bor.{Bor}
 use Rattle.tca_report.specs.input.Inputs.{input_view}
 use Rattle.tca_report.specs.declared.input.Input.{Input}
 use Rattle.tca_report.specs.declared.input.Notes.{Notes}
 use Rattle.tca_ingest.specs.Entries.{EntryView}
-use Rattle.tca_ingest.specs.EntryViews.{entry_view}
+use Rattle.tca_ingest.specs.EntryViews.{entry_view, entry_views}
 use Rattle.tca_ingest.specs.Passes.{PassView}
-use Rattle.tca_ingest.specs.Works.{AreBack, AreBackAll, AreNumberedFrom, AreResults, AreLentResults, AreResultsAt, AreUnused, HasNoPlace, HaveMore, IsEntriesFault, IsLackedBy, IsLacking, IsOfJobs, IsPlaceFault, IsResult, IsResultAt, IsWithoutResult, Place, ResultView, entries_in, entry_in, all_calls, views_of}
+use Rattle.tca_ingest.specs.Works.{AreBack, AreBackAll, AreNumberedFrom, AreResults, AreLentResults, AreResultsAt, AreUnused, HasNoPlace, HaveMore, IsEntriesFault, IsLackedBy, IsLacking, IsOfJobs, IsPlaceFault, IsResult, IsResultAt, IsWithoutResult, Place, ResultView, calls_left, entries_in, entry_in, all_calls, views_of}
 use Rattle.tca_ingest.specs.declared.entry.Entry.{Entry}
 use Rattle.tca_ingest.specs.declared.entry.Receipt.{Receipt}
 use Rattle.tca_ingest.specs.declared.fault.WorkFault.{WorkFault}
@@ -80,6 +80,35 @@ pub strikes : (xs ys : List (Bor Entry)) (i : ℕ) (x : Bor Entry) (e : EntryVie
 strikes xs ys i x e low is says rest =
     let whole = IsPermutation-map (λ (b : Bor Entry). entry_view b.now) xs (x ∷ remove xs i) (IsPermutation-remove xs i x low is) in
     subst (λ zs. IsPermutation (views_of xs) (e ∷ views_of zs)) (sym rest) (subst (λ s. IsPermutation (views_of xs) (s ∷ views_of (remove xs i))) says whole)
+
+-- one list of calls more
+calls_left-push : (ls : List (Bor (List Entry))) (l : Bor (List Entry)) → calls_left (ls ++ l ∷ []) ≡ calls_left ls ++ entry_views l.now
+unfolding calls_left
+calls_left-push [] l = append-nil (entry_views l.now)
+calls_left-push (x ∷ ls) l = ap (λ es. entry_views x.now ++ es) (calls_left-push ls l) ∙ sym (append_assoc (entry_views x.now) (calls_left ls) (entry_views l.now))
+
+pub list_more : (old new : List (Bor (List Entry))) (l : Bor (List Entry)) → new ≡ old ++ l ∷ [] → calls_left new ≡ calls_left old ++ entry_views l.now
+list_more old new l more = ap calls_left more ∙ calls_left-push old l
+
+none_in : (es : List Entry) → length es ≡ 0 → entry_views es ≡ []
+none_in [] none = refl
+none_in (e ∷ es) none = absurd cc
+
+-- one list more of which nothing is left
+pub none_more : (ls : List (Bor (List Entry))) (i : ℕ) (x : Bor (List Entry)) → i < length ls → x ≡ get_or ls i x → length x.now ≡ 0 → calls_left (take i ls) ≡ [] → calls_left (take (i + 1) ls) ≡ []
+none_more ls i x low is none so_far =
+    ap calls_left (take_more ls i x low) ∙ calls_left-push (take i ls) (get_or ls i x) ∙ ap (λ es. es ++ entry_views (get_or ls i x).now) so_far ∙ ap (λ (l : Bor (List Entry)). entry_views l.now) (sym is) ∙ none_in x.now none
+
+-- the list at this place begins with e, and l' comes after it
+pub front_taken : (ls : List (Bor (List Entry))) (at : ℕ) (l l' : Bor (List Entry)) (e : EntryView) → at < length ls → l ≡ get_or ls at l → entry_views l.now ≡ e ∷ entry_views l'.now → IsPermutation (calls_left ls) (e ∷ calls_left (set ls at l'))
+unfolding calls_left
+front_taken [] at l l' e low is begins = absurd (omega (arith, low))
+front_taken (x ∷ ls) zero l l' e low is begins =
+    subst (λ es. IsPermutation (es ++ calls_left ls) (e ∷ (entry_views l'.now ++ calls_left ls))) (sym begins ∙ ap (λ (b : Bor (List Entry)). entry_views b.now) is) (IsPermutation-refl (e ∷ (entry_views l'.now ++ calls_left ls)))
+front_taken (x ∷ ls) (suc at) l l' e low is begins =
+    let before = entry_views x.now in
+    let rest = calls_left (set ls at l') in
+    IsPermutation-trans (before ++ calls_left ls) (before ++ e ∷ rest) (e ∷ (before ++ rest)) (IsPermutation-append_right before (calls_left ls) (e ∷ rest) (front_taken ls at l l' e (omega (arith, low)) is begins)) (IsPermutation-middle before e rest)
 
 -- the results up to the next one
 pub strike_more : (ds : List Done) (i : ℕ) (d : Done) (old new all : List EntryView) → i < length ds → IsPermutation (entries_in (take i ds) ++ old) all → IsPermutation old (entry_in (get_or ds i d).result ++ new)
@@ -155,6 +184,12 @@ taken_place inputs places r x low is some = let found = result_there x some in i
 
 pub other_input : (inputs : List (Bor Input)) (places : List Place) (r : ResultView) (b : Bor Input) → r.job < length inputs → b ≡ get_or inputs r.job b → input_view b.now ≢ r.input → HasNoPlace inputs places r
 other_input inputs places r b low is other = inr (inr (b, slice_get-get_or inputs r.job b low ∙ ap Some (sym is), other))
+
+-- nothing is left
+pub none_left : (done : List Done) (n : ℕ) (left all : List EntryView) → length done ≤ n → IsPermutation (entries_in (take n done) ++ left) all → left ≡ [] → IsPermutation (entries_in done) all
+none_left done n left all whole are none =
+    let rest : entries_in (take n done) ++ left ≡ entries_in done = ap (λ es. entries_in (take n done) ++ es) none ∙ append-nil (entries_in (take n done)) ∙ ap entries_in (take_all n done whole) in
+    subst (λ es. IsPermutation es all) rest are
 
 -- more entries are left
 pub have_more : (done : List Done) (passes : List PassView) (n : ℕ) (left : List (Bor Entry)) → length done ≤ n → IsPermutation (entries_in (take n done) ++ views_of left) (all_calls passes) → length left ≢ 0 → HaveMore done passes

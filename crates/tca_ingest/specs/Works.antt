@@ -12,7 +12,7 @@ use Rattle.tca_report.specs.declared.input.InputFault.{InputFault}
 use Rattle.tca_report.specs.declared.input.InputFault.TheVariants.{Memory}
 use Rattle.tca_report.specs.declared.input.Notes.{Notes}
 use Rattle.tca_ingest.specs.Entries.{EntryView, pass_of}
-use Rattle.tca_ingest.specs.EntryViews.{entry_view}
+use Rattle.tca_ingest.specs.EntryViews.{entry_view, entry_views}
 use Rattle.tca_ingest.specs.Passes.{PassView}
 use Rattle.tca_ingest.specs.Shares.{IsNoted, IsTake}
 use Rattle.tca_ingest.specs.declared.entry.Entry.{Entry}
@@ -89,6 +89,11 @@ entries_in (d ∷ ds) = entry_in d.result ++ entries_in ds
 unfoldable pub all_calls : List PassView → List EntryView
 all_calls [] = []
 all_calls (p ∷ ps) = p.calls ++ all_calls ps
+
+-- what is left of lists of calls, one list after another
+unfoldable pub calls_left : List (Bor (List Entry)) → List EntryView
+calls_left [] = []
+calls_left (l ∷ ls) = entry_views l.now ++ calls_left ls
 
 -- the calls of each pass have its number
 abbrev pub AreOwn : List PassView → Type 0

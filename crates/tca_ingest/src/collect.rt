@@ -12,6 +12,7 @@ ghost use Rattle.tca_ingest.specs.Works.{AreNumbered, AreOwn, AreResultsAt, AreL
 
 use crate::entry::{Entry, Receipt};
 use crate::fault::WorkFault;
+use crate::in_order::are_in_order;
 use crate::job::{Done, JobFault, JobResult};
 use crate::pass::Pass;
 use crate::side::Side;
@@ -121,7 +122,8 @@ fn put(done: &mut Vec<Done>, one: Done) -> Result<(), WorkFault>
 }
 
 /// Why the passes don't have just the entries of the receipts, each as often: `Stranger` names the least job whose entry they lack,
-/// or else, where they have more, the number of jobs.
+/// or else, where they have more, the number of jobs. Where each pass has its entries in the order of the jobs, as workers leave them, each
+/// entry is looked at once. Else each job's is sought among all that are left.
 #[tactic(auto, unfolding(crate::specs::Works::entries_in))]
 pub(crate) fn stranger_of<L: Side>(
     alloc: Global,
@@ -133,6 +135,9 @@ pub(crate) fn stranger_of<L: Side>(
     ensures fault { IfSome result (λ f. f ≢ WorkFault.PassesOut) }
     ensures stranger { IfSome result (IsEntriesFault done.now passes.now) }
 {
+    if are_in_order(alloc, done, passes) {
+        return None;
+    }
     let Ok(mut left) = calls_in(alloc, passes) else {
         return Some(WorkFault::Memory);
     };

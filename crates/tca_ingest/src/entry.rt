@@ -149,7 +149,8 @@ impl Entry {
         }
     }
 
-    /// The same entry once more.
+    /// The same entry once more. Its reports are shared, not copied. `AllocError` comes where a growth was refused, and this entry stays
+    /// as it is.
     pub fn copy(&self, alloc: Global) -> Result<Entry, AllocError>
         ensures { IfOk result (λ e. entry_view e ≡ entry_view self.now) }
     {

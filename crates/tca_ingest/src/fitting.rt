@@ -7,12 +7,12 @@ ghost use Rattle.tca_ingest.specs.CloseFaults.{IsCloseFault};
 
 use crate::entry::Entry;
 use crate::fault::CloseFault;
-use crate::held::Held;
+use crate::held::{Held, MOST_PASSES};
 use crate::pass::Pass;
 use crate::side::Side;
 
 // The numbers of passes are below this.
-const NUMBERS: usize = 65_536;
+const NUMBERS: usize = MOST_PASSES as usize;
 
 /// Passes have no more entries than the journal: each entry was counted in its ledger when it was written down in both.
 pub(crate) fn within<L: Side>(held: Held<L>, passes: Vec<Pass<L>>) -> (Held<L>, Vec<Pass<L>>)

@@ -22,8 +22,8 @@ use tca_report::Report;
 /// At most as many entries of a journal.
 pub(crate) const MOST_ENTRIES: usize = 1 << 20;
 
-/// At most as many passes of a replica.
-const MOST_PASSES: u32 = 65_536;
+/// At most as many passes of a replica, whose numbers are below this.
+pub(crate) const MOST_PASSES: u32 = 65_536;
 
 /// A replica with its journal, the count of its passes, and the book of a ledger in which each pass has a share: the book's total is
 /// how many entries the journal has, and the share's amount how many the list of the pass has.
@@ -55,7 +55,8 @@ impl<L: Side> Model for Held<L> {
 }
 
 impl<L: Side> Held<L> {
-    /// A new replica of this name and plan, with an empty journal and no passes.
+    /// A new replica of this name and plan, with an empty journal and no passes. `AllocError` comes where a growth was refused: then there
+    /// is no replica, and plan and blank are gone.
     pub fn new(alloc: Global, blank: Blank, name: u32, plan: Plan) -> Result<Held<L>, AllocError>
         requires name { blank.name ≡ L.name }
         requires parts { (blank.parts ≡ L.parts) × (L.parts ≡ ledger_parts) }

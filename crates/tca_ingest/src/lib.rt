@@ -16,7 +16,7 @@
 //! - `close`: what comes of passes that are given back; `fitting`: whether they are all that there were; `closed`: many replicas
 //!   that nobody shares any more;
 //! - `workers`: threads that take inputs into a replica; `worker`: what one of them does; `job`: one input and what came of it; `collect`:
-//!   the results of all; `gate`: what is called as they go;
+//!   the results of all; `in_order`: whether each pass has its entries in the order of the jobs; `gate`: what is called as they go;
 //! - `fault`: why a call, a close or a run of workers is refused;
 //! - `laws`: what a journal says of its replica and of its passes.
 #![tactic(auto)]
@@ -30,6 +30,7 @@ mod fault;
 mod fitting;
 mod gate;
 mod held;
+mod in_order;
 mod job;
 mod laws;
 mod note;

@@ -18,14 +18,16 @@ use tca_join::Items;
 use tca_report::Report;
 
 /// A replica behind a lock, with its journal. Each call takes the lock, which may wait, makes the `Held`'s call of its name, and
-/// lets go. On a refusal no entry was made and nothing changed.
+/// lets go. It is refused as that call is: one that makes an entry with `JournalFull` where the journal has 1,048,576 entries, and with
+/// `Memory` where a growth was refused for the entry or for the answer in it. On a refusal no entry was made and nothing changed.
 #[derive(Drop)]
 pub struct Shared<L: Side> {
     pub(crate) held: Mutex<Held<L>>,
 }
 
 impl<L: Side> Shared<L> {
-    /// A new replica of this name and plan. `AllocError` comes where a growth was refused.
+    /// A new replica of this name and plan. `AllocError` comes where a growth was refused: then there is no replica, and plan and blank
+    /// are gone.
     pub fn new(alloc: Global, blank: Blank, name: u32, plan: Plan) -> Result<Shared<L>, AllocError>
         requires name { blank.name ≡ L.name }
         requires parts { (blank.parts ≡ L.parts) × (L.parts ≡ ledger_parts) }
@@ -38,7 +40,7 @@ impl<L: Side> Shared<L> {
         })
     }
 
-    /// A new pass. `PassesOut` comes where 65,536 passes were made.
+    /// A new pass. `PassesOut` comes where 65,536 passes were made, and no other fault.
     pub fn pass<R: Wait>(&self, rt: &R) -> Result<Pass<L>, ShareFault>
         ensures ok { IfOk result (λ p. p.calls ≡ []) }
         ensures fault { IfErr result (λ f. f ≡ ShareFault.PassesOut) }
@@ -46,7 +48,8 @@ impl<L: Side> Shared<L> {
         self.held.lock(rt).pass()
     }
 
-    /// Takes reports. The entry lists the first of them, all exactly where it did not stop.
+    /// Takes reports. The entry lists the first of them, all exactly where it did not stop. `Memory` comes where a growth was refused for
+    /// the entry. One that the replica was refused stands in the entry.
     pub fn take<R: Wait>(
         &self,
         rt: &R,
@@ -80,7 +83,7 @@ impl<L: Side> Shared<L> {
         held.take_list(mine, reports)
     }
 
-    /// The bill.
+    /// The bill. `Memory` comes where a growth was refused for it or for the entry.
     pub fn statement<R: Wait>(&self, rt: &R, mine: &mut Pass<L>) -> Result<Receipt, ShareFault>
         ensures noted { IfOk result (λ r. IsNoted mine.old mine.new (entry_view r.entry) r.front) }
         ensures exact { IfOk result (λ r. IsStatement mine.old.number (entry_view r.entry)) }
@@ -90,7 +93,8 @@ impl<L: Side> Shared<L> {
         self.held.lock(rt).statement(mine)
     }
 
-    /// Absorbs a delta. The entry has its runs.
+    /// Absorbs a delta. The entry has its runs and the replica's answer, and so a growth that the replica was refused. `Memory` comes where
+    /// one was refused for the entry.
     pub fn absorb<R: Wait>(
         &self,
         rt: &R,
@@ -105,7 +109,7 @@ impl<L: Side> Shared<L> {
         self.held.lock(rt).absorb(mine, delta)
     }
 
-    /// How long each chain is.
+    /// How long each chain is. `Memory` comes where a growth was refused for the summary or for the entry.
     pub fn summary<R: Wait>(&self, rt: &R, mine: &mut Pass<L>) -> Result<Receipt, ShareFault>
         ensures noted { IfOk result (λ r. IsNoted mine.old mine.new (entry_view r.entry) r.front) }
         ensures exact { IfOk result (λ r. IsSummaryEntry mine.old.number (entry_view r.entry)) }
@@ -115,7 +119,7 @@ impl<L: Side> Shared<L> {
         self.held.lock(rt).summary(mine)
     }
 
-    /// What is held past a summary. The entry has the summary too.
+    /// What is held past a summary. The entry has the summary too. `Memory` comes where a growth was refused for the delta or for the entry.
     pub fn delta<R: Wait>(
         &self,
         rt: &R,
@@ -132,8 +136,8 @@ impl<L: Side> Shared<L> {
 }
 
 /// Brings a replica what it lacks of another: its summary, the other's delta for that, and an absorb of the delta. These are three
-/// calls, with one lock held at a time, so others may call in between. The receipt is that of the absorb. On a refusal the entries of
-/// the calls before it stand.
+/// calls, with one lock held at a time, so others may call in between. The receipt is that of the absorb. It is refused as one of the
+/// three is, and then the entries of the calls before that one stand.
 pub fn exchange<I: Side, F: Side, R: Wait>(
     rt: &R,
     into: &Shared<I>,

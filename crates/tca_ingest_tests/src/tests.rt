@@ -183,6 +183,14 @@ fn take<L: Side, R: Wait>(
     }
 }
 
+// Whether so many passes were made: the next one has the number that follows theirs.
+fn has_made<L: Side, R: Wait>(rt: &R, shared: &Shared<L>, passes: usize) -> bool {
+    match shared.pass(rt) {
+        Ok(pass) => pass.number() as usize == passes,
+        Err(_) => false,
+    }
+}
+
 // One pass, to be given back.
 fn alone<L: Side>(alloc: Global, pass: Pass<L>) -> Result<Vec<Pass<L>>, AllocError> {
     let mut passes = Vec::new(alloc);

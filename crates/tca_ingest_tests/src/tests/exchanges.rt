@@ -2,7 +2,7 @@
 ghost use Rattle.std.specs.Prelude.{◌≡◌};
 
 use super::{
-    FIRST, PARTS, SECOND, THIRD, alone, closed_with, has_rows, has_three, plan, reports,
+    FIRST, PARTS, SECOND, THIRD, alone, closed_with, has_made, has_rows, has_three, plan, reports,
     states_three, take,
 };
 use std::alloc::{AllocError, Global};
@@ -179,7 +179,7 @@ fn tells_itself<L: Side, R: Wait>(rt: &R, alloc: Global, shared: &Shared<L>) -> 
     };
     let taken = take(rt, alloc, shared, &mut mine, &[FIRST, SECOND]);
     let told = tells(rt, (shared, &mut mine), (shared, &mut theirs), 4, 0);
-    taken == Some(1) && told
+    taken == Some(1) && told && has_made(rt, shared, 2)
 }
 
 fn is_told_by_itself<L: Side, R: Wait>(

@@ -2,7 +2,7 @@
 //! holds no other one; and a lock that is held as a job's take begins, and neither before nor after it. Each wait has a limit, so that the tests end where it is not so.
 ghost use Rattle.std.specs.Prelude.{◌≡◌, ◌≤◌, IfSome, length};
 
-use super::jobs::exports;
+use super::jobs::{exports, have_fronts};
 use super::meeting::{Meeting, reaches};
 use super::{FIRST, PARTS, SECOND, THIRD, lengths, plain, plan};
 use std::alloc::Global;
@@ -17,7 +17,8 @@ use tca_accounts::Plan;
 use tca_ingest::{Entry, Gate, Pass, Shared, Side, work};
 use tca_report::Input;
 
-// The counts of results, entries and reports after workers took inputs, where the replica closes.
+// The counts of results, entries and reports after workers took inputs, where the replica closes and the fronts of the receipts are
+// those of its entries.
 fn taken<L: Side + Send + Sync, R: Threads + Wait + Sync, G: Gate>(
     rt: &R,
     alloc: Global,
@@ -32,7 +33,11 @@ fn taken<L: Side + Send + Sync, R: Threads + Wait + Sync, G: Gate>(
     let worked = work(rt, alloc, &shared, inputs, gate, workers).ok()?;
     let done = worked.done.len();
     let (entries, held) = lengths(shared, worked.passes)?;
-    Some((done, entries, held))
+    if have_fronts(&worked.done, entries as u64) {
+        Some((done, entries, held))
+    } else {
+        None
+    }
 }
 
 // Whether the first two of three jobs meet.
@@ -83,13 +88,20 @@ struct Rounds<'a, R: Clock> {
     came: AtomicU64,
     // how many waits met the limit
     late: AtomicU64,
-    // how many jobs came to their take, and to their end
+    // the sums of the numbers, counted from 1, of the jobs that began, that came to their take, and to their end
+    began: AtomicU64,
     took: AtomicU64,
     ended: AtomicU64,
 }
 
+// A job's number, counted from 1.
+fn from_one(job: u32) -> u64 {
+    job as u64 + 1
+}
+
 impl<'a, R: Clock + Sync> Gate for Rounds<'a, R> {
-    fn before(&self, _job: u32) {
+    fn before(&self, job: u32) {
+        self.began.fetch_add(from_one(job), Ordering::SeqCst);
         let number = self.came.fetch_add(1, Ordering::SeqCst).wrapping_add(1);
         let round = number.div_ceil(self.workers.max(1));
         if !reaches(self.rt, &self.came, round.saturating_mul(self.workers)) {
@@ -97,12 +109,12 @@ impl<'a, R: Clock + Sync> Gate for Rounds<'a, R> {
         }
     }
 
-    fn inside(&self, _job: u32) {
-        self.took.fetch_add(1, Ordering::SeqCst);
+    fn inside(&self, job: u32) {
+        self.took.fetch_add(from_one(job), Ordering::SeqCst);
     }
 
-    fn after(&self, _job: u32) {
-        self.ended.fetch_add(1, Ordering::SeqCst);
+    fn after(&self, job: u32) {
+        self.ended.fetch_add(from_one(job), Ordering::SeqCst);
     }
 }
 
@@ -123,17 +135,20 @@ fn inputs_of_rounds(alloc: Global) -> Option<Vec<Input>>
     Some(all)
 }
 
-// Whether 192 jobs came and ended, all but the one that is cut took, and no wait met the limit.
+// Whether 192 jobs came, began and ended by their numbers, all but the last one, which is cut, took, and no wait met the limit.
 fn is_through<R: Clock>(gate: &Rounds<'_, R>) -> bool {
     let met = (
         gate.came.load(Ordering::SeqCst),
         gate.late.load(Ordering::SeqCst),
     );
     let through = (
+        gate.began.load(Ordering::SeqCst),
         gate.took.load(Ordering::SeqCst),
         gate.ended.load(Ordering::SeqCst),
     );
-    met == (192, 0) && through == (191, 192)
+    // 1 + 2 + .. + n is n * (n + 1) / 2
+    let (all, all_but_last) = (192 * 193 / 2, 191 * 192 / 2);
+    met == (192, 0) && through == (all, all_but_last, all)
 }
 
 // Whether this many workers take 192 inputs by rounds.
@@ -153,6 +168,7 @@ fn go_by_rounds<L: Side + Send + Sync, R: Threads + Wait + Clock + Sync>(
         workers: workers as u64,
         came: AtomicU64::new(0),
         late: AtomicU64::new(0),
+        began: AtomicU64::new(0),
         took: AtomicU64::new(0),
         ended: AtomicU64::new(0),
     };

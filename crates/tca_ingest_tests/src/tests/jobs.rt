@@ -92,6 +92,24 @@ fn of_job(done: &Done) -> Option<(u32, usize)> {
     }
 }
 
+// Whether a job's receipt has this front.
+fn has_front(done: &Done, front: u64) -> bool {
+    match &done.result {
+        Ok((_, receipt)) => receipt.front == front,
+        Err(_) => false,
+    }
+}
+
+// Whether each number from 1 to this count is the front of a receipt. So each is that of one receipt alone where there are as many.
+pub(super) fn have_fronts(done: &[Done], count: u64) -> bool {
+    for front in 1..=count {
+        if !done.iter().any(|one| has_front(one, front)) {
+            return false;
+        }
+    }
+    true
+}
+
 // The notes of an export.
 fn nothing() -> Notes {
     Notes {
@@ -136,7 +154,9 @@ fn tell_each_other<I: Side, F: Side, R: Wait>(
     let back_again = tells(rt, (from, theirs), (into, mine), 8, 0);
     let ended = ends(rt, alloc, into, mine, 10);
     let other_ended = ends(rt, alloc, from, theirs, 9);
-    gap && there && back && again && back_again && ended && other_ended
+    let told = gap && there && back && again && back_again && ended && other_ended;
+    // the workers' passes have the numbers 0 and 1
+    told && (mine.number(), theirs.number()) == (2, 2)
 }
 
 // A pass of each replica, by which they told each other.
@@ -454,7 +474,7 @@ fn many_inputs(alloc: Global) -> Option<Vec<Input>>
     Some(all)
 }
 
-// Whether each of many inputs has a result, by two workers.
+// Whether each of many inputs has a result, and its receipt a front of its own, by two workers.
 fn does_many<L: Side + Send + Sync, R: Threads + Wait + Sync>(
     rt: &R,
     alloc: Global,
@@ -474,7 +494,7 @@ fn does_many<L: Side + Send + Sync, R: Threads + Wait + Sync>(
         return false;
     };
     match work(rt, alloc, &shared, &inputs, &NoGate, 2) {
-        Ok(worked) => worked.done.len() == 5000,
+        Ok(worked) => worked.done.len() == 5000 && have_fronts(&worked.done, 5000),
         Err(_) => false,
     }
 }

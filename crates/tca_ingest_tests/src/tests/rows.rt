@@ -1,7 +1,9 @@
 //! Worked rows: one pass that takes and asks, two that call in turn, and passes that are held back from a close.
 ghost use Rattle.std.specs.Prelude.{◌≡◌};
 
-use super::{FIRST, PARTS, SECOND, THIRD, alone, plan, states_three, take, with_one_more};
+use super::{
+    FIRST, PARTS, SECOND, THIRD, alone, has_made, plan, states_three, take, with_one_more,
+};
 use std::alloc::Global;
 use std::marker::Brand;
 use std::sync::Wait;
@@ -50,23 +52,26 @@ fn one_pass_takes_and_asks(rt: HostRuntime) {
     assert!(rt; takes_and_asks::<Brand, _>(&rt, rt.alloc(), Blank::new(PARTS), 1, plan));
 }
 
-// Whether a refused close names this fault and hands so many passes back, and with one more pass it closes.
-fn closes_then<L: Side>(
+// Whether a refused close names this fault and hands so many passes back, and a replica that made these and this one, by which it closes.
+fn closes_then<L: Side, R: Wait>(
+    rt: &R,
     refused: Unclosed<L>,
     fault: CloseFault,
     count: usize,
     pass: Pass<L>,
 ) -> bool {
     let as_it_was = refused.fault == fault && refused.passes.len() == count;
+    let made = has_made(rt, &refused.shared, count.wrapping_add(1));
     let Ok(all) = with_one_more(refused.passes, pass) else {
         return false;
     };
     let closes = refused.shared.close(all).is_ok();
-    as_it_was && closes
+    as_it_was && made && closes
 }
 
 // Whether a close without a pass is refused with this fault, and with it it isn't.
-fn wants<L: Side>(
+fn wants<L: Side, R: Wait>(
+    rt: &R,
     shared: Shared<L>,
     passes: Vec<Pass<L>>,
     fault: CloseFault,
@@ -75,7 +80,7 @@ fn wants<L: Side>(
     let count = passes.len();
     match shared.close(passes) {
         Ok(_) => false,
-        Err(refused) => closes_then(refused, fault, count, pass),
+        Err(refused) => closes_then(rt, refused, fault, count, pass),
     }
 }
 
@@ -97,7 +102,7 @@ fn one_back<L: Side, R: Wait>(rt: &R, alloc: Global, shared: Shared<L>) -> bool 
     let Ok(given) = alone(alloc, first) else {
         return false;
     };
-    let wanted = wants(shared, given, fault, second);
+    let wanted = wants(rt, shared, given, fault, second);
     one == Some(1) && other == Some(2) && again == Some(3) && wanted
 }
 
@@ -157,7 +162,7 @@ fn counts_all_entries<L: Side, R: Wait>(
     let Ok(shared) = Shared::<L>::new(alloc, blank, name, plan) else {
         return false;
     };
-    fronts(rt, alloc, &shared) == Some([1, 2, 3, 4, 5, 6])
+    fronts(rt, alloc, &shared) == Some([1, 2, 3, 4, 5, 6]) && has_made(rt, &shared, 2)
 }
 
 #[test]
@@ -183,7 +188,7 @@ fn all_back<L: Side, R: Wait>(
         journal: 1,
         given: 0,
     };
-    let wanted = wants(shared, Vec::new(alloc), fault, pass);
+    let wanted = wants(rt, shared, Vec::new(alloc), fault, pass);
     taken == Some(1) && wanted
 }
 
