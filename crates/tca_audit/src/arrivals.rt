@@ -8,29 +8,30 @@ ghost use Rattle.tca_report.specs.report.Reports.{time_end};
 
 use crate::buckets::Bucket;
 
-/// How many tokens have come by a time, which is the number of the last of them.
-pub(crate) fn come_by(rate: u64, time: u64) -> u128
+/// The number of the first token that comes after a time.
+pub(crate) fn first_after(rate: u64, time: u64) -> u128
     requires rate { rate ≤ most_rate }
     requires time { time < time_end }
-    ensures tokens { result ≡ rate * time / 1000 }
-    ensures few { result < 2 ^ 90 }
+    ensures { result ≡ rate * time / 1000 + 1 }
 {
-    rate as u128 * time as u128 / 1000
+    rate as u128 * time as u128 / 1000 + 1
 }
 
-/// Lets tokens in, one at a time: from one on up to the last that has come, while the bucket has room. Answers the first token
+/// Lets tokens in, one at a time: from one on, while the next has come by a time and the bucket has room. Answers the first token
 /// that was not let in.
-pub(crate) fn let_in(bucket: &mut Bucket, token: u128, last: u128) -> u128
-    requires order { token ≤ last + 1 }
-    requires few { last < 2 ^ 90 }
-    ensures order { (token ≤ result) × (result ≤ last + 1) }
+pub(crate) fn let_in(bucket: &mut Bucket, token: u128, rate: u64, time: u64) -> u128
+    requires rate { rate ≤ most_rate }
+    requires time { time < time_end }
+    requires order { token ≤ rate * time / 1000 + 1 }
+    ensures order { (token ≤ result) × (result ≤ rate * time / 1000 + 1) }
     ensures level { bucket.new.level + token ≡ bucket.old.level + result }
     ensures size { bucket.new.cap ≡ bucket.old.cap }
     ensures within { bucket.new.level ≤ bucket.new.cap }
-    ensures end { (result ≡ last + 1) ⊎ (bucket.new.level ≡ bucket.new.cap) }
+    ensures end { (result ≡ rate * time / 1000 + 1) ⊎ (bucket.new.level ≡ bucket.new.cap) }
 {
+    let thousandths = rate as u128 * time as u128;
     let mut next = token;
-    while !bucket.is_full() && next <= last {
+    while !bucket.is_full() && 1000 * next <= thousandths {
         bucket.gain();
         next += 1;
     }
@@ -46,7 +47,7 @@ pub(crate) fn filled(bucket: Bucket, rate: u64, from: u64, to: u64) -> Bucket
     ensures { result ≡ repeated (due rate from to) gain bucket }
 {
     let mut next = bucket;
-    let first = come_by(rate, from) + 1;
-    let _ = let_in(&mut next, first, come_by(rate, to));
+    let first = first_after(rate, from);
+    let _ = let_in(&mut next, first, rate, to);
     next
 }

@@ -6,7 +6,7 @@ ghost use Rattle.tca_meters.specs.SrTcm.{filled_levels, judged_packet, opening_l
 ghost use Rattle.tca_audit.specs.inside.Metering.{levels_of};
 ghost use Rattle.tca_report.specs.report.Reports.{time_end};
 
-use crate::arrivals::{come_by, let_in};
+use crate::arrivals::{first_after, let_in};
 use crate::buckets::{Bucket, Buckets};
 use tca_meters::{Colour, SrTcm};
 
@@ -28,11 +28,10 @@ pub(crate) fn filled(meter: &SrTcm, buckets: Buckets, from: u64, to: u64) -> Buc
     ensures { levels_of result ≡ filled_levels meter.now from to (levels_of buckets) }
 {
     let cir = meter.cir();
-    let last = come_by(cir, to);
     let mut next = buckets;
-    let first = come_by(cir, from) + 1;
-    let left = let_in(&mut next.committed, first, last);
-    let _ = let_in(&mut next.excess, left, last);
+    let first = first_after(cir, from);
+    let left = let_in(&mut next.committed, first, cir, to);
+    let _ = let_in(&mut next.excess, left, cir, to);
     next
 }
 

@@ -2,7 +2,7 @@ use Rattle.std.proofs.Common.{◌≡◌, ◌+◌, ◌∙◌, ap, arith}
 use Rattle.tca_buckets.specs.Buckets.{repeated, spill}
 use Rattle.tca_buckets.specs.Tokens.{due}
 use Rattle.tca_meters.specs.SrTcm.{levels}
-use Rattle.tca_audit.proofs.TokensLeft.{all_due, spilled}
+use Rattle.tca_audit.proofs.TokensLeft.{all_due, come, spilled}
 use Rattle.tca_audit.proofs.srtcm.filled.Goals as goal
 
 pub returns : goal.returns
@@ -10,9 +10,9 @@ returns c =
     let a = c.args in
     let cir = c.cir-cir.result in
     let n = due cir a.from a.to in
-    let first = c.come_by-first.result + 1 in
-    let last = c.come_by-last.result in
-    let all : n + first ≡ last + 1 = omega (arith, all_due cir a.to a.from c.requires.order, c.come_by-first.ensures.tokens, c.come_by-last.ensures.tokens) in
+    let first = c.first_after-first.result in
+    let last = come cir a.to in
+    let all : n + first ≡ last + 1 = omega (arith, all_due cir a.to a.from c.requires.order, c.first_after-first.ensures) in
     let one = c.let_in-left.ensures in
     let two = c.let_in.ensures in
     let both = spilled a.buckets.committed c.let_in-left.new.bucket a.buckets.excess c.let_in.new.bucket first c.let_in-left.result c.let_in.result last n all
