@@ -5,6 +5,7 @@ import json
 import random
 import re
 from datetime import datetime, timedelta, timezone
+from decimal import Decimal
 from pathlib import Path
 from xml.etree import ElementTree
 
@@ -61,6 +62,11 @@ def as_json(period, accounts, reports=3, disputed=0, unassigned=0):
               for name, spans in accounts]
     whole = {"format": 1, "period": period, "reports": reports, "disputed": disputed, "unassigned": unassigned, "accounts": listed}
     return json.dumps(whole, sort_keys=True, separators=(",", ":")).encode() + b"\n"
+
+
+def grouped(number):
+    """Digits in threes, a narrow space between."""
+    return f"{number:,}".replace(",", "\u202f")
 
 
 def any_accounts(numbers, most):
@@ -170,23 +176,45 @@ class WholePages(ToolTest):
                 self.assertEqual(start, moment(index * 86_400_000))
                 self.assertEqual([int(n) for line in lines for n in re.findall(r"\d+", line.replace("\u202f", ""))], list(sums))
 
+    def test_moments_within_a_second(self):
+        """Of four quarters of a second and of the last three, by the title and below the bar."""
+        quarters = ["22:13:20Z", "22:13:20.25Z", "22:13:20.5Z", "22:13:20.75Z"]
+        accounts = [("four", [(6_800_000_000 + n, ONE) for n in range(4)]), ("three", [(6_800_000_001 + n, ONE) for n in range(3)])]
+        sections = self.tree_of(statement(250, accounts)).findall(".//section")
+        for section, times in zip(sections, (quarters, quarters[1:]), strict=True):
+            titles = [title.text.split("\n")[0] for title in section.findall("figure/svg/g/title")]
+            self.assertEqual(titles, ["2023-11-14T" + time for time in times])
+            texts = [text.text for text in section.findall("figure/svg/text") if text.get("class") == "middle"]
+            self.assertEqual(texts[::2], ["2023-11-14"] * 3)
+            self.assertEqual(texts[1::2], [times[0], times[len(times) // 2], times[-1]])
+
     def test_bars_stand_one_above_the_other(self):
-        accounts = [("alpha", [(n, any_sums(random.Random(n))) for n in range(700)])]
-        tree = self.tree_of(statement(3_600_000, accounts))
-        right = 0
-        bars = tree.findall(".//figure/svg/g")
-        self.assertEqual(len(bars), 700)
-        for bar in bars:
-            pieces = [{key: piece.get(key) for key in piece.keys()} for piece in bar.findall("rect")]
-            column = pieces.pop(0)
-            self.assertGreaterEqual(int(column["x"]), right)
-            right = int(column["x"]) + int(column["width"])
-            floor = int(column["y"]) + int(column["height"])
-            for piece in pieces:
-                self.assertGreater(int(piece["width"]), 0)
-                self.assertEqual(int(piece["y"]) + int(piece["height"]), floor)
-                floor = int(piece["y"])
-            self.assertGreaterEqual(floor, int(column["y"]))
+        """And side by side, more of them than the picture has units too."""
+        for count in (700, 8760):
+            accounts = [("alpha", [(n, any_sums(random.Random(n))) for n in range(count)])]
+            bars = self.tree_of(statement(3_600_000, accounts)).findall(".//figure/svg/g")
+            self.assertEqual(len(bars), count)
+            right = 640
+            for bar in bars:
+                right = self.assert_stacked(bar, right)
+            self.assertEqual(right, 3540)
+
+    def assert_stacked(self, bar, begin):
+        """The bar's pieces stand in its column, which has room from `begin` on, one above the other. Gives where the column ends."""
+        (left, right, top, floor), *pieces = [self.edges(piece) for piece in bar.findall("rect")]
+        self.assertGreaterEqual(left, begin)
+        self.assertGreater(right, left)
+        for begins, ends, high, low in pieces:
+            self.assertTrue(left <= begins < ends <= right)
+            self.assertEqual(low, floor)
+            floor = high
+        self.assertGreaterEqual(floor, top)
+        return right
+
+    def edges(self, piece):
+        """Where a rectangle begins and ends, from left to right and from above."""
+        x, y, width, height = (Decimal(piece.get(key)) for key in ("x", "y", "width", "height"))
+        return x, x + width, y, y + height
 
     def test_bars_share_one_axis(self):
         """Each bar stands in its own column, its pieces as high as their octets by the axis, and moments below the bars that they are of."""
@@ -198,22 +226,22 @@ class WholePages(ToolTest):
         full = int(number) * UNITS[unit]
         bars = [bar.findall("rect") for bar in picture.findall("g")]
         for (column, *pieces), (_, sums) in zip(bars, spans, strict=True):
-            left, width, height = (int(column.get(key)) for key in ("x", "width", "height"))
+            left, right, top, floor = self.edges(column)
+            height = int(floor - top)
             tops = [sum(sums[: 2 * n : 2]) * height // full for n in range(4)]
             wanted = [(colour, top - low) for colour, low, top in zip(COLOURS, tops, tops[1:]) if top > low]
             self.assertEqual([(piece.get("class"), int(piece.get("height"))) for piece in pieces], wanted)
-            for piece in pieces:
-                self.assertLessEqual(left, int(piece.get("x")))
-                self.assertLessEqual(int(piece.get("x")) + int(piece.get("width")), left + width)
-        marks = [re.match(r"M(\d+) \d+V", path.get("d")) for path in picture.findall("path")]
-        middles = [int(mark[1]) for mark in marks if mark]
+            for begins, ends, _, _ in map(self.edges, pieces):
+                self.assertTrue(left <= begins < ends <= right)
+        marks = [re.match(r"M([\d.]+) \d+V", path.get("d")) for path in picture.findall("path")]
+        middles = [Decimal(mark[1]) for mark in marks if mark]
         for middle, place in zip(middles, (0, len(bars) // 2, len(bars) - 1), strict=True):
-            column = bars[place][0]
-            self.assertAlmostEqual(middle, int(column.get("x")) + int(column.get("width")) // 2, delta=1)
+            left, right, _, _ = self.edges(bars[place][0])
+            self.assertAlmostEqual(middle, (left + right) / 2, delta=0.01)
         # A label has 340 of the picture's 3600 units on either side of its middle.
         for text in picture.findall("text"):
             if text.get("class") == "middle":
-                self.assertTrue(340 <= int(text.get("x")) <= 3260)
+                self.assertTrue(340 <= Decimal(text.get("x")) <= 3260)
 
     def test_units(self):
         """Of each unit one, one and a half, and three quarters, which are told in the unit below; of the least one these are octets."""
@@ -241,6 +269,20 @@ class WholePages(ToolTest):
         section = self.tree_of(statement(3_600_000, [("alpha", [(0, sums)])])).find(".//section")
         found = [small.text.replace("\u00a0", " ") for small in section.findall(".//tbody/tr/td/small")]
         self.assertEqual(found, ["1.49 KiB", "1018.94 KiB", "1023.99 PiB", "1.00 EiB"])
+
+    def test_the_greatest_sums(self):
+        """Each sum may have 64 bits, so what several colours have together may have more."""
+        most = 2**64 - 1
+        for sums, sizes in (((most, most, most, most, 0, 0), ["15.99", "15.99", "31.99"]), ((most,) * 6, ["15.99", "15.99", "15.99", "47.99"])):
+            section = self.tree_of(statement(3_600_000, [("alpha", [(0, sums)])])).find(".//section")
+            cells = [cell.text for cell in section.findall(".//tbody/tr/td")]
+            self.assertEqual(cells, [grouped(number) for number in (*sums, sum(sums[::2]), sum(sums[1::2]))])
+            found = [small.text for small in section.findall(".//tbody/tr/td/small")]
+            self.assertEqual(found, [size + "\u00a0EiB" for size in sizes])
+            lines = section.find("figure/svg/g/title").text.split("\n")[1:]
+            wanted = zip(COLOURS, sums[::2], sums[1::2])
+            self.assertEqual(lines, [f"{colour} {grouped(octets)} octets, {grouped(packets)} packets" for colour, octets, packets in wanted])
+            self.assert_scaled(section, sums)
 
     def test_a_period_behind_the_last_moment(self):
         """It has its index in a moment's place."""

@@ -74,22 +74,32 @@ class Progress(ProgramTest):
         self.assertEqual((run.status, run.out, run.err), (1, b"", b"tcatool: capture: wire 2\n"))
 
     def test_a_page_that_is_refused(self):
+        """OUT is made once the statement is read, before it is judged."""
         self.write("wrong", statement(3_600_000, ROW)[:-1])
         self.write("right", statement(3_600_000, ROW))
-        for out, word, line in (("out", "wrong", b"wrong: statement 1"), ("/dev/full", "right", b"page: write 1")):
+        for out, word, line in (
+            ("none", "missing", b"missing: read 1"),
+            ("none/out", "wrong", b"page: write 1"),
+            ("out", "wrong", b"wrong: statement 1"),
+            ("/dev/full", "right", b"page: write 1"),
+        ):
             run = self.run_by_clock(1, "page", "--progress", out, word)
             self.assertEqual((run.status, run.out, run.err), (1, b"", b"tcatool: " + line + b"\n"))
+        self.assertFalse(self.has("none"))
+        self.assertEqual(self.read("out"), b"")
 
     def test_a_page(self):
+        """A line at each so many-th piece of it, of which each has a mebibyte but the last."""
         numbers = random.Random(22)
-        large = [(f"account_{n}", [(span, any_sums(numbers)) for span in range(1500)]) for n in range(3)]
+        large = [(f"account_{n}", [(span, any_sums(numbers)) for span in range(4500)]) for n in range(3)]
         for accounts in (ROW, large):
             self.write("statement", statement(3_600_000, accounts))
             self.run_program("page", "out", "statement", program=TOOL)
             whole = self.read("out")
-            line = f"tcatool: page: {len(whole) // MEBIBYTE} MiB\n".encode()
-            for step, options, err in ((1000, ["--progress"], line), (999, ["--progress"], b""), (1000, [], b"")):
+            done = [*range(MEBIBYTE, len(whole), MEBIBYTE), len(whole)]
+            lines = [f"tcatool: page: {octets // MEBIBYTE} of {len(whole) // MEBIBYTE} MiB\n" for octets in done]
+            for step, options, told in ((1000, ["--progress"], lines), (999, ["--progress"], lines[1::2]), (1000, [], [])):
                 (self.folder / "out").unlink()
-                self.assert_done(self.run_by_clock(step, "page", *options, "out", "statement"), b"", err)
+                self.assert_done(self.run_by_clock(step, "page", *options, "out", "statement"), b"", "".join(told).encode())
                 self.assertEqual(self.read("out"), whole)
-        self.assertGreater(len(whole), MEBIBYTE)
+        self.assertGreater(len(whole), 3 * MEBIBYTE)

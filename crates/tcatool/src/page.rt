@@ -1,12 +1,13 @@
 //! The command `page`: a statement as one HTML file that needs nothing else.
 //!
 //! - `head`: the style, the patterns of the colours, and the counts; `account`: an account's sums; `picture`: its periods as bars;
-//! - `scale`: the axis of octets; `number`: numbers as people read them; `escape`: texts in HTML.
+//! - `column`: where bars stand from left to right; `scale`: the axis of octets; `number`: numbers as people read them; `escape`: texts in HTML.
 ghost use Rattle.std.specs.Prelude.{IfErr, OnOk};
 ghost use Rattle.tca_program.specs.Devices.{device};
 ghost use Rattle.tcatool.specs.Told.{IsAnyText, IsTold, IsUntold};
 
 mod account;
+mod column;
 mod escape;
 mod head;
 mod number;

@@ -8,8 +8,14 @@ use tca_report::Write;
 // Octets of a mebibyte.
 const MEBIBYTE: u64 = 1_048_576;
 
+// The most octets that a watched writer takes at once: a longer write would be told of at its end alone.
+const PIECE: usize = 1_048_576;
+
 /// Hears how much is done.
 pub trait Watch {
+    /// So many octets there are in all.
+    fn expect(&mut self, octets: u64);
+
     /// So many octets are done.
     fn done(&mut self, octets: u64);
 }
@@ -19,6 +25,8 @@ pub trait Watch {
 pub(crate) struct Silent;
 
 impl Watch for Silent {
+    fn expect(&mut self, _octets: u64) {}
+
     fn done(&mut self, _octets: u64) {}
 }
 
@@ -28,17 +36,17 @@ pub(crate) struct Progress<'r, R, V> {
     rt: &'r R,
     errors: &'r mut V,
     command: &'static str,
-    all: Option<u64>,
+    all: u64,
     told: Option<Instant>,
 }
 
 impl<'r, R: Clock, V: io::Write> Progress<'r, R, V> {
-    /// Of a command with so many octets in all, where that is known.
+    /// Of a command that starts now, with so many octets in all, or 0 where it learns that on its way.
     pub(crate) fn new(
         rt: &'r R,
         errors: &'r mut V,
         command: &'static str,
-        all: Option<u64>,
+        all: u64,
     ) -> Progress<'r, R, V> {
         Progress {
             rt,
@@ -65,17 +73,16 @@ impl<'r, R, V: io::Write> Progress<'r, R, V> {
     // Prints how many MiB are done.
     fn tell(&mut self, done: u64) {
         let command = self.command;
-        let _unwritten = match self.all {
-            Some(all) => {
-                let all = all / MEBIBYTE;
-                write!(self.errors, "tcatool: {command}: {done} of {all} MiB\n")
-            }
-            None => write!(self.errors, "tcatool: {command}: {done} MiB\n"),
-        };
+        let all = self.all / MEBIBYTE;
+        let _unwritten = write!(self.errors, "tcatool: {command}: {done} of {all} MiB\n");
     }
 }
 
 impl<'r, R: Clock, V: io::Write> Watch for Progress<'r, R, V> {
+    fn expect(&mut self, octets: u64) {
+        self.all = octets;
+    }
+
     fn done(&mut self, octets: u64) {
         let Ok(now) = Instant::now(self.rt) else {
             return;
@@ -87,7 +94,7 @@ impl<'r, R: Clock, V: io::Write> Watch for Progress<'r, R, V> {
     }
 }
 
-/// A writer that tells how many octets it has taken.
+/// A writer that takes a piece at most at once, and tells how many octets it has taken, of those and what it is asked to write besides.
 #[derive(Drop)]
 pub(crate) struct WatchedWriter<'w, D, T> {
     writer: D,
@@ -112,7 +119,10 @@ impl<'w, D: Write, T: Watch> Write for WatchedWriter<'w, D, T> {
     ghost failures = { λ w. D.failures w.writer };
 
     fn write(&mut self, octets: &[u8]) -> io::Result<usize> {
-        match self.writer.write(octets) {
+        self.watch
+            .expect(self.taken.saturating_add(octets.len() as u64));
+        let piece = &octets[..octets.len().min(PIECE)];
+        match self.writer.write(piece) {
             Ok(n) => {
                 self.taken = self.taken.saturating_add(n as u64);
                 self.watch.done(self.taken);

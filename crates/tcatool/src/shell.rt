@@ -187,7 +187,7 @@ fn page_file<R: Files + Clock + AllocGlobal, V: io::Write>(
     if !tells {
         return write_page(rt.alloc(), &text, page, &mut Silent);
     }
-    let mut progress = Progress::new(rt, errors, "page", None);
+    let mut progress = Progress::new(rt, errors, "page", 0);
     write_page(rt.alloc(), &text, page, &mut progress)
 }
 

@@ -365,6 +365,6 @@ pub fn split_file<R: Files + Clock + AllocGlobal, W: Write, V: io::Write>(
     if !tells {
         return split_watched(rt, folder, capture, &mut Silent, out);
     }
-    let mut progress = Progress::new(rt, errors, "split", Some(all));
+    let mut progress = Progress::new(rt, errors, "split", all);
     split_watched(rt, folder, capture, &mut progress, out)
 }

@@ -1,26 +1,17 @@
 //! A picture of an account's periods: a bar for each, with the three colours one above the other.
+use crate::page::column::{Column, LEFT, WIDTH};
 use crate::page::escape::Escaped;
 use crate::page::number::{Grouped, Start};
 use crate::page::scale::{STEPS, Scale, stacked};
 use std::fmt;
 use tca_figures::SpanFigures;
 
-// Where the bars stand, in units of which a picture is 3600 wide and 2150 high.
-const LEFT: u64 = 640;
-
-const WIDTH: u64 = 2900;
-
+// Where the bars stand from above, in units of which a picture is 2150 high.
 const TOP: u64 = 120;
 
 const HEIGHT: u64 = 1680;
 
 const FLOOR: u64 = TOP + HEIGHT;
-
-// The room on either side of the middle of a time.
-const LABEL: u64 = 340;
-
-// The widest bar.
-const WIDEST: u64 = 400;
 
 /// The picture of an account of this name, under the length of a period.
 #[derive(Clone, Copy)]
@@ -91,44 +82,6 @@ impl fmt::Display for Axis {
         }
         Ok(())
     }
-}
-
-// Where a bar stands from left to right, and the room that it has.
-#[derive(Clone, Copy)]
-struct Column {
-    left: u64,
-    width: u64,
-    room: u64,
-    start: u64,
-}
-
-impl Column {
-    // The column at a place, of so many.
-    fn of(place: usize, count: usize) -> Column {
-        let start = edge(place, count);
-        let room = edge(place.saturating_add(1), count)
-            .saturating_sub(start)
-            .max(1);
-        let width = room.saturating_sub(room / 6).min(WIDEST).max(1);
-        let left = start.saturating_add(room.saturating_sub(width) / 2);
-        Column {
-            left,
-            width,
-            room,
-            start,
-        }
-    }
-
-    fn middle(self) -> u64 {
-        self.left.saturating_add(self.width / 2)
-    }
-}
-
-// Where the room of the column at a place begins, of so many.
-fn edge(place: usize, count: usize) -> u64 {
-    let before = (place as u128).saturating_mul(u128::from(WIDTH));
-    let offset = before.checked_div(count as u128).unwrap_or(0);
-    LEFT.saturating_add(u64::try_from(offset).unwrap_or(WIDTH).min(WIDTH))
 }
 
 // The bar of a period, with its numbers as a title.
@@ -254,7 +207,7 @@ impl fmt::Display for Times<'_> {
             if let Some(span) = self.spans.get(place) {
                 if place >= next {
                     let time = Time {
-                        middle: Column::of(place, count).middle(),
+                        column: Column::of(place, count),
                         period: self.period,
                         index: span.index,
                     };
@@ -270,15 +223,14 @@ impl fmt::Display for Times<'_> {
 // The start of a period below its bar.
 #[derive(Clone, Copy)]
 struct Time {
-    middle: u64,
+    column: Column,
     period: u64,
     index: u64,
 }
 
 impl fmt::Display for Time {
     fn fmt<W: fmt::Write>(&self, f: &mut fmt::Formatter<W>) -> fmt::Result {
-        let middle = self.middle;
-        let text = middle.clamp(LABEL, 3600 - LABEL);
+        let (middle, text) = (self.column.middle(), self.column.label());
         let (end, first, second) = (FLOOR + 40, FLOOR + 160, FLOOR + 280);
         let start = Start {
             period: self.period,
