@@ -72,7 +72,7 @@ pub fn is_given(matches: &ArgMatches<'_>, id: &str) -> bool
     }
 }
 
-/// All words that were given for an argument.
+/// All words that were given for an argument. `AllocError` comes where a growth was refused.
 pub fn texts<'a>(
     alloc: Global,
     matches: &ArgMatches<'a>,

@@ -16,6 +16,7 @@ pub enum LineFault {
     /// They ask for help; the text is it, for standard output.
     #[error("{text}")]
     Help { text: String },
+    /// A growth was refused while they were read.
     #[error("no memory is left")]
     Memory,
 }

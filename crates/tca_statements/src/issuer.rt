@@ -36,7 +36,7 @@ impl Model for Issuer {
 }
 
 impl Issuer {
-    /// One that has issued nothing for this plan's accounts.
+    /// One that has issued nothing for this plan's accounts. It takes no memory yet, and so is never refused.
     pub fn new(alloc: Global, plan: &Plan) -> Result<Issuer, AllocError>
         ensures made { IfOk result (λ i. i ≡ record { accounts = length plan.now.accounts; period = plan.now.period; entries = [] }) }
         ensures always { IsOk result }

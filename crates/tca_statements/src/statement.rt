@@ -33,7 +33,8 @@ impl Model for Statement {
 impl Statement {
     /// The statement of a bill under its plan. Lines end with one line feed, fields are separated by one space, and
     /// numbers are decimal: how many reports, disputed identities and unassigned reports there are, and for each account
-    /// octets and packets of green, yellow and red, in all and for each period that has a packet.
+    /// octets and packets of green, yellow and red, in all and for each period that has a packet. `AllocError` comes where a growth
+    /// was refused.
     #[tactic(auto, unfolding(crate::specs::Statements::statement_text))]
     pub fn of(alloc: Global, plan: &Plan, bill: &Bill) -> Result<Statement, AllocError>
         requires { length bill.now.accounts ≡ length plan.now.accounts }

@@ -138,6 +138,7 @@ shorter text. Exit status: 0 agrees, 1 differs or refused. Where two sides have 
 Examples: tcacct audit plan.toml week.tcax statement.txt
           tcacct audit plan.toml theirs.tcax their-statement.txt";
 
+// An option whose value is a number from 1 to this one; it is 2 where the option isn't given.
 fn number_up_to<'a>(alloc: Global, id: &'a str, most: u32, help: &'a str) -> Arg<'a>
     ensures rule { rule_of result ≡ number_up_to id.entry.now most }
     ensures local { result.global ≡ false }
@@ -150,6 +151,7 @@ fn number_up_to<'a>(alloc: Global, id: &'a str, most: u32, help: &'a str) -> Arg
         .help(help)
 }
 
+// The command `meter`.
 fn meter<'a>(alloc: Global) -> Result<Command<'a>, AllocError>
     ensures { IfOk result (λ c. (app_of c ≡ meter_command)
         × ((fields_of c).has_globals ≡ false)) }
@@ -164,6 +166,7 @@ fn meter<'a>(alloc: Global) -> Result<Command<'a>, AllocError>
     ))?)
 }
 
+// The command `combine`.
 fn combine<'a>(alloc: Global) -> Result<Command<'a>, AllocError>
     ensures { IfOk result (λ c. (app_of c ≡ combine_command)
         × ((fields_of c).has_globals ≡ false)) }
@@ -178,6 +181,7 @@ fn combine<'a>(alloc: Global) -> Result<Command<'a>, AllocError>
     ))?)
 }
 
+// The command `bill`.
 fn bill<'a>(alloc: Global) -> Result<Command<'a>, AllocError>
     ensures { IfOk result (λ c. (app_of c ≡ bill_command)
         × ((fields_of c).has_globals ≡ false)) }
@@ -210,6 +214,7 @@ fn bill<'a>(alloc: Global) -> Result<Command<'a>, AllocError>
     ))?)
 }
 
+// The command `audit`.
 fn audit<'a>(alloc: Global) -> Result<Command<'a>, AllocError>
     ensures { IfOk result (λ c. (app_of c ≡ audit_command)
         × ((fields_of c).has_globals ≡ false)) }

@@ -82,6 +82,7 @@ impl<'a> Line<'a> {
     }
 }
 
+// What `meter` was asked for, from its matches.
 fn meter_line<'a>(alloc: Global, matches: &ArgMatches<'a>) -> Result<Option<Line<'a>>, AllocError>
     ensures line { IfOk result (λ o. option_map order_of o ≡ meter_of (rows_of (found_of matches.now))) }
     ensures within { IfOk result (λ o. IfSome o (λ l. IsWithin (order_of l))) }
@@ -95,6 +96,7 @@ fn meter_line<'a>(alloc: Global, matches: &ArgMatches<'a>) -> Result<Option<Line
     Ok(Some(Line::Meter { spec, inputs }))
 }
 
+// What `combine` was asked for.
 fn combine_line<'a>(alloc: Global, matches: &ArgMatches<'a>) -> Result<Option<Line<'a>>, AllocError>
     ensures line { IfOk result (λ o. option_map order_of o ≡ combine_of (rows_of (found_of matches.now))) }
     ensures within { IfOk result (λ o. IfSome o (λ l. IsWithin (order_of l))) }
@@ -134,6 +136,7 @@ fn billed<'a>(alloc: Global, matches: &ArgMatches<'a>) -> Result<Option<Vec<&'a 
     Ok(Some(inputs))
 }
 
+// What `bill` was asked for.
 fn bill_line<'a>(alloc: Global, matches: &ArgMatches<'a>) -> Result<Option<Line<'a>>, AllocError>
     ensures line { IfOk result (λ o. option_map order_of o ≡ bill_of (rows_of (found_of matches.now))) }
     ensures within { IfOk result (λ o. IfSome o (λ l. IsWithin (order_of l))) }
@@ -160,6 +163,7 @@ fn bill_line<'a>(alloc: Global, matches: &ArgMatches<'a>) -> Result<Option<Line<
     }))
 }
 
+// What `audit` was asked for.
 fn audit_line<'a>(matches: &ArgMatches<'a>) -> Option<Line<'a>>
     ensures line { option_map order_of result ≡ audit_of (rows_of (found_of matches.now)) }
     ensures within { IfSome result (λ l. IsWithin (order_of l)) }
@@ -174,6 +178,7 @@ fn audit_line<'a>(matches: &ArgMatches<'a>) -> Option<Line<'a>>
     })
 }
 
+// What the command of this name was asked for.
 fn line_from<'a>(
     alloc: Global,
     name: &str,

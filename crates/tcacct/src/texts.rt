@@ -6,6 +6,7 @@ use std::alloc::{AllocError, Global};
 use tca_accounts::Sums;
 use tca_audit::Verdict;
 
+// A line of a colour: its name, its octets, its packets.
 fn colour_line(alloc: Global, name: &str, octets: u64, packets: u64) -> Result<String, AllocError>
     ensures { IfOk result (λ text. string_bytes text ≡ colour_line name.now octets packets) }
 {
