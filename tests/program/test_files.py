@@ -193,6 +193,16 @@ class Time(ProgramTest):
         alone = self.seconds(withdrawals)
         self.assertLess(self.seconds(b"".join(stay + gone) + withdrawals), 5 * alone + 1)
 
+    def test_records_with_many_fields_without_octets(self):
+        """A record of one octet isn't gone over by each of 511 fields that have none."""
+        one, none = struct.pack(">HH", 12, 65_535), struct.pack(">HH", 8, 0)
+        records = message_with(struct.pack(">HH", 256, 4 + 65_000) + bytes(65_000)) * 64
+        alone, beside = (
+            self.seconds(message_with(struct.pack(">HHHH", 2, 8 + 4 * count, 256, count) + one + none * (count - 1)) + records)
+            for count in (1, 512)
+        )
+        self.assertLess(beside, 5 * alone + 1)
+
 
 class Memory(ProgramTest):
     """What a run holds: its input, in a list whose room doubles from 64 KiB on, 28 octets a report, and little else."""

@@ -18,7 +18,7 @@ use Rattle.tca_templates.proofs.Choices.{same_some}
 use Rattle.tca_templates.proofs.Fields.{field_of, field_holds, fields_next, fields_cut, fields_done}
 
 -- the steps of a search for one element
-spot_next : (e used : ℕ) (s : FieldSpec) (ss : List FieldSpec) (octets : List ℕ) (x : ℕ × ℕ) → field_at s.length octets ≡ Some x
+pub spot_next : (e used : ℕ) (s : FieldSpec) (ss : List FieldSpec) (octets : List ℕ) (x : ℕ × ℕ) → field_at s.length octets ≡ Some x
     → spot_in e used (s ∷ ss) octets ≡ cond (is_field_of e s) (Some (used + x.0, x.1)) (spot_in e (used + (x.0 + x.1)) ss (drop (x.0 + x.1) octets))
 unfolding spot_in
 spot_next e used s ss octets x h =
@@ -28,7 +28,7 @@ spot_next e used s ss octets x h =
     ] in
     ap F h
 
-spot_cut : (e used : ℕ) (s : FieldSpec) (ss : List FieldSpec) (octets : List ℕ) → field_at s.length octets ≡ None → spot_in e used (s ∷ ss) octets ≡ None
+pub spot_cut : (e used : ℕ) (s : FieldSpec) (ss : List FieldSpec) (octets : List ℕ) → field_at s.length octets ≡ None → spot_in e used (s ∷ ss) octets ≡ None
 unfolding spot_in
 spot_cut e used s ss octets h =
     let F : Option (ℕ × ℕ) → Option (ℕ × ℕ) = λ o. elim o [
@@ -205,7 +205,7 @@ spot_within e used (s ∷ ss) octets p h = go (λ u rest k. spot_within e u ss r
         omega (arith, more, (field_holds s octets x o).0, length-drop (x.0 + x.1) octets)
 
 -- a field that has a length of its own
-fixed_at : (s : FieldSpec) (octets : List ℕ) → (s.length == 65535) ≡ false → s.length ≤ length octets → field_at s.length octets ≡ Some (0, s.length)
+pub fixed_at : (s : FieldSpec) (octets : List ℕ) → (s.length == 65535) ≡ false → s.length ≤ length octets → field_at s.length octets ≡ Some (0, s.length)
 fixed_at s octets own le =
     ap (λ b. cond b
     (cond (length octets == 0) None

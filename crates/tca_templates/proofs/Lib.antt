@@ -4,6 +4,7 @@ pub mod Fields
 pub mod Records
 pub mod LayoutSteps
 pub mod LayoutLaws
+pub mod SteppedFields
 pub mod WindowLaws
 pub mod Wanting
 pub mod TakingSteps
@@ -13,6 +14,7 @@ pub mod Stored
 pub mod Changes
 pub mod Sets
 pub mod Keys
+pub mod KeyOrder
 pub mod SlotLaws
 pub mod PartLaws
 pub mod TemplateSetLaws

@@ -1,12 +1,11 @@
 -- Slots and what stands in them.
-use Rattle.std.proofs.Common.{◌≡◌, Bool, ℕ, zero, suc, ◌+◌, ◌<◌, ◌≤◌, true, false, cond, List, [], ◌∷◌, ◌++◌, length, take, set, Option, Some, None, Result, Ok, Err, ◌⊎◌, inl, inr, refl, sym, ap, subst, ◌∙◌, arith}
+use Rattle.std.proofs.Common.{◌≡◌, Bool, ℕ, zero, suc, ◌+◌, ◌<◌, ◌≤◌, true, false, cond, List, [], ◌∷◌, ◌++◌, length, take, set, Option, Some, None, ◌⊎◌, inl, inr, refl, sym, ap, subst, ◌∙◌, arith}
 use Rattle.std.specs.Prelude.{filter, slice_get, ⊤}
 use Rattle.std.specs.Option.{option_map, is_some}
-use Rattle.std.specs.Result.{IsOk, OnOk, IfOk}
 use Rattle.std.specs.Map.{lookup}
 use Rattle.indexmap.specs.IndexMap.{insert_entry, shift_remove_entry}
 use Rattle.tca_templates.specs.Templates.{Key, same_key}
-use Rattle.tca_templates.specs.inside.Slotted.{filled, place_of, IsApart, IsSlotted}
+use Rattle.tca_templates.specs.inside.Slotted.{filled, place_of, IsApart, Places, held, IsSlotted}
 use Rattle.tca_templates.proofs.Keys.{same_is, same, back, on, clash, turned}
 
 abbrev Slots : Type 0 → Type 0
@@ -72,7 +71,7 @@ placed k (Some x ∷ ss) e =
     let m = miss (same_key k x.0) x.1 (lookup (same_key k) (filled ss)) e in
     ap (λ b. cond b (Some 0) (option_map suc (place_of k ss))) m.0 ∙ ap (option_map suc) (placed k ss m.1)
 
-pub slotted_none : {X : Type 0} → IsSlotted {X = X} [] []
+pub slotted_none : {X : Type 0} → IsSlotted {X = X} [] [] 0
 slotted_none = record { found = λ j. refl; apart = tt; counted = refl }
 
 -- the template of a key is exchanged
@@ -124,8 +123,8 @@ count_put k t (Some x ∷ ss) i e = elim (hit (same_key k x.0) (place_of k ss) i
   | inr w ↦ ap (λ j. length (filled (set (Some x ∷ ss) j (Some (k, t))))) w.3 ∙ ap suc (count_put k t ss w.1 w.2)
 ]
 
-pub slotted_put : {X : Type 0} (k : Key) (t : X) (ss : Slots X) (ps : List (Key × ℕ)) (i : ℕ) → IsSlotted ss ps → place_of k ss ≡ Some i → IsSlotted (set ss i (Some (k, t))) ps
-slotted_put k t ss ps i s e = record {
+pub slotted_put : {X : Type 0} (k : Key) (t : X) (ss : Slots X) (ps : Places) (n i : ℕ) → IsSlotted ss ps n → place_of k ss ≡ Some i → IsSlotted (set ss i (Some (k, t))) ps n
+slotted_put k t ss ps n i s e = record {
   found = λ j. s.found j ∙ sym (place_put k t j ss i e);
   apart = apart_put k t ss i e s.apart;
   counted = s.counted ∙ sym (count_put k t ss i e);
@@ -169,13 +168,13 @@ count_push k t [] = refl
 count_push k t (None ∷ ss) = count_push k t ss
 count_push k t (Some x ∷ ss) = ap suc (count_push k t ss)
 
-pub slotted_push : {X : Type 0} (k : Key) (t : X) (ss : Slots X) (ps qs : List (Key × ℕ)) → IsSlotted ss ps → place_of k ss ≡ None
-    → ((j : Key) → lookup (same_key j) qs ≡ cond (same_key k j) (Some (length ss)) (lookup (same_key j) ps)) → length qs ≡ length ps + 1
-    → IsSlotted (ss ++ Some (k, t) ∷ []) qs
-slotted_push k t ss ps qs s e u n = record {
+pub slotted_push : {X : Type 0} (k : Key) (t : X) (ss : Slots X) (ps qs : Places) (m n : ℕ) → IsSlotted ss ps m → place_of k ss ≡ None
+    → ((j : Key) → held qs j ≡ cond (same_key k j) (Some (length ss)) (held ps j)) → n ≡ m + 1
+    → IsSlotted (ss ++ Some (k, t) ∷ []) qs n
+slotted_push k t ss ps qs m n s e u more = record {
   found = λ j. u j ∙ ap (λ o. cond (same_key k j) (Some (length ss)) o) (s.found j) ∙ sym (place_push k t j ss e);
   apart = apart_push k t ss e s.apart;
-  counted = omega (arith, n, s.counted, count_push k t ss);
+  counted = omega (arith, more, s.counted, count_push k t ss);
 }
 
 -- an empty slot changes nothing
@@ -194,8 +193,8 @@ filled_gap [] = refl
 filled_gap (None ∷ ss) = filled_gap ss
 filled_gap (Some x ∷ ss) = ap (λ es. x ∷ es) (filled_gap ss)
 
-pub slotted_gap : {X : Type 0} (ss : Slots X) (ps : List (Key × ℕ)) → IsSlotted ss ps → IsSlotted (ss ++ None ∷ []) ps
-slotted_gap ss ps s = record {
+pub slotted_gap : {X : Type 0} (ss : Slots X) (ps : Places) (n : ℕ) → IsSlotted ss ps n → IsSlotted (ss ++ None ∷ []) ps n
+slotted_gap ss ps n s = record {
   found = λ j. s.found j ∙ sym (place_gap j ss);
   apart = apart_gap ss s.apart;
   counted = s.counted ∙ sym (ap length (filled_gap ss));
@@ -265,7 +264,7 @@ apart_out k (Some x ∷ ss) i e a = elim (hit (same_key k x.0) (place_of k ss) i
       (place_out k x.0 ss w.1 a.1 w.2 ∙ ap (λ b. cond b None (place_of x.0 ss)) w.0 ∙ a.0, apart_out k ss w.1 w.2 a.1)
 ]
 
-count_out : {X : Type 0} (k : Key) (ss : Slots X) (i : ℕ) → place_of k ss ≡ Some i → suc (length (filled (set ss i None))) ≡ length (filled ss)
+pub count_out : {X : Type 0} (k : Key) (ss : Slots X) (i : ℕ) → place_of k ss ≡ Some i → suc (length (filled (set ss i None))) ≡ length (filled ss)
 count_out k [] i e = absurd cc
 count_out k (None ∷ ss) i e =
     let b = behind (place_of k ss) i e in
@@ -275,13 +274,13 @@ count_out k (Some x ∷ ss) i e = elim (hit (same_key k x.0) (place_of k ss) i e
   | inr w ↦ ap (λ j. suc (length (filled (set (Some x ∷ ss) j None)))) w.3 ∙ ap suc (count_out k ss w.1 w.2)
 ]
 
-pub slotted_out : {X : Type 0} (k : Key) (ss : Slots X) (ps qs : List (Key × ℕ)) (i : ℕ) → IsSlotted ss ps → place_of k ss ≡ Some i
-    → ((j : Key) → lookup (same_key j) qs ≡ cond (same_key k j) None (lookup (same_key j) ps)) → length qs + 1 ≡ length ps
-    → IsSlotted (set ss i None) qs
-slotted_out k ss ps qs i s e u n = record {
+pub slotted_out : {X : Type 0} (k : Key) (ss : Slots X) (ps qs : Places) (m n i : ℕ) → IsSlotted ss ps m → place_of k ss ≡ Some i
+    → ((j : Key) → held qs j ≡ cond (same_key k j) None (held ps j)) → n + 1 ≡ m
+    → IsSlotted (set ss i None) qs n
+slotted_out k ss ps qs m n i s e u less = record {
   found = λ j. u j ∙ ap (λ o. cond (same_key k j) None o) (s.found j) ∙ sym (place_out k j ss i s.apart e);
   apart = apart_out k ss i e s.apart;
-  counted = omega (arith, n, s.counted, count_out k ss i e);
+  counted = omega (arith, less, s.counted, count_out k ss i e);
 }
 
 -- each key leads to its slot
@@ -357,13 +356,23 @@ full_count [] = refl
 full_count (None ∷ ss) = full_count ss
 full_count (Some x ∷ ss) = ap suc (full_count ss)
 
-full_place : {X : Type 0} (k : Key) (ss : Slots X) → place_of k ss ≡ None → place_of k (filter is_some ss) ≡ None
+pub full_place : {X : Type 0} (k : Key) (ss : Slots X) → place_of k ss ≡ None → place_of k (filter is_some ss) ≡ None
 full_place k ss e = placed k (filter is_some ss) (ap (lookup (same_key k)) (filled_full ss) ∙ unknown k ss e)
 
 pub full_apart : {X : Type 0} (ss : Slots X) → IsApart ss → IsApart (filter is_some ss)
 full_apart [] a = tt
 full_apart (None ∷ ss) a = full_apart ss a
 full_apart (Some x ∷ ss) a = (full_place x.0 ss a.0, full_apart ss a.1)
+
+pub full_push : {X : Type 0} (ss : Slots X) (e : Key × X) → filter is_some (ss ++ Some e ∷ []) ≡ filter is_some ss ++ Some e ∷ []
+full_push [] e = refl
+full_push (None ∷ ss) e = full_push ss e
+full_push (Some x ∷ ss) e = ap (λ zs. Some x ∷ zs) (full_push ss e)
+
+pub full_gap : {X : Type 0} (ss : Slots X) → filter is_some (ss ++ None ∷ []) ≡ filter is_some ss
+full_gap [] = refl
+full_gap (None ∷ ss) = full_gap ss
+full_gap (Some x ∷ ss) = ap (λ zs. Some x ∷ zs) (full_gap ss)
 
 pub filled_none : {X : Type 0} (ss : Slots X) → length ss ≡ 0 → filled ss ≡ []
 filled_none [] e = refl
@@ -438,13 +447,3 @@ thinned_all {X = X} test (s ∷ ss) (y ∷ ts) t all =
         go : (b : Bool) → test e ≡ b → cond b (Some e) None ≡ None → filter test (filled ss) ≡ cond (test e) (e ∷ filter test (filled ss)) (filter test (filled ss))
         go true q bad = absurd cc
         go false q ok = sym (ap (λ b. cond b (e ∷ filter test (filled ss)) (filter test (filled ss))) q)
-
-pub on_ok : {Y E : Type 0} (P : Type 0) (r : Result Y E) → IsOk r → OnOk r P → P
-on_ok P (Ok y) ok p = p
-on_ok P (Err e) ok p = absurd cc
-
--- one more where the key was not there
-pub grown : {E : Type 0} (o : Option ℕ) (m n : ℕ) (r : Result (Option ℕ) E) → IsOk r → IfOk r (λ old. old ≡ o) → o ≡ None
-    → IfOk r (λ old. n ≡ m + cond (is_some old) 0 1) → n ≡ m + 1
-grown o m n (Ok old) ok is none more = more ∙ ap (λ (x : Option ℕ). m + cond (is_some x) 0 1) (is ∙ none)
-grown o m n (Err e) ok is none more = absurd cc

@@ -1,15 +1,15 @@
 -- What stood in the slots before the steps.
-use Rattle.std.proofs.Common.{◌≡◌, Bool, ℕ, zero, suc, ◌+◌, ◌<◌, ◌≤◌, true, false, cond, List, [], ◌∷◌, ◌++◌, length, get_or, set, Option, Some, None, IfSome, refl, sym, ap, subst, ◌∙◌, arith}
+use Rattle.std.proofs.Common.{◌≡◌, Bool, ℕ, zero, suc, ◌+◌, ◌<◌, true, false, cond, List, [], ◌∷◌, ◌++◌, length, get_or, set, Option, Some, None, IfSome, refl, sym, ap, subst, ◌∙◌, arith}
 use Rattle.std.proofs.lemmas.List.{set-get_or, length-set}
 use Rattle.std.proofs.Common.{length-append}
 use Rattle.std.specs.Prelude.{slice_get}
 use Rattle.std.proofs.lemmas.Option.{get_or_from_slice_get}
-use Rattle.std.specs.Option.{option_map, is_some}
+use Rattle.std.specs.Option.{option_map, option_flatten, is_some}
 use Rattle.std.specs.Map.{lookup}
 use Rattle.tca_templates.specs.Templates.{Key, same_key}
-use Rattle.tca_templates.specs.inside.Slotted.{filled, place_of, IsApart, IsSlotted, Step, undone, AreSteps, noted, before_of, AreFew, IsKept}
+use Rattle.tca_templates.specs.inside.Slotted.{filled, place_of, IsApart, Places, held, is_entered, IsSlotted, Step, undone, AreSteps, noted, before_of, IsEntered, AreEntered, IsKept}
 use Rattle.tca_templates.proofs.Keys.{on, clash, turned}
-use Rattle.tca_templates.proofs.SlotLaws.{miss, deeper, apart_gap, filled_gap, stands, slotted_put, slotted_push, slotted_out}
+use Rattle.tca_templates.proofs.SlotLaws.{miss, deeper, leads_back, apart_gap, filled_gap, stands, slotted_put, slotted_push, slotted_out}
 
 abbrev Slots : Type 0 → Type 0
 Slots X = List (Option (Key × X))
@@ -101,13 +101,55 @@ push_before (Some us) ss e all =
     ap (λ ts. Some (filled ts)) (undone_last us (length ss) None (ss ++ Some e ∷ []) ∙ ap (undone us) (set_end ss (Some e) None) ∙ undone_gap us ss all)
     ∙ ap (λ es. Some es) (filled_gap (undone us ss))
 
-pub few_noted : {X : Type 0} (o : Option (List (Step X))) (p : ℕ) (s : Option (Key × X)) (m n : ℕ) → IfSome o (λ us. length us + 2 ≤ m) → m ≤ n + 1 → AreFew (noted o p s) n
-few_noted None p s m n few le = tt
-few_noted (Some us) p s m n few le = omega (arith, length-append us ((p, s) ∷ []), few, le)
+-- the keys of all steps stand among the places
+entered_more : {X : Type 0} (ps : Places) (us : List (Step X)) (p : ℕ) (s : Option (Key × X)) → AreEntered ps us → IsEntered ps s → AreEntered ps (us ++ (p, s) ∷ [])
+entered_more ps [] p s all one = (one, tt)
+entered_more ps (u ∷ us) p s all one = (all.0, entered_more ps us p s all.1 one)
 
-pub few_more : {X : Type 0} (o : Option (List (Step X))) (m n : ℕ) → AreFew o m → m ≤ n → AreFew o n
-few_more None m n few le = tt
-few_more (Some us) m n few le = omega (arith, few, le)
+pub entered_last : {X : Type 0} (ps : Places) (us : List (Step X)) (p : ℕ) (s : Option (Key × X)) → AreEntered ps (us ++ (p, s) ∷ []) → AreEntered ps us × IsEntered ps s
+entered_last ps [] p s all = (tt, all.0)
+entered_last ps (u ∷ us) p s all = let r = entered_last ps us p s all.1 in ((all.0, r.0), r.1)
+
+entered_noted : {X : Type 0} (ps : Places) (o : Option (List (Step X))) (p : ℕ) (s : Option (Key × X)) → IfSome o (λ us. AreEntered ps us) → IsEntered ps s
+    → IfSome (noted o p s) (λ us. AreEntered ps us)
+entered_noted ps None p s all one = tt
+entered_noted ps (Some us) p s all one = entered_more ps us p s all one
+
+-- the keys that stand there stay
+abbrev pub Stay : Places → Places → Type 0
+Stay ps qs = (j : Key) → is_entered ps j ≡ true → is_entered qs j ≡ true
+
+pub one_stays : {X : Type 0} (ps qs : Places) → Stay ps qs → (s : Option (Key × X)) → IsEntered ps s → IsEntered qs s
+one_stays ps qs w None e = tt
+one_stays ps qs w (Some x) e = w x.0 e
+
+pub all_stay : {X : Type 0} (ps qs : Places) → Stay ps qs → (us : List (Step X)) → AreEntered ps us → AreEntered qs us
+all_stay ps qs w [] e = tt
+all_stay ps qs w (u ∷ us) e = (one_stays ps qs w u.1 e.0, all_stay ps qs w us e.1)
+
+steps_stay : {X : Type 0} (ps qs : Places) → Stay ps qs → (o : Option (List (Step X))) → IfSome o (λ us. AreEntered ps us) → IfSome o (λ us. AreEntered qs us)
+steps_stay ps qs w None e = tt
+steps_stay ps qs w (Some us) e = all_stay ps qs w us e
+
+-- so does the key of each slot
+pub held_entered : (ps : Places) (k : Key) (i : ℕ) → held ps k ≡ Some i → is_entered ps k ≡ true
+held_entered ps k i e = go (lookup (same_key k) ps) e
+  where
+    go : (o : Option (Option ℕ)) → option_flatten o ≡ Some i → is_some o ≡ true
+    go None e = absurd cc
+    go (Some x) e = refl
+
+get_there : {X : Type 0} (ss : Slots X) (i : ℕ) (e : Key × X) → get_or ss i None ≡ Some e → slice_get ss i ≡ Some (Some e)
+get_there [] i e h = absurd cc
+get_there (x ∷ ss) zero e h = ap (λ z. Some z) h
+get_there (x ∷ ss) (suc i) e h = get_there ss i e h
+
+slot_entered : {X : Type 0} (ss : Slots X) (ps : Places) (n i : ℕ) → IsSlotted ss ps n → IsEntered ps (get_or ss i None)
+slot_entered {X = X} ss ps n i s = go (get_or ss i None) refl
+  where
+    go : (o : Option (Key × X)) → get_or ss i None ≡ o → IsEntered ps o
+    go None h = tt
+    go (Some e) h = held_entered ps e.0 i (s.found e.0 ∙ leads_back ss i e s.apart (get_there ss i e h))
 
 -- A template comes back into its slot.
 place_in : {X : Type 0} (k : Key) (t : X) (j : Key) (ss : Slots X) (i : ℕ) → i < length ss → IsApart (set ss i (Some (k, t)))
@@ -140,12 +182,12 @@ count_in e (s ∷ ss) zero lt = refl
 count_in e (None ∷ ss) (suc i) lt = count_in e ss i (omega (arith, lt))
 count_in e (Some x ∷ ss) (suc i) lt = ap suc (count_in e ss i (omega (arith, lt)))
 
-pub slotted_in : {X : Type 0} (k : Key) (t : X) (ss : Slots X) (ps qs : List (Key × ℕ)) (i : ℕ) → i < length ss → IsApart (set ss i (Some (k, t))) → IsSlotted (set ss i None) ps
-    → ((j : Key) → lookup (same_key j) qs ≡ cond (same_key k j) (Some i) (lookup (same_key j) ps)) → length qs ≡ length ps + 1 → IsSlotted (set ss i (Some (k, t))) qs
-slotted_in k t ss ps qs i lt a s u n = record {
+pub slotted_in : {X : Type 0} (k : Key) (t : X) (ss : Slots X) (ps qs : Places) (m n i : ℕ) → i < length ss → IsApart (set ss i (Some (k, t))) → IsSlotted (set ss i None) ps m
+    → ((j : Key) → held qs j ≡ cond (same_key k j) (Some i) (held ps j)) → n ≡ m + 1 → IsSlotted (set ss i (Some (k, t))) qs n
+slotted_in k t ss ps qs m n i lt a s u more = record {
   found = λ j. u j ∙ ap (λ o. cond (same_key k j) (Some i) o) (s.found j) ∙ sym (place_in k t j ss i lt a);
   apart = a;
-  counted = omega (arith, n, s.counted, count_in (k, t) ss i lt);
+  counted = omega (arith, more, s.counted, count_in (k, t) ss i lt);
 }
 
 -- where no steps are noted
@@ -159,57 +201,41 @@ no_steps items (Some v) P e = absurd cc
 
 module _ {X : Type 0} where
   -- the same slots and steps
-  pub kept_as : (ss ts : Slots X) (qs : List (Key × ℕ)) (n : ℕ) (o p : Option (List (Step X))) → ts ≡ ss → p ≡ o → IsKept ss qs n o → IsKept ts qs n p
+  pub kept_as : (ss ts : Slots X) (qs : Places) (n : ℕ) (o p : Option (List (Step X))) → ts ≡ ss → p ≡ o → IsKept ss qs n o → IsKept ts qs n p
   kept_as ss ts qs n o p a b k = record {
-    slotted = subst (λ us. IsSlotted us qs) (sym a) k.slotted;
+    slotted = subst (λ us. IsSlotted us qs n) (sym a) k.slotted;
     steps_back = subst (λ (q : Option (List (Step X))). IfSome q (λ us. AreSteps us ts)) (sym b) (subst (λ zs. IfSome o (λ us. AreSteps us zs)) (sym a) k.steps_back);
-    few = subst (λ (q : Option (List (Step X))). AreFew q n) (sym b) k.few;
+    entered = subst (λ (q : Option (List (Step X))). IfSome q (λ us. AreEntered qs us)) (sym b) k.entered;
   }
 
-  -- the same places and more room
-  pub kept_room : (ss : Slots X) (ps qs : List (Key × ℕ)) (m n : ℕ) (o p : Option (List (Step X))) → IsKept ss ps m o → qs ≡ ps → p ≡ o → m ≤ n → IsKept ss qs n p
-  kept_room ss ps qs m n o p k a b le = kept_as ss ss qs n o p refl b (record {
-    slotted = subst (λ (rs : List (Key × ℕ)). IsSlotted ss rs) (sym a) k.slotted;
-    steps_back = k.steps_back;
-    few = few_more o m n k.few le;
-  })
+  -- the same entries
+  pub kept_same : (ss : Slots X) (ps qs : Places) (n : ℕ) (o : Option (List (Step X))) → qs ≡ ps → IsKept ss ps n o → IsKept ss qs n o
+  kept_same ss ps qs n o a k = subst (λ (rs : Places). IsKept ss rs n o) (sym a) k
 
-  -- the same places, and less room
-  pub kept_tight : (ss : Slots X) (ps qs : List (Key × ℕ)) (m n : ℕ) (o : Option (List (Step X))) → IsKept ss ps m o → qs ≡ ps → IfSome o (λ us. length us + 2 ≤ m) → m ≤ n + 1 → IsKept ss qs n o
-  kept_tight ss ps qs m n o k a room le = record {
-    slotted = subst (λ (rs : List (Key × ℕ)). IsSlotted ss rs) (sym a) k.slotted;
-    steps_back = k.steps_back;
-    few = go o room;
-  }
-    where
-      go : (q : Option (List (Step X))) → IfSome q (λ us. length us + 2 ≤ m) → AreFew q n
-      go None r = tt
-      go (Some us) r = omega (arith, r, le)
-
-  pub kept_put : (k : Key) (t : X) (ss : Slots X) (ps : List (Key × ℕ)) (m : ℕ) (o : Option (List (Step X))) (i : ℕ) → IsKept ss ps m o → place_of k ss ≡ Some i
-      → IfSome o (λ us. length us + 2 ≤ m) → IsKept (set ss i (Some (k, t))) ps m (noted o i (get_or ss i None))
-  kept_put k t ss ps m o i s e room = record {
-    slotted = slotted_put k t ss ps i s.slotted e;
+  pub kept_put : (k : Key) (t : X) (ss : Slots X) (ps : Places) (n : ℕ) (o : Option (List (Step X))) (i : ℕ) → IsKept ss ps n o → place_of k ss ≡ Some i
+      → IsKept (set ss i (Some (k, t))) ps n (noted o i (get_or ss i None))
+  kept_put k t ss ps n o i s e = record {
+    slotted = slotted_put k t ss ps n i s.slotted e;
     steps_back = put_steps o ss i (Some (k, t)) (stands k ss i e).within s.slotted.apart s.steps_back;
-    few = few_noted o i (get_or ss i None) m m room (omega arith);
+    entered = entered_noted ps o i (get_or ss i None) s.entered (slot_entered ss ps n i s.slotted);
   }
 
-  pub kept_out : (k : Key) (ss : Slots X) (ps qs : List (Key × ℕ)) (m n : ℕ) (o : Option (List (Step X))) (i : ℕ) → IsKept ss ps m o → place_of k ss ≡ Some i
-      → ((j : Key) → lookup (same_key j) qs ≡ cond (same_key k j) None (lookup (same_key j) ps)) → length qs + 1 ≡ length ps
-      → IfSome o (λ us. length us + 2 ≤ m) → m ≤ n → IsKept (set ss i None) qs n (noted o i (get_or ss i None))
-  kept_out k ss ps qs m n o i s e u c room le = record {
-    slotted = slotted_out k ss ps qs i s.slotted e u c;
+  pub kept_out : (k : Key) (ss : Slots X) (ps qs : Places) (m n : ℕ) (o : Option (List (Step X))) (i : ℕ) → IsKept ss ps m o → place_of k ss ≡ Some i
+      → ((j : Key) → held qs j ≡ cond (same_key k j) None (held ps j)) → Stay ps qs → n + 1 ≡ m
+      → IsKept (set ss i None) qs n (noted o i (get_or ss i None))
+  kept_out k ss ps qs m n o i s e u w less = record {
+    slotted = slotted_out k ss ps qs m n i s.slotted e u less;
     steps_back = put_steps o ss i None (stands k ss i e).within s.slotted.apart s.steps_back;
-    few = few_noted o i (get_or ss i None) m n room (omega (arith, le));
+    entered = entered_noted qs o i (get_or ss i None) (steps_stay ps qs w o s.entered) (one_stays ps qs w (get_or ss i None) (slot_entered ss ps m i s.slotted));
   }
 
-  pub kept_push : (k : Key) (t : X) (ss : Slots X) (ps qs : List (Key × ℕ)) (m n : ℕ) (o : Option (List (Step X))) (i : ℕ) → IsKept ss ps m o → place_of k ss ≡ None → i ≡ length ss
-      → ((j : Key) → lookup (same_key j) qs ≡ cond (same_key k j) (Some (length ss)) (lookup (same_key j) ps)) → length qs ≡ length ps + 1
-      → IfSome o (λ us. length us + 2 ≤ m) → m ≤ n + 1 → IsKept (ss ++ Some (k, t) ∷ []) qs n (noted o i None)
-  kept_push k t ss ps qs m n o i s e at u c room le = subst (λ j. IsKept (ss ++ Some (k, t) ∷ []) qs n (noted o j None)) (sym at) (record {
-    slotted = slotted_push k t ss ps qs s.slotted e u c;
+  pub kept_push : (k : Key) (t : X) (ss : Slots X) (ps qs : Places) (m n : ℕ) (o : Option (List (Step X))) (i : ℕ) → IsKept ss ps m o → place_of k ss ≡ None → i ≡ length ss
+      → ((j : Key) → held qs j ≡ cond (same_key k j) (Some (length ss)) (held ps j)) → Stay ps qs → n ≡ m + 1
+      → IsKept (ss ++ Some (k, t) ∷ []) qs n (noted o i None)
+  kept_push k t ss ps qs m n o i s e at u w more = subst (λ j. IsKept (ss ++ Some (k, t) ∷ []) qs n (noted o j None)) (sym at) (record {
+    slotted = slotted_push k t ss ps qs m n s.slotted e u more;
     steps_back = push_steps o ss (k, t) s.slotted.apart s.steps_back;
-    few = few_noted o (length ss) None m n room le;
+    entered = entered_noted qs o (length ss) None (steps_stay ps qs w o s.entered) tt;
   })
 
   pub before_put : (o p q : Option (List (Step X))) (ss ts : Slots X) (i : ℕ) (s : Option (Key × X)) → q ≡ noted p i (get_or ss i None) → ts ≡ set ss i s → p ≡ o
@@ -224,10 +250,10 @@ module _ {X : Type 0} where
       ∙ ap (λ (r : Option (List (Step X))). before_of r ss) c
 
   -- an empty slot
-  pub emptied : (ss : Slots X) (ps : List (Key × ℕ)) (i : ℕ) → slice_get ss i ≡ Some None → IsSlotted ss ps → IsSlotted (set ss i None) ps
-  emptied ss ps i e s = subst (λ zs. IsSlotted zs ps) (sym (ap (set ss i) (sym (get_or_from_slice_get ss i None None e)) ∙ set-get_or ss i None)) s
+  pub emptied : (ss : Slots X) (ps : Places) (n i : ℕ) → slice_get ss i ≡ Some None → IsSlotted ss ps n → IsSlotted (set ss i None) ps n
+  emptied ss ps n i e s = subst (λ zs. IsSlotted zs ps n) (sym (ap (set ss i) (sym (get_or_from_slice_get ss i None None e)) ∙ set-get_or ss i None)) s
 
   -- the last step is taken back
-  pub kept_back : (us : List (Step X)) (p : ℕ) (s : Option (Key × X)) (ss : Slots X) (qs : List (Key × ℕ)) (n : ℕ) → AreSteps (us ++ (p, s) ∷ []) ss → IsSlotted (set ss p s) qs → length us ≤ n
+  pub kept_back : (us : List (Step X)) (p : ℕ) (s : Option (Key × X)) (ss : Slots X) (qs : Places) (n : ℕ) → AreSteps (us ++ (p, s) ∷ []) ss → IsSlotted (set ss p s) qs n → AreEntered qs us
       → IsKept (set ss p s) qs n (Some us)
-  kept_back us p s ss qs n all slotted few = record { slotted = slotted; steps_back = (steps_last us p s ss all).0; few = few }
+  kept_back us p s ss qs n all slotted entered = record { slotted = slotted; steps_back = (steps_last us p s ss all).0; entered = entered }

@@ -1,14 +1,15 @@
 //! Which fields of a template's records are chosen, and where they stand.
-ghost use Rattle.std.specs.Prelude.{◌≡◌, ◌<◌, ◌≤◌, ◌+◌, ◌*◌, ◌^◌, [], length, true, false, OnSome, Some, None};
+ghost use Rattle.std.specs.Prelude.{◌≡◌, ◌<◌, ◌≤◌, ◌+◌, ◌*◌, ◌^◌, [], length, true, false, OnSome, IfOk, Some, None};
 ghost use Rattle.std.specs.Option.{option_or, option_map};
 ghost use Rattle.std.specs.List.{list_any};
 ghost use Rattle.tca_templates.specs.Records.{fields_on};
 ghost use Rattle.tca_templates.specs.Chosen.{times, sizes, code_points, interfaces, sections, is_field_of, chosen_of};
-ghost use Rattle.tca_templates.specs.inside.Layouts.{spot_in, spot_if, choice_of, spots_of, spots_with, layout_of};
+ghost use Rattle.tca_templates.specs.inside.Layouts.{spot_in, spot_if, choice_of, spots_of, spots_with, layout_of, is_of, left_of, left_by, is_step, steps_of};
 
 use crate::elements::{CODE_POINTS, INTERFACES, SECTIONS, SIZES, TIMES};
 use crate::record::measure;
 use crate::template::{FieldSpec, VARIABLE};
+use std::alloc::{AllocError, Global};
 
 // Which elements are chosen of a template.
 #[derive(Clone, Copy)]
@@ -61,6 +62,20 @@ fn choose_one(elements: &[u16], specs: &[FieldSpec]) -> Option<u16>
     None
 }
 
+// Takes the chosen element away where this field has it; the answer is whether it has.
+fn take_element(chosen: &mut Option<u16>, spec: &FieldSpec) -> bool
+    ensures has { result ≡ is_of chosen.old spec.now }
+    ensures left { chosen.new ≡ left_of chosen.old spec.now }
+{
+    match *chosen {
+        Some(element) if spec.enterprise.is_none() && spec.element == element => {
+            *chosen = None;
+            true
+        }
+        _ => false,
+    }
+}
+
 impl Choice {
     // Which elements are chosen of these fields.
     pub(crate) fn of(specs: &[FieldSpec]) -> Choice
@@ -73,6 +88,19 @@ impl Choice {
             interface: choose_one(&INTERFACES, specs),
             section: choose_one(&SECTIONS, specs),
         }
+    }
+
+    // Takes the elements away that this field has. The answer is whether records are gone over by it: it has one, or octets.
+    fn take_field(&mut self, spec: &FieldSpec) -> bool
+        ensures step { result ≡ is_step self.old spec.now }
+        ensures left { self.new ≡ left_by self.old spec.now }
+    {
+        let time = take_element(&mut self.time, spec);
+        let size = take_element(&mut self.size, spec);
+        let code_point = take_element(&mut self.code_point, spec);
+        let interface = take_element(&mut self.interface, spec);
+        let section = take_element(&mut self.section, spec);
+        time || size || code_point || interface || section || spec.length != 0
     }
 }
 
@@ -144,21 +172,44 @@ pub(crate) fn lay_out(choice: Choice, specs: &[FieldSpec]) -> Option<Spots>
     Some(spots)
 }
 
+// The places of the fields that each record is gone over by: of the fields without octets these are only the first of each
+// chosen element, so that a record isn't gone over by more fields than it has octets, and five.
+pub(crate) fn steps_of(
+    alloc: Global,
+    choice: Choice,
+    specs: &[FieldSpec],
+) -> Result<Vec<u16>, AllocError>
+    requires { length specs.now < 2 ^ 16 }
+    ensures { IfOk result (λ v. v.items ≡ steps_of choice 0 specs.now) }
+{
+    let mut left = choice;
+    let mut steps = Vec::with_capacity(alloc, specs.len())?;
+    for (place, spec) in specs.iter().enumerate() {
+        if left.take_field(spec) {
+            steps.push(place as u16)?;
+        }
+    }
+    Ok(steps)
+}
+
 // How many octets the record at the front has; `spots` then say where its chosen fields stand. `None` where it isn't
-// there whole.
+// there whole. `steps` are the places of the fields that it is gone over by.
 pub(crate) fn locate(
     choice: &Choice,
     specs: &[FieldSpec],
+    steps: &[u16],
     octets: &[u8],
     spots: &mut Spots,
 ) -> Option<usize>
+    requires { steps.now ≡ steps_of choice.now 0 specs.now }
     ensures whole { result ≡ option_map (λ x. x.1) (fields_on [] 0 specs.now octets.now) }
     ensures spots { OnSome result (spots.new ≡ spots_of choice.now (λ e. spot_in e 0 specs.now octets.now)) }
 {
     *spots = Spots::none();
     let mut used = 0;
     let mut rest = octets;
-    for spec in specs {
+    for step in steps {
+        let spec = &specs[*step as usize];
         let Some((skip, size)) = measure(spec.length, rest) else {
             return None;
         };

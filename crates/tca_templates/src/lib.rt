@@ -4,7 +4,7 @@
 //! the message, without memory of their own. Which fields of a template's records tell about a packet, and where they
 //! stand, is worked out when the template is defined; a record with a field of variable length is gone over once.
 //! Only `read` copies fields; and it notes what template sets change, and puts that back where the message is refused.
-//! Templates are found by a hash of their domain and ID, and withdrawn without moving the others. All that a stranger's
+//! Templates are found in a map ordered by their domain and ID, and withdrawn without moving the others. All that a stranger's
 //! messages can make a decoder keep is 4,096 templates of 512 fields each, in at most twice as many slots and those that
 //! the last message added. Memory is the last that a record can want: one that is refused for itself is refused so
 //! whether or not there is memory for it.

@@ -1,5 +1,5 @@
 //! The records of a data set.
-ghost use Rattle.std.specs.Prelude.{◌≡◌, ◌<◌, ◌≤◌, ◌+◌, ◌++◌, ◌∷◌, ◌^◌, List, ℕ, [], length, map, true, OnOk, OnErr, IfOk, IfErr, IfSome, Ok, Err};
+ghost use Rattle.std.specs.Prelude.{◌≡◌, ◌<◌, ◌≤◌, ◌+◌, ◌++◌, ◌∷◌, ◌^◌, List, ℕ, [], length, map, true, OnOk, OnErr, IfOk, IfErr, IfSome, Ok, Err, None};
 ghost use Rattle.std.specs.Option.{is_some, option_map};
 ghost use Rattle.tca_wire.specs.Walks.{walk};
 ghost use Rattle.tca_templates.specs.Templates.{shortest_of};
@@ -275,6 +275,7 @@ fn read_variable<T: TakesRecords>(
     octets: &[u8],
     taker: &mut T,
 ) -> Result<u32, DecodeFault>
+    requires variable { template.now.fixed ≡ None }
     requires few { count + length octets.now < 2 ^ 32 }
     requires place { at + length octets.now < 2 ^ 16 }
     ensures exact { (start : T) (records : List PlacedView) → Took T.took start taker.old count records
@@ -292,7 +293,13 @@ fn read_variable<T: TakesRecords>(
     let mut at = at;
     let mut rest = octets;
     while rest.len() >= shortest {
-        let Some(size) = locate(&template.choice, &template.specs, rest, &mut spots) else {
+        let Some(size) = locate(
+            &template.choice,
+            &template.specs,
+            &template.steps,
+            rest,
+            &mut spots,
+        ) else {
             return Err(DecodeFault::RecordCut { at });
         };
         let record = Record {

@@ -1,29 +1,28 @@
 //! The templates that are known, each in a slot of its own, in the order in which they were first seen.
 //!
-//! A withdrawal leaves its slot empty, so that nothing is moved. The empty slots are taken away together, when a new
-//! template comes and they are as many as the templates. So what a withdrawal and a definition cost on average doesn't
-//! depend on how many templates are known.
+//! A withdrawal leaves its slot empty, so that nothing is moved, and its key without a place. The empty slots and these keys
+//! are taken away together, when a new template comes and they are as many as the templates. So what a withdrawal and a
+//! definition cost on average is one search of a tree of keys, whichever keys a stranger chooses.
 //!
 //! For each domain and kind the IDs are listed that were defined so, one more with each definition. A withdrawal of all
 //! goes over those that were listed since the last one. So each definition is gone over once, whatever else is known.
 //! Where the lists have more than twice as many IDs as there are templates, each template is listed once, anew.
 //!
-//! While a message is read that may be refused, each change notes what stood in its slot before, and its step reserves
-//! what taking it back needs. So a refusal is undone without memory, from the last change to the first. A list that a
-//! template comes back to is gone over once more from its start.
-ghost use Rattle.std.specs.Prelude.{◌≡◌, ◌≢◌, ◌+◌, ◌<◌, ◌≤◌, ◌^◌, ℕ, Bool, false, Option, Some, None, slice_get, [], length, set, get_or, OnOk, OnErr, IfOk, IfSome, vec_len, vec_capacity};
-ghost use Rattle.std.specs.Option.{option_map};
+//! While a message is read that may be refused, each change notes what stood in its slot before, and no key is taken away. So
+//! a refusal is undone without memory, from the last change to the first. A list that a template comes back to is gone over
+//! once more from its start.
+ghost use Rattle.std.specs.Prelude.{◌≡◌, ◌≢◌, ◌+◌, ◌<◌, ◌≤◌, ◌^◌, ℕ, Bool, false, Option, Some, None, slice_get, [], length, filter, if◌then◌else◌, true, set, get_or, OnOk, OnErr, IfOk, IfSome, vec_len, vec_capacity};
+ghost use Rattle.std.specs.Option.{is_some, option_map};
 ghost use Rattle.std.specs.Map.{lookup};
-ghost use Rattle.indexmap.specs.IndexMap.{spare};
 ghost use Rattle.tca_templates.specs.declared.template.Template.{Template};
 ghost use Rattle.tca_templates.specs.Templates.{Key, known, define, withdraw, withdraw_all, same_key};
 ghost use Rattle.tca_templates.specs.Fields.{template_of, templates_of};
-ghost use Rattle.tca_templates.specs.inside.Slotted.{filled, noted, same_kind, IsApart, IsSlotted, IsAhead, IsAmong, IsListed};
+ghost use Rattle.tca_templates.specs.inside.Slotted.{filled, place_of, noted, held, is_entered, same_kind, IsApart, IsSlotted, IsAhead, IsAmong, IsListed};
 
 use crate::ids::Ids;
 use crate::template::Template;
-use indexmap::IndexMap;
 use std::alloc::{AllocError, Global};
+use std::collections::BTreeMap;
 use std::marker::Model;
 use std::mem;
 
@@ -39,54 +38,84 @@ pub(crate) type Slot = Option<((u32, u16), Template)>;
 // A step back: a slot's place, and what stood there.
 type Step = (usize, Slot);
 
-// The place of each domain and ID.
-type Places = IndexMap<(u32, u16), usize>;
+// The place of each domain and ID; a key whose template was withdrawn may stand there without one.
+type Places = BTreeMap<(u32, u16), Option<usize>>;
 
 // The IDs by domain and kind.
-type Kinds = IndexMap<(u32, bool), Ids>;
+type Kinds = BTreeMap<(u32, bool), Ids>;
 
 // The templates of a session by observation domain and ID, in the order in which they were first seen.
 #[derive(Drop)]
 pub(crate) struct Slots {
     /// The templates, and empty slots among them.
     slots: Vec<Slot>,
-    /// In which slot the template of a domain and ID is; their order says nothing.
+    /// In which slot the template of a domain and ID is.
     places: Places,
     /// The IDs of all templates of a domain and kind; others may be there too.
     kinds: Kinds,
     /// How many IDs are listed in all.
     listed: usize,
-    /// The way back to the slots before a message that may be refused, while it is read. The map has room for each step.
+    /// The way back to the slots before a message that may be refused, while it is read. The map has the key of each step.
     steps: Option<Vec<Step>>,
+    /// How many slots aren't empty.
+    count: usize,
 }
 
 impl Model for Slots {
     ghost use Rattle.tca_templates.specs.Fields.{SlotsView};
     ghost use Rattle.std.specs.Option.{option_map};
-    ghost use Rattle.indexmap.specs.IndexMap.{spare};
     ghost use Rattle.tca_templates.specs.inside.Slotted.{filled, before_of, IsKept, IsCovered};
 
     ghost Value = { SlotsView };
 
     ghost view = { λ s. record { known = filled s.slots.items; before = before_of (option_map (λ l. l.items) s.steps) s.slots.items } };
 
-    ghost invariant = { λ s. IsKept s.slots.items s.places.entries (spare s.places) (option_map (λ l. l.items) s.steps)
+    ghost invariant = { λ s. IsKept s.slots.items s.places.entries s.count (option_map (λ l. l.items) s.steps)
         × IsCovered s.slots.items s.kinds.entries (option_map (λ l. l.items) s.steps) };
 }
 
-// Notes the place of each template anew, in the room that the map has.
-fn number(slots: &[Slot], places: &mut Places)
-    requires apart { IsApart slots.now }
-    requires room { length slots.now ≤ length places.old.entries + spare places.old }
-    ensures { IsSlotted slots.now places.new.entries }
+// The place of a domain and ID.
+fn place_in(places: &Places, key: (u32, u16)) -> Option<usize>
+    ensures { result ≡ held places.now.entries key }
 {
-    places.clear();
-    for (place, slot) in slots.iter().enumerate() {
+    *places.get(&key)?
+}
+
+// Gives a key that stands there a place, or takes its place. It takes no memory.
+fn set_place(places: &mut Places, key: (u32, u16), place: Option<usize>)
+    requires { is_entered places.old.entries key ≡ true }
+    ensures held { (k : Key) → held places.new.entries k ≡ (if same_key key k then place else held places.old.entries k) }
+    ensures entered { (k : Key) → is_entered places.old.entries k ≡ true → is_entered places.new.entries k ≡ true }
+{
+    if let Some(old) = places.get_mut(&key) {
+        *old = place;
+    }
+}
+
+// Gives a key a place. An `Err` leaves all as it was.
+fn enter_place(places: &mut Places, key: (u32, u16), place: usize) -> Result<(), AllocError>
+    ensures held { OnOk result ((k : Key) → held places.new.entries k ≡ (if same_key key k then Some place else held places.old.entries k)) }
+    ensures entered { OnOk result ((k : Key) → is_entered places.old.entries k ≡ true → is_entered places.new.entries k ≡ true) }
+    ensures err { OnErr result (places.new.entries ≡ places.old.entries) }
+{
+    places.insert(key, Some(place))?;
+    Ok(())
+}
+
+// The places of the templates in these slots, once the empty ones are taken away.
+fn numbered(alloc: Global, slots: &[Slot]) -> Result<Places, AllocError>
+    requires { IsApart slots.now }
+    ensures { IfOk result (λ places. IsSlotted (filter is_some slots.now) places.entries (length (filled slots.now))) }
+{
+    let mut places = BTreeMap::new(alloc);
+    let mut count = 0;
+    for slot in slots {
         if let Some((key, _)) = slot {
-            // It can't want memory, since the map has room.
-            let _ = places.insert(*key, place);
+            enter_place(&mut places, *key, count)?;
+            count += 1;
         }
     }
+    Ok(places)
 }
 
 // Lists an ID of a domain and kind. An `Err` leaves all as it was.
@@ -109,7 +138,7 @@ fn list(alloc: Global, kinds: &mut Kinds, kind: (u32, bool), id: u16) -> Result<
 fn listed(alloc: Global, slots: &[Slot]) -> Result<Kinds, AllocError>
     ensures { IfOk result (λ kinds. (i : ℕ) (s : Option (Key × Template)) → slice_get slots.now i ≡ Some s → IsListed kinds.entries s) }
 {
-    let mut kinds = IndexMap::new(alloc);
+    let mut kinds = BTreeMap::new(alloc);
     for slot in slots {
         if let Some((key, template)) = slot {
             list(alloc, &mut kinds, (key.0, template.options), key.1)?;
@@ -141,11 +170,12 @@ fn pass_over(kinds: &mut Kinds, kind: (u32, bool))
 
 // Where the template of a domain and ID is, if it is of this kind.
 fn place_of_kind(slots: &[Slot], places: &Places, key: (u32, u16), options: bool) -> Option<usize>
-    requires { IsSlotted slots.now places.now.entries }
+    requires found { (k : Key) → held places.now.entries k ≡ place_of k slots.now }
+    requires apart { IsApart slots.now }
     ensures some { IfSome result (λ i. (t : Template) × (slice_get slots.now i ≡ Some (Some (key, t))) × (t.options ≡ options)) }
     ensures none { result ≡ None → (i : ℕ) (t : Template) → slice_get slots.now i ≡ Some (Some (key, t)) → t.options ≢ options }
 {
-    let place = *places.get(&key)?;
+    let place = place_in(places, key)?;
     let (_, template) = slots.get(place)?.as_ref()?;
     if template.options == options {
         Some(place)
@@ -154,16 +184,12 @@ fn place_of_kind(slots: &[Slot], places: &Places, key: (u32, u16), options: bool
     }
 }
 
-// Makes room for one step more and for one place more, where steps are noted.
-fn make_room(steps: &mut Option<Vec<Step>>, places: &mut Places) -> Result<(), AllocError>
-    ensures places { places.new.entries ≡ places.old.entries }
+// Makes room for one step more, where steps are noted.
+fn make_room(steps: &mut Option<Vec<Step>>) -> Result<(), AllocError>
     ensures steps { option_map (λ l. l.items) steps.new ≡ option_map (λ l. l.items) steps.old }
-    ensures spare { spare places.old ≤ spare places.new }
-    ensures room { OnOk result (IfSome (option_map (λ l. l.items) steps.new) (λ us. length us + 2 ≤ spare places.new)) }
     ensures free { OnOk result (IfSome steps.new (λ l. vec_len l < vec_capacity l)) }
 {
     if let Some(steps) = steps {
-        places.reserve(steps.len() + 2)?;
         steps.reserve(1)?;
     }
     Ok(())
@@ -198,10 +224,11 @@ impl Slots {
     {
         Slots {
             slots: Vec::new(alloc),
-            places: IndexMap::new(alloc),
-            kinds: IndexMap::new(alloc),
+            places: BTreeMap::new(alloc),
+            kinds: BTreeMap::new(alloc),
             listed: 0,
             steps: None,
+            count: 0,
         }
     }
 
@@ -210,7 +237,7 @@ impl Slots {
         ensures count { result ≡ length self.now.known }
         ensures small { result < 2 ^ 63 }
     {
-        self.places.len()
+        self.count
     }
 
     // All slots, in order.
@@ -224,8 +251,8 @@ impl Slots {
     pub(crate) fn find(&self, domain: u32, id: u16) -> Option<&Template>
         ensures { option_map (λ t. template_of t.now) result ≡ known (domain, id) (templates_of self.now) }
     {
-        let place = self.places.get(&(domain, id))?;
-        match &self.slots[*place] {
+        let place = place_in(&self.places, (domain, id))?;
+        match &self.slots[place] {
             Some((_, template)) => Some(template),
             None => None,
         }
@@ -243,14 +270,13 @@ impl Slots {
         ensures err { OnErr result (self.new ≡ self.old) }
         ensures before { self.new.before ≡ self.old.before }
     {
-        self.close_up();
+        self.close_up(alloc);
         self.list_anew(alloc)?;
         let key = (domain, id);
-        if let Some(place) = self.places.get(&key) {
-            let place = *place;
+        if let Some(place) = place_in(&self.places, key) {
             list(alloc, &mut self.kinds, (domain, template.options), id)?;
             self.listed = self.listed.saturating_add(1);
-            make_room(&mut self.steps, &mut self.places)?;
+            make_room(&mut self.steps)?;
             put(
                 &mut self.slots,
                 &mut self.steps,
@@ -269,37 +295,41 @@ impl Slots {
         ensures err { OnErr result (self.new ≡ self.old) }
         ensures before { self.new.before ≡ self.old.before }
     {
-        make_room(&mut self.steps, &mut self.places)?;
+        make_room(&mut self.steps)?;
         self.slots.reserve(1)?;
         let place = self.slots.len();
         list(alloc, &mut self.kinds, (key.0, template.options), key.1)?;
         self.listed = self.listed.saturating_add(1);
-        self.places.insert(key, place)?;
+        enter_place(&mut self.places, key, place)?;
         self.slots.push(Some((key, template)))?;
         note(&mut self.steps, place, None);
+        self.count += 1;
         Ok(())
     }
 
-    // Takes the empty slots away where they are many, unless steps are noted.
-    fn close_up(&mut self)
+    // Takes the empty slots away where they are many, unless steps are noted. Where memory is wanting, they stay.
+    fn close_up(&mut self, alloc: Global)
         ensures { self.new ≡ self.old }
     {
         if self.steps.is_some() {
             return;
         }
-        let empty = self.slots.len() - self.places.len();
-        if empty < FEWEST_EMPTY || empty < self.places.len() {
+        let empty = self.slots.len() - self.count;
+        if empty < FEWEST_EMPTY || empty < self.count {
             return;
         }
+        let Ok(places) = numbered(alloc, &self.slots) else {
+            return;
+        };
         self.slots.retain(|slot| slot.is_some());
-        number(&self.slots, &mut self.places);
+        self.places = places;
     }
 
     // Lists each template once where the lists are long, unless steps are noted. An `Err` leaves them.
     fn list_anew(&mut self, alloc: Global) -> Result<(), AllocError>
         ensures { self.new ≡ self.old }
     {
-        let count = self.places.len();
+        let count = self.count;
         if self.steps.is_some() || self.listed < FEWEST_LISTED || self.listed / 2 < count {
             return Ok(());
         }
@@ -313,9 +343,11 @@ impl Slots {
         ensures ok { OnOk result (templates_of self.new ≡ withdraw (domain, id) (templates_of self.old)) }
         ensures before { self.new.before ≡ self.old.before }
     {
-        make_room(&mut self.steps, &mut self.places)?;
-        if let Some(place) = self.places.swap_remove(&(domain, id)) {
+        make_room(&mut self.steps)?;
+        if let Some(place) = place_in(&self.places, (domain, id)) {
+            set_place(&mut self.places, (domain, id), None);
             put(&mut self.slots, &mut self.steps, place, None);
+            self.count -= 1;
         }
         Ok(())
     }
@@ -333,9 +365,10 @@ impl Slots {
         for i in ids.from..ids.all.len() {
             let key = (domain, ids.all[i]);
             if let Some(found) = place_of_kind(&self.slots, &self.places, key, options) {
-                make_room(&mut self.steps, &mut self.places)?;
-                self.places.swap_remove(&key);
+                make_room(&mut self.steps)?;
+                set_place(&mut self.places, key, None);
                 put(&mut self.slots, &mut self.steps, found, None);
+                self.count -= 1;
             }
         }
         pass_over(&mut self.kinds, kind);
@@ -348,7 +381,7 @@ impl Slots {
         ensures before { self.new.before ≡ Some self.old.known }
     {
         self.steps = None;
-        self.close_up();
+        self.close_up(alloc);
         // Where memory is wanting, the lists stay.
         let _ = self.list_anew(alloc);
         self.steps = Some(Vec::new(alloc));
@@ -371,11 +404,12 @@ impl Slots {
         let mut steps = steps;
         while let Some((place, slot)) = steps.pop() {
             if let Some((key, _)) = &self.slots[place] {
-                self.places.swap_remove(key);
+                set_place(&mut self.places, *key, None);
+                self.count -= 1;
             }
             if let Some((key, template)) = &slot {
-                // It can't want memory, since the map has room for each step.
-                let _ = self.places.insert(*key, place);
+                set_place(&mut self.places, *key, Some(place));
+                self.count += 1;
                 go_back(&mut self.kinds, (key.0, template.options));
             }
             self.slots[place] = slot;

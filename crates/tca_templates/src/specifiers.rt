@@ -6,7 +6,7 @@ ghost use Rattle.tca_templates.specs.Specifiers.{spec_at, specs_in, specs_on, he
 ghost use Rattle.tca_templates.specs.Fields.{change_view, viewed};
 
 use crate::fault::DecodeFault;
-use crate::layout::{Choice, lay_out};
+use crate::layout::{Choice, lay_out, steps_of};
 use crate::template::{Definition, FieldSpec, Template};
 use byteorder::{BigEndian, ByteOrder};
 use std::alloc::{AllocError, Global};
@@ -172,11 +172,17 @@ pub(crate) fn stored(
     }
     let choice = Choice::of(&specs);
     let fixed = lay_out(choice, &specs);
+    let steps = if fixed.is_some() {
+        Vec::new(alloc)
+    } else {
+        steps_of(alloc, choice, &specs)?
+    };
     Ok(Template {
         options,
         specs,
         shortest: definition.shortest,
         choice,
         fixed,
+        steps,
     })
 }

@@ -1,8 +1,8 @@
 //! What a template says of the records of its data sets.
-ghost use Rattle.std.specs.Prelude.{◌≡◌, ◌<◌, ◌≤◌, ◌*◌, length};
+ghost use Rattle.std.specs.Prelude.{◌≡◌, ◌<◌, ◌≤◌, ◌*◌, length, None};
 ghost use Rattle.tca_templates.specs.Templates.{least_of, shortest_of};
 ghost use Rattle.tca_templates.specs.Specifiers.{specs_in};
-ghost use Rattle.tca_templates.specs.inside.Layouts.{choice_of, layout_of};
+ghost use Rattle.tca_templates.specs.inside.Layouts.{choice_of, layout_of, steps_of};
 
 use crate::layout::{Choice, Spots};
 
@@ -31,10 +31,13 @@ pub(crate) struct Template {
     pub choice: Choice,
     /// Where they stand in each record, unless a field has a variable length.
     pub fixed: Option<Spots>,
+    /// The places of the fields that each record is gone over by, where one has a variable length.
+    pub steps: Vec<u16>,
     pub ghost right: { shortest ≡ shortest_of specs.items },
     pub ghost some: { 0 < shortest },
     pub ghost chosen: { choice ≡ choice_of specs.items },
     pub ghost laid: { fixed ≡ layout_of choice specs.items },
+    pub ghost gone_over: { fixed ≡ None → steps.items ≡ steps_of choice 0 specs.items },
 }
 
 // The specifiers of a template in the octets of the record that defines it. All of them are there.

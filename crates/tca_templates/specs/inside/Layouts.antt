@@ -1,5 +1,5 @@
 -- Where the chosen fields of a template stand in its records. Cited inside this crate alone.
-use Rattle.std.specs.Prelude.{◌≡◌, ℕ, ◌+◌, ◌==◌, Bool, true, not, ◌&&◌, if◌then◌else◌, List, [], ◌∷◌, take, drop, Option, Some, None, option_map}
+use Rattle.std.specs.Prelude.{◌≡◌, ℕ, ◌+◌, suc, ◌==◌, Bool, true, false, not, ◌&&◌, ◌||◌, if◌then◌else◌, List, [], ◌∷◌, take, drop, Option, Some, None, option_map}
 use Rattle.std.specs.Option.{is_some, option_or}
 use Rattle.tca_templates.specs.declared.template.FieldSpec.{FieldSpec}
 use Rattle.tca_templates.specs.declared.layout.Spot.{Spot}
@@ -73,6 +73,39 @@ value_in octets spot = option_map (λ s. (s.element, take s.length (drop s.at oc
 -- where the chosen fields stand in every record, unless a field has a variable length
 abbrev pub layout_of : Choice → List FieldSpec → Option Spots
 layout_of c specs = if are_fixed specs then Some (spots_of c (λ e. fixed_spot e 0 specs)) else None
+
+-- whether this field is one of the element that was chosen
+abbrev pub is_of : Option ℕ → FieldSpec → Bool
+is_of None s = false
+is_of (Some e) s = is_field_of e s
+
+-- the element that was chosen, unless this field has it
+abbrev pub left_of : Option ℕ → FieldSpec → Option ℕ
+left_of None s = None
+left_of (Some e) s = if is_field_of e s then None else Some e
+
+-- whether this field is one of an element that was chosen
+abbrev pub is_chosen : Choice → FieldSpec → Bool
+is_chosen c s = is_of c.time s || (is_of c.size s || (is_of c.code_point s || (is_of c.interface s || is_of c.section s)))
+
+-- the elements that were chosen, but those that this field has
+abbrev pub left_by : Choice → FieldSpec → Choice
+left_by c s = record {
+  time = left_of c.time s;
+  size = left_of c.size s;
+  code_point = left_of c.code_point s;
+  interface = left_of c.interface s;
+  section = left_of c.section s;
+}
+
+-- whether records are gone over by this field: it has octets, or is the first of an element that was chosen
+abbrev pub is_step : Choice → FieldSpec → Bool
+is_step c s = is_chosen c s || not (s.length == 0)
+
+-- the places of the fields that records are gone over by, counted from this number on
+unfoldable pub steps_of : Choice → ℕ → List FieldSpec → List ℕ
+steps_of c at [] = []
+steps_of c at (s ∷ ss) = if is_step c s then at ∷ steps_of (left_by c s) (suc at) ss else steps_of (left_by c s) (suc at) ss
 
 -- No field has a variable length, and these are the spots of every record.
 pub record IsLaidOut (c : Choice) (specs : List FieldSpec) (spots : Spots) : Type 0 where

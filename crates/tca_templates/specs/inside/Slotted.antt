@@ -1,6 +1,6 @@
 -- The slots in which the templates of a session stand, in the order in which these were first seen. Cited by the code and its proofs.
-use Rattle.std.specs.Prelude.{◌≡◌, ◌≤◌, ◌<◌, ◌++◌, ◌==◌, ◌&&◌, ℕ, suc, Bool, slice_get, List, [], ◌∷◌, length, set, if◌then◌else◌, Option, Some, None, IfSome, ⊤}
-use Rattle.std.specs.Option.{option_map}
+use Rattle.std.specs.Prelude.{◌≡◌, ◌≤◌, ◌<◌, ◌++◌, ◌==◌, ◌&&◌, ℕ, suc, Bool, true, slice_get, List, [], ◌∷◌, length, set, if◌then◌else◌, Option, Some, None, IfSome, ⊤}
+use Rattle.std.specs.Option.{is_some, option_map, option_flatten}
 use Rattle.std.specs.Map.{lookup}
 use mathlib.Core.Bool.{beq}
 use Rattle.tca_templates.specs.declared.template.Template.{Template}
@@ -25,11 +25,23 @@ IsApart [] = ⊤
 IsApart (None ∷ ss) = IsApart ss
 IsApart (Some e ∷ ss) = (place_of e.0 ss ≡ None) × IsApart ss
 
--- The place that is noted for each key is that of its slot, no two slots have one key, and no other place is noted.
-pub record IsSlotted {X : Type 0} (slots : List (Option (Key × X))) (places : List (Key × ℕ)) : Type 0 where
-  pub found : (k : Key) → lookup (same_key k) places ≡ place_of k slots
+-- the keys with their places; a key whose template was withdrawn may stand there without one
+abbrev pub Places : Type 0
+Places = List (Key × Option ℕ)
+
+-- the place of a key
+abbrev pub held : Places → Key → Option ℕ
+held places k = option_flatten (lookup (same_key k) places)
+
+-- whether a key stands there, with or without a place
+abbrev pub is_entered : Places → Key → Bool
+is_entered places k = is_some (lookup (same_key k) places)
+
+-- The place of each key is that of its slot, no two slots have one key, and so many are filled.
+pub record IsSlotted {X : Type 0} (slots : List (Option (Key × X))) (places : Places) (count : ℕ) : Type 0 where
+  pub found : (k : Key) → held places k ≡ place_of k slots
   pub apart : IsApart slots
-  pub counted : length places ≡ length (filled slots)
+  pub counted : count ≡ length (filled slots)
 
 -- A step back: the slot of this place stood so.
 abbrev pub Step : Type 0 → Type 0
@@ -53,15 +65,21 @@ noted steps place slot = option_map (λ us. us ++ (place, slot) ∷ []) steps
 abbrev pub before_of : {X : Type 0} → Option (List (Step X)) → List (Option (Key × X)) → Option (List (Key × X))
 before_of steps ss = option_map (λ us. filled (undone us ss)) steps
 
--- the steps, where they are noted, are no more than this
-abbrev pub AreFew : {X : Type 0} → Option (List (Step X)) → ℕ → Type 0
-AreFew steps most = IfSome steps (λ us. length us ≤ most)
+-- the key of this slot stands among the places
+abbrev pub IsEntered : {X : Type 0} → Places → Option (Key × X) → Type 0
+IsEntered places None = ⊤
+IsEntered places (Some e) = is_entered places e.0 ≡ true
 
--- The places are those of the slots, and all steps can be taken back without more room than there is.
-pub record IsKept {X : Type 0} (slots : List (Option (Key × X))) (places : List (Key × ℕ)) (room : ℕ) (steps : Option (List (Step X))) : Type 0 where
-  pub slotted : IsSlotted slots places
+-- so do those of all steps
+abbrev pub AreEntered : {X : Type 0} → Places → List (Step X) → Type 0
+AreEntered places [] = ⊤
+AreEntered places (u ∷ us) = IsEntered places u.1 × AreEntered places us
+
+-- The places are those of the slots, and all steps can be taken back without a key more.
+pub record IsKept {X : Type 0} (slots : List (Option (Key × X))) (places : Places) (count : ℕ) (steps : Option (List (Step X))) : Type 0 where
+  pub slotted : IsSlotted slots places count
   pub steps_back : IfSome steps (λ us. AreSteps us slots)
-  pub few : AreFew steps room
+  pub entered : IfSome steps (λ us. AreEntered places us)
 
 -- the observation domain of a template, and whether it is an options template
 abbrev pub Kind : Type 0

@@ -22,6 +22,11 @@ loop-rest-init g c = record {
   shortest = refl;
 }
 
+pub locate-requires : goal.locate-requires
+locate-requires g c =
+    let t = c.args.template.now in
+    rw (c.deref.ensures.value, c.deref-in-loop-rest.ensures.value) (t.gone_over c.requires.variable)
+
 pub returns-in_default-clause-exact : goal.returns-in_default-clause-exact
 returns-in_default-clause-exact g c = λ start records taken other.
     let t = c.args.template.now in

@@ -1,32 +1,30 @@
 use Rattle.std.proofs.lemmas.Grind.{common_steps}
-use Rattle.std.proofs.Common.{◌≡◌, ◌+◌, ℕ, List, ◌∷◌, ◌++◌, [], length, refl, ap, arith, ◌∙◌}
-use Rattle.std.specs.Prelude.{Option, Some, None, is_some, if◌then◌else◌}
+use Rattle.std.proofs.Common.{◌≡◌, ◌+◌, List, ◌∷◌, ◌++◌, [], length, refl, ap, arith, ◌∙◌}
+use Rattle.std.specs.Prelude.{Option, Some, None, if◌then◌else◌}
 use Rattle.std.specs.Map.{lookup}
 use Rattle.tca_templates.specs.declared.template.Template.{Template}
 use Rattle.tca_templates.specs.Templates.{Key, same_key, define}
 use Rattle.tca_templates.specs.Fields.{SlotsView, template_of, entries_of}
-use Rattle.tca_templates.specs.inside.Slotted.{place_of, filled}
+use Rattle.tca_templates.specs.inside.Slotted.{place_of, filled, held}
 use Rattle.tca_templates.proofs.Stored.{templates-insert}
-use Rattle.tca_templates.proofs.SlotLaws.{placed, filled_push}
-use Rattle.tca_templates.proofs.StepLaws.{kept_as, kept_room, kept_tight, kept_push, before_push}
+use Rattle.tca_templates.proofs.SlotLaws.{placed, filled_push, filled_few}
+use Rattle.tca_templates.proofs.StepLaws.{kept_as, kept_same, kept_push, before_push}
 use Rattle.tca_templates.proofs.CoverLaws.{covered_push, covered_ahead, covered_as}
 use Rattle.tca_templates.proofs.slots.Slots.push.Goals as goal
 
 pub invariant_of-self-2 : goal.invariant_of-self-2
 invariant_of-self-2 c =
     let ss = c.self.inside.slots.items in
-    let ps = c.make_room.new.places.entries in
+    let ps = c.self.inside.places.entries in
     let key : Key = c.args.key in
     let known = ap (λ (v : SlotsView). v.known) c.self.view_is in
     let place : place_of key ss ≡ None = placed key ss (ap (lookup (same_key key)) known ∙ c.requires) in
-    let room = kept_room ss _ ps _ _ _ _ c.self.invariant.0 c.make_room.ensures.places c.make_room.ensures.steps c.make_room.ensures.spare in
+    let room = kept_as ss ss _ _ _ _ refl c.make_room.ensures.steps c.self.invariant.0 in
     let last : c.len-place.result ≡ length ss = omega (arith, c.len-place.ensures, c.reserve.ensures.len) in
-    let new : c.in_ok-insert.field-0 ≡ None = c.in_ok-insert.ensures.old ∙ room.slotted.found key ∙ place in
-    let more = c.in_ok-insert.ensures.len ∙ ap (λ (o : Option ℕ). length ps + (if is_some o then 0 else 1)) new in
     let all = c.in_ok-push.ensures.items ∙ ap (λ (ts : List (Option (Key × Template))). ts ++ Some (key, c.args.template) ∷ []) c.reserve.ensures.items in (
       kept_as _ _ _ _ _ _ all c.note.ensures
-          (kept_push key c.args.template ss ps c.insert.new.self.entries _ _ _ _ room place last
-          (λ j. c.in_ok-insert.ensures.updates.0 j ∙ ap (λ n. if same_key key j then Some n else lookup (same_key j) ps) last) more c.in_ok-make_room.ensures.room c.insert.ensures.spare),
+          (kept_push key c.args.template ss ps c.enter_place.new.places.entries _ _ _ _ room place last
+          (λ j. c.in_ok-enter_place.ensures.held j ∙ ap (λ n. if same_key key j then Some n else held ps j) last) c.in_ok-enter_place.ensures.entered refl),
       covered_push ss _ _ _ _ _ c.len-place.result (Some (key, c.args.template)) all c.note.ensures c.make_room.ensures.steps
           (covered_ahead ss _ _ _ c.list.ensures.ahead c.list.ensures.among c.self.invariant.1) c.in_ok-list.ensures.ok,
     )
@@ -34,7 +32,7 @@ invariant_of-self-2 c =
 pub returns-clause-before : goal.returns-clause-before
 returns-clause-before c =
     let ss = c.self.inside.slots.items in
-    let room = kept_room ss _ c.make_room.new.places.entries _ _ _ _ c.self.invariant.0 c.make_room.ensures.places c.make_room.ensures.steps c.make_room.ensures.spare in
+    let room = kept_as ss ss _ _ _ _ refl c.make_room.ensures.steps c.self.invariant.0 in
     let last : c.len-place.result ≡ length ss = omega (arith, c.len-place.ensures, c.reserve.ensures.len) in
     let all = c.in_ok-push.ensures.items ∙ ap (λ (ts : List (Option (Key × Template))). ts ++ Some (c.args.key, c.args.template) ∷ []) c.reserve.ensures.items in
     before_push _ _ _ ss _ _ (c.args.key, c.args.template) c.note.ensures last all c.make_room.ensures.steps room.steps_back
@@ -50,6 +48,9 @@ returns-clause-ok c =
     ap (λ ts. entries_of (filled ts)) all ∙ ap entries_of (filled_push key c.args.template ss place)
     ∙ templates-insert (filled ss) key c.args.template
     ∙ ap (λ (es : List (Key × Template)). define key (template_of c.args.template) (entries_of es)) known
+
+pub overflow_add-self : goal.overflow_add-self
+overflow_add-self c = omega (arith, c.self.invariant.0.slotted.counted, filled_few c.self.inside.slots.items, c.self.inside.slots.small)
 
 pub invariant_of-self : goal.invariant_of-self
 invariant_of-self c = grind (arith, common_steps)
@@ -78,26 +79,26 @@ returns-in_err-reserve-clause-before c = grind (arith, common_steps)
 pub invariant_of-self-in_err-list : goal.invariant_of-self-in_err-list
 invariant_of-self-in_err-list c =
     let ss = c.self.inside.slots.items in (
-      kept_as ss _ _ _ _ _ c.reserve.ensures.items refl (kept_room ss _ _ _ _ _ _ c.self.invariant.0 c.make_room.ensures.places c.make_room.ensures.steps c.make_room.ensures.spare),
+      kept_as ss _ _ _ _ _ c.reserve.ensures.items refl (kept_as ss ss _ _ _ _ refl c.make_room.ensures.steps c.self.invariant.0),
       covered_as ss _ _ _ _ c.reserve.ensures.items c.make_room.ensures.steps (covered_ahead ss _ _ _ c.list.ensures.ahead c.list.ensures.among c.self.invariant.1),
     )
 
-pub invariant_of-self-in_err-insert : goal.invariant_of-self-in_err-insert
-invariant_of-self-in_err-insert c =
+pub invariant_of-self-in_err-enter_place : goal.invariant_of-self-in_err-enter_place
+invariant_of-self-in_err-enter_place c =
     let ss = c.self.inside.slots.items in
-    let room = kept_room ss _ _ _ _ _ _ c.self.invariant.0 c.make_room.ensures.places c.make_room.ensures.steps c.make_room.ensures.spare in (
-      kept_as ss _ _ _ _ _ c.reserve.ensures.items refl (kept_tight ss _ _ _ _ _ room c.in_err-insert.ensures.err c.in_ok-make_room.ensures.room c.insert.ensures.spare),
+    let room = kept_as ss ss _ _ _ _ refl c.make_room.ensures.steps c.self.invariant.0 in (
+      kept_as ss _ _ _ _ _ c.reserve.ensures.items refl (kept_same ss _ _ _ _ c.in_err-enter_place.ensures.err room),
       covered_as ss _ _ _ _ c.reserve.ensures.items c.make_room.ensures.steps (covered_ahead ss _ _ _ c.list.ensures.ahead c.list.ensures.among c.self.invariant.1),
     )
 
-pub returns-in_err-insert-clause-ok : goal.returns-in_err-insert-clause-ok
-returns-in_err-insert-clause-ok c = grind (arith, common_steps)
+pub returns-in_err-enter_place-clause-ok : goal.returns-in_err-enter_place-clause-ok
+returns-in_err-enter_place-clause-ok c = grind (arith, common_steps)
 
-pub returns-in_err-insert-clause-err : goal.returns-in_err-insert-clause-err
-returns-in_err-insert-clause-err c = grind (arith, common_steps)
+pub returns-in_err-enter_place-clause-err : goal.returns-in_err-enter_place-clause-err
+returns-in_err-enter_place-clause-err c = grind (arith, common_steps)
 
-pub returns-in_err-insert-clause-before : goal.returns-in_err-insert-clause-before
-returns-in_err-insert-clause-before c = grind (arith, common_steps)
+pub returns-in_err-enter_place-clause-before : goal.returns-in_err-enter_place-clause-before
+returns-in_err-enter_place-clause-before c = grind (arith, common_steps)
 
 pub invariant_of-self-in_err-push : goal.invariant_of-self-in_err-push
 invariant_of-self-in_err-push c = grind (arith, common_steps)

@@ -1,13 +1,12 @@
 use Rattle.std.proofs.lemmas.Grind.{common_steps}
-use Rattle.std.proofs.Common.{◌≡◌, ◌≤◌, ◌+◌, ℕ, List, ◌∷◌, ◌++◌, [], length, set, refl, ap, sym, subst, arith, length-append, ◌∙◌}
-use Rattle.std.specs.Prelude.{Option, Some, None, slice_get, is_some, if◌then◌else◌}
+use Rattle.std.proofs.Common.{◌≡◌, ◌+◌, ◌-◌, List, ◌∷◌, ◌++◌, [], length, set, refl, ap, sym, subst, true, arith, ◌∙◌}
+use Rattle.std.specs.Prelude.{Option, Some, None, slice_get}
 use Rattle.std.proofs.lemmas.Option.{slice_get_read}
-use Rattle.indexmap.specs.IndexMap.{spare}
 use Rattle.tca_templates.specs.declared.template.Template.{Template}
 use Rattle.tca_templates.specs.Templates.{Key}
-use Rattle.tca_templates.specs.inside.Slotted.{IsCovered, filled, place_of, IsApart, IsSlotted, Step, undone, AreSteps}
-use Rattle.tca_templates.proofs.SlotLaws.{leads_back, slotted_out, on_ok, grown}
-use Rattle.tca_templates.proofs.StepLaws.{undone_last, steps_last, alone, slotted_in, emptied, kept_as, kept_back}
+use Rattle.tca_templates.specs.inside.Slotted.{IsCovered, filled, place_of, is_entered, IsApart, IsSlotted, Step, undone, AreSteps, IsEntered, AreEntered}
+use Rattle.tca_templates.proofs.SlotLaws.{leads_back, slotted_out, count_out, filled_few}
+use Rattle.tca_templates.proofs.StepLaws.{undone_last, steps_last, slotted_in, emptied, Stay, entered_last, all_stay, held_entered, kept_as, kept_back}
 use Rattle.tca_templates.proofs.CoverLaws.{covered_as, covered_again, covered_back}
 use Rattle.tca_templates.proofs.slots.Slots.put_back.Goals.{in-Some-index, in_default-index, in-Some-slot, in_default-slot}
 use Rattle.tca_templates.proofs.slots.Slots.put_back.Goals as goal
@@ -38,6 +37,55 @@ index_mut-requires c =
     ] in
     omega (arith, ap length same, last.1)
 
+pub set_place-requires : goal.set_place-requires
+set_place-requires c =
+    let ss = c.loop-place.self-inside.slots.items in
+    let us = c.pop.new.self.items in
+    let p = c.in-Some-pop.place in
+    let s = c.in-Some-pop.slot in
+    let items : c.loop-place.steps.items ≡ us ++ (p, s) ∷ [] = c.in-Some-pop.ensures.items in
+    let last = steps_last us p s ss (subst (λ (vs : List (Step Template)). AreSteps vs ss) items c.loop-place.invariant.kept.steps_back) in
+    let here : slice_get ss p ≡ Some c.index.result.now = slice_get_read ss (length ss) p c.index.result.now refl last.1 c.index.ensures in
+    let one : Key × Template = (c.in-Some-index.key, c.in-Some-index.field-0-1) in
+    let place : place_of one.0 ss ≡ Some p = leads_back ss p one c.loop-place.invariant.kept.slotted.apart (here ∙ ap (λ z. Some z) c.in-Some-index.is) in
+    held_entered c.loop-place.self-inside.places.entries one.0 p (c.loop-place.invariant.kept.slotted.found one.0 ∙ place)
+
+pub overflow_sub-self : goal.overflow_sub-self
+overflow_sub-self c =
+    let ss = c.loop-place.self-inside.slots.items in
+    let us = c.pop.new.self.items in
+    let p = c.in-Some-pop.place in
+    let s = c.in-Some-pop.slot in
+    let items : c.loop-place.steps.items ≡ us ++ (p, s) ∷ [] = c.in-Some-pop.ensures.items in
+    let last = steps_last us p s ss (subst (λ (vs : List (Step Template)). AreSteps vs ss) items c.loop-place.invariant.kept.steps_back) in
+    let here : slice_get ss p ≡ Some c.index.result.now = slice_get_read ss (length ss) p c.index.result.now refl last.1 c.index.ensures in
+    let one : Key × Template = (c.in-Some-index.key, c.in-Some-index.field-0-1) in
+    let place : place_of one.0 ss ≡ Some p = leads_back ss p one c.loop-place.invariant.kept.slotted.apart (here ∙ ap (λ z. Some z) c.in-Some-index.is) in
+    omega (arith, c.loop-place.invariant.kept.slotted.counted, count_out one.0 ss p place)
+
+pub set_place-requires-in-Some-slot : goal.set_place-requires-in-Some-slot
+set_place-requires-in-Some-slot c =
+    let ps = c.loop-place.self-inside.places.entries in
+    let us = c.pop.new.self.items in
+    let p = c.in-Some-pop.place in
+    let s = c.in-Some-pop.slot in
+    let items : c.loop-place.steps.items ≡ us ++ (p, s) ∷ [] = c.in-Some-pop.ensures.items in
+    let entered = entered_last ps us p s (subst (λ (vs : List (Step Template)). AreEntered ps vs) items c.loop-place.invariant.kept.entered) in
+    let one : Key × Template = (c.in-Some-slot.key, c.in-Some-slot.template) in
+    let there : is_entered ps one.0 ≡ true = subst (λ (z : Option (Key × Template)). IsEntered ps z) c.in-Some-slot.is entered.1 in
+    elim c.match-index.branch [
+      | in-Some-index w ↦ rw w.self-inside-is (w.set_place.ensures.entered one.0 there)
+      | in_default-index w ↦ rw w.self-inside-is there
+    ]
+
+pub overflow_add-self : goal.overflow_add-self
+overflow_add-self c =
+    let ss = c.loop-place.self-inside.slots.items in
+    elim c.match-index.branch [
+      | in-Some-index w ↦ rw w.self-inside-is (omega (arith, c.loop-place.invariant.kept.slotted.counted, filled_few ss, c.loop-place.self-inside.slots.small))
+      | in_default-index w ↦ rw w.self-inside-is (omega (arith, c.loop-place.invariant.kept.slotted.counted, filled_few ss, c.loop-place.self-inside.slots.small))
+    ]
+
 pub loop-place-preserved-after-slot : goal.loop-place-preserved-after-slot
 loop-place-preserved-after-slot c =
     let ss = c.loop-place.self-inside.slots.items in
@@ -48,39 +96,36 @@ loop-place-preserved-after-slot c =
     let all : AreSteps (us ++ (p, s) ∷ []) ss = subst (λ (vs : List (Step Template)). AreSteps vs ss) items c.loop-place.invariant.kept.steps_back in
     let last = steps_last us p s ss all in
     let ps = c.loop-place.self-inside.places.entries in
-    let count : length us + 1 ≤ spare c.loop-place.self-inside.places = omega (arith, ap length items, length-append us ((p, s) ∷ []), c.loop-place.invariant.kept.few) in
+    let entered = entered_last ps us p s (subst (λ (vs : List (Step Template)). AreEntered ps vs) items c.loop-place.invariant.kept.entered) in
     let here : slice_get ss p ≡ Some c.index.result.now = slice_get_read ss (length ss) p c.index.result.now refl last.1 c.index.ensures in
-    let out : (c.match-index.self-inside.slots.items ≡ ss) × IsSlotted (set ss p None) c.match-index.self-inside.places.entries
-    × (spare c.loop-place.self-inside.places ≤ spare c.match-index.self-inside.places) × (c.match-index.self-inside.steps ≡ None) = elim c.match-index.branch [
+    let out : (c.match-index.self-inside.slots.items ≡ ss) × IsSlotted (set ss p None) c.match-index.self-inside.places.entries c.match-index.self-inside.count
+    × Stay ps c.match-index.self-inside.places.entries × (c.match-index.self-inside.steps ≡ None) = elim c.match-index.branch [
       | in-Some-index w ↦
           let one : Key × Template = (w.in-Some-index.key, w.in-Some-index.field-0-1) in
           let place : place_of one.0 ss ≡ Some p = leads_back ss p one c.loop-place.invariant.kept.slotted.apart (here ∙ ap (λ z. Some z) w.in-Some-index.is) in
-          let found : w.swap_remove.result ≡ Some p = w.swap_remove.ensures.value ∙ c.loop-place.invariant.kept.slotted.found one.0 ∙ place in
-          let less = sym (ap (λ (r : Option ℕ). length w.swap_remove.new.self.entries + (if is_some r then 1 else 0)) found) ∙ w.swap_remove.ensures.len in
-          rw w.self-inside-is (refl, slotted_out one.0 ss ps w.swap_remove.new.self.entries p c.loop-place.invariant.kept.slotted place w.swap_remove.ensures.updates.0 less, w.swap_remove.ensures.room.0, c.loop-place.invariant.none)
+          let n = c.loop-place.self-inside.count in
+          let less : (n - 1) + 1 ≡ n = omega (arith, c.loop-place.invariant.kept.slotted.counted, count_out one.0 ss p place) in
+          rw w.self-inside-is (refl, slotted_out one.0 ss ps w.set_place.new.places.entries n (n - 1) p c.loop-place.invariant.kept.slotted place w.set_place.ensures.held less, w.set_place.ensures.entered, c.loop-place.invariant.none)
       | in_default-index w ↦
-          rw w.self-inside-is (refl, emptied ss ps p (here ∙ ap (λ z. Some z) w.in_default-index.is) c.loop-place.invariant.kept.slotted, omega arith, c.loop-place.invariant.none)
+          rw w.self-inside-is (refl, emptied ss ps _ p (here ∙ ap (λ z. Some z) w.in_default-index.is) c.loop-place.invariant.kept.slotted, λ j e. e, c.loop-place.invariant.none)
     ] in
-    let after : (c.match-slot.self-inside.slots.items ≡ ss) × IsSlotted (set ss p s) c.match-slot.self-inside.places.entries
-    × (length us ≤ spare c.match-slot.self-inside.places) × (c.match-slot.self-inside.steps ≡ None) = elim c.match-slot.branch [
+    let after : (c.match-slot.self-inside.slots.items ≡ ss) × IsSlotted (set ss p s) c.match-slot.self-inside.places.entries c.match-slot.self-inside.count
+    × Stay ps c.match-slot.self-inside.places.entries × (c.match-slot.self-inside.steps ≡ None) = elim c.match-slot.branch [
       | in-Some-slot w ↦
           let one : Key × Template = (w.in-Some-slot.key, w.in-Some-slot.template) in
           let apart : IsApart (set ss p (Some one)) = subst (λ (z : Option (Key × Template)). IsApart (set ss p z)) w.in-Some-slot.is last.2 in
-          let ok = w.insert.ensures.succeeds (omega (arith, count, out.2)) in
-          let updates = on_ok _ w.insert.result ok w.insert.ensures.updates in
-          let more = grown _ _ _ w.insert.result ok w.insert.ensures.old (out.1.found one.0 ∙ alone one.0 one.1 ss p last.1 apart) w.insert.ensures.len in
           rw w.self-inside-is (
             out.0,
-            subst (λ (z : Option (Key × Template)). IsSlotted (set ss p z) w.insert.new.self.entries) (sym w.in-Some-slot.is)
-                (slotted_in one.0 one.1 ss c.match-index.self-inside.places.entries w.insert.new.self.entries p last.1 apart out.1 updates.0 more),
-            omega (arith, count, out.2, w.insert.ensures.spare),
+            subst (λ (z : Option (Key × Template)). IsSlotted (set ss p z) w.set_place-in-Some-slot.new.places.entries (c.match-index.self-inside.count + 1)) (sym w.in-Some-slot.is)
+                (slotted_in one.0 one.1 ss c.match-index.self-inside.places.entries w.set_place-in-Some-slot.new.places.entries _ _ p last.1 apart out.1 w.set_place-in-Some-slot.ensures.held refl),
+            (λ j e. w.set_place-in-Some-slot.ensures.entered j (out.2 j e)),
             out.3,
           )
       | in_default-slot w ↦
           rw w.self-inside-is (
             out.0,
-            subst (λ (z : Option (Key × Template)). IsSlotted (set ss p z) c.match-index.self-inside.places.entries) (sym w.in_default-slot.is) out.1,
-            omega (arith, count, out.2),
+            subst (λ (z : Option (Key × Template)). IsSlotted (set ss p z) c.match-index.self-inside.places.entries c.match-index.self-inside.count) (sym w.in_default-slot.is) out.1,
+            out.2,
             out.3,
           )
     ] in
@@ -100,7 +145,7 @@ loop-place-preserved-after-slot c =
     ] in
     record {
       covered = covered_as (set ss p s) _ _ _ _ (ap (λ zs. set zs p s) after.0) refl covered;
-      kept = kept_as _ _ _ _ _ _ (ap (λ zs. set zs p s) after.0) refl (kept_back us p s ss c.match-slot.self-inside.places.entries (spare c.match-slot.self-inside.places) all after.1 after.2);
+      kept = kept_as _ _ _ _ _ _ (ap (λ zs. set zs p s) after.0) refl (kept_back us p s ss c.match-slot.self-inside.places.entries _ all after.1 (all_stay ps _ after.2 us entered.0));
       before = ap (λ (zs : List (Option (Key × Template))). filled (undone us (set zs p s))) after.0 ∙ sym (ap filled (undone_last us p s ss))
           ∙ ap (λ (vs : List (Step Template)). filled (undone vs ss)) (sym items) ∙ c.loop-place.invariant.before;
       none = after.3;
@@ -116,39 +161,36 @@ loop-place-preserved c =
     let all : AreSteps (us ++ (p, s) ∷ []) ss = subst (λ (vs : List (Step Template)). AreSteps vs ss) items c.loop-place.invariant.kept.steps_back in
     let last = steps_last us p s ss all in
     let ps = c.loop-place.self-inside.places.entries in
-    let count : length us + 1 ≤ spare c.loop-place.self-inside.places = omega (arith, ap length items, length-append us ((p, s) ∷ []), c.loop-place.invariant.kept.few) in
+    let entered = entered_last ps us p s (subst (λ (vs : List (Step Template)). AreEntered ps vs) items c.loop-place.invariant.kept.entered) in
     let here : slice_get ss p ≡ Some c.index.result.now = slice_get_read ss (length ss) p c.index.result.now refl last.1 c.index.ensures in
-    let out : (c.match-index.self-inside.slots.items ≡ ss) × IsSlotted (set ss p None) c.match-index.self-inside.places.entries
-    × (spare c.loop-place.self-inside.places ≤ spare c.match-index.self-inside.places) × (c.match-index.self-inside.steps ≡ None) = elim c.match-index.branch [
+    let out : (c.match-index.self-inside.slots.items ≡ ss) × IsSlotted (set ss p None) c.match-index.self-inside.places.entries c.match-index.self-inside.count
+    × Stay ps c.match-index.self-inside.places.entries × (c.match-index.self-inside.steps ≡ None) = elim c.match-index.branch [
       | in-Some-index w ↦
           let one : Key × Template = (w.in-Some-index.key, w.in-Some-index.field-0-1) in
           let place : place_of one.0 ss ≡ Some p = leads_back ss p one c.loop-place.invariant.kept.slotted.apart (here ∙ ap (λ z. Some z) w.in-Some-index.is) in
-          let found : w.swap_remove.result ≡ Some p = w.swap_remove.ensures.value ∙ c.loop-place.invariant.kept.slotted.found one.0 ∙ place in
-          let less = sym (ap (λ (r : Option ℕ). length w.swap_remove.new.self.entries + (if is_some r then 1 else 0)) found) ∙ w.swap_remove.ensures.len in
-          rw w.self-inside-is (refl, slotted_out one.0 ss ps w.swap_remove.new.self.entries p c.loop-place.invariant.kept.slotted place w.swap_remove.ensures.updates.0 less, w.swap_remove.ensures.room.0, c.loop-place.invariant.none)
+          let n = c.loop-place.self-inside.count in
+          let less : (n - 1) + 1 ≡ n = omega (arith, c.loop-place.invariant.kept.slotted.counted, count_out one.0 ss p place) in
+          rw w.self-inside-is (refl, slotted_out one.0 ss ps w.set_place.new.places.entries n (n - 1) p c.loop-place.invariant.kept.slotted place w.set_place.ensures.held less, w.set_place.ensures.entered, c.loop-place.invariant.none)
       | in_default-index w ↦
-          rw w.self-inside-is (refl, emptied ss ps p (here ∙ ap (λ z. Some z) w.in_default-index.is) c.loop-place.invariant.kept.slotted, omega arith, c.loop-place.invariant.none)
+          rw w.self-inside-is (refl, emptied ss ps _ p (here ∙ ap (λ z. Some z) w.in_default-index.is) c.loop-place.invariant.kept.slotted, λ j e. e, c.loop-place.invariant.none)
     ] in
-    let after : (c.match-slot.self-inside.slots.items ≡ ss) × IsSlotted (set ss p s) c.match-slot.self-inside.places.entries
-    × (length us ≤ spare c.match-slot.self-inside.places) × (c.match-slot.self-inside.steps ≡ None) = elim c.match-slot.branch [
+    let after : (c.match-slot.self-inside.slots.items ≡ ss) × IsSlotted (set ss p s) c.match-slot.self-inside.places.entries c.match-slot.self-inside.count
+    × Stay ps c.match-slot.self-inside.places.entries × (c.match-slot.self-inside.steps ≡ None) = elim c.match-slot.branch [
       | in-Some-slot w ↦
           let one : Key × Template = (w.in-Some-slot.key, w.in-Some-slot.template) in
           let apart : IsApart (set ss p (Some one)) = subst (λ (z : Option (Key × Template)). IsApart (set ss p z)) w.in-Some-slot.is last.2 in
-          let ok = w.insert.ensures.succeeds (omega (arith, count, out.2)) in
-          let updates = on_ok _ w.insert.result ok w.insert.ensures.updates in
-          let more = grown _ _ _ w.insert.result ok w.insert.ensures.old (out.1.found one.0 ∙ alone one.0 one.1 ss p last.1 apart) w.insert.ensures.len in
           rw w.self-inside-is (
             out.0,
-            subst (λ (z : Option (Key × Template)). IsSlotted (set ss p z) w.insert.new.self.entries) (sym w.in-Some-slot.is)
-                (slotted_in one.0 one.1 ss c.match-index.self-inside.places.entries w.insert.new.self.entries p last.1 apart out.1 updates.0 more),
-            omega (arith, count, out.2, w.insert.ensures.spare),
+            subst (λ (z : Option (Key × Template)). IsSlotted (set ss p z) w.set_place-in-Some-slot.new.places.entries (c.match-index.self-inside.count + 1)) (sym w.in-Some-slot.is)
+                (slotted_in one.0 one.1 ss c.match-index.self-inside.places.entries w.set_place-in-Some-slot.new.places.entries _ _ p last.1 apart out.1 w.set_place-in-Some-slot.ensures.held refl),
+            (λ j e. w.set_place-in-Some-slot.ensures.entered j (out.2 j e)),
             out.3,
           )
       | in_default-slot w ↦
           rw w.self-inside-is (
             out.0,
-            subst (λ (z : Option (Key × Template)). IsSlotted (set ss p z) c.match-index.self-inside.places.entries) (sym w.in_default-slot.is) out.1,
-            omega (arith, count, out.2),
+            subst (λ (z : Option (Key × Template)). IsSlotted (set ss p z) c.match-index.self-inside.places.entries c.match-index.self-inside.count) (sym w.in_default-slot.is) out.1,
+            out.2,
             out.3,
           )
     ] in
@@ -168,7 +210,7 @@ loop-place-preserved c =
     ] in
     record {
       covered = covered_as (set ss p s) _ _ _ _ (ap (λ zs. set zs p s) after.0) refl covered;
-      kept = kept_as _ _ _ _ _ _ (ap (λ zs. set zs p s) after.0) refl (kept_back us p s ss c.match-slot.self-inside.places.entries (spare c.match-slot.self-inside.places) all after.1 after.2);
+      kept = kept_as _ _ _ _ _ _ (ap (λ zs. set zs p s) after.0) refl (kept_back us p s ss c.match-slot.self-inside.places.entries _ all after.1 (all_stay ps _ after.2 us entered.0));
       before = ap (λ (zs : List (Option (Key × Template))). filled (undone us (set zs p s))) after.0 ∙ sym (ap filled (undone_last us p s ss))
           ∙ ap (λ (vs : List (Step Template)). filled (undone vs ss)) (sym items) ∙ c.loop-place.invariant.before;
       none = after.3;

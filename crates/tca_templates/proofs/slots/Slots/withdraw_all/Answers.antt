@@ -1,15 +1,16 @@
 use Rattle.std.proofs.Common.{◌≡◌, ◌<◌, ◌+◌, inl, inr, ℕ, List, true, false, subst, length, refl, ap, sym, arith, ◌∙◌, add-one}
-use Rattle.std.specs.Prelude.{Option, Some, None, slice_get, is_some, if◌then◌else◌}
+use Rattle.std.specs.Prelude.{Option, Some, None, slice_get}
 use mathlib.Core.Bool.{beq}
 use Rattle.std.proofs.lemmas.Option.{slice_get_read, slice_get_within}
 use Rattle.tca_templates.specs.declared.template.Template.{Template}
 use Rattle.tca_templates.specs.declared.ids.Ids.{Ids}
 use Rattle.tca_templates.specs.Templates.{Key, withdraw_all}
 use Rattle.tca_templates.specs.Fields.{SlotsView, entries_of}
-use Rattle.tca_templates.specs.inside.Slotted.{filled, place_of, Step, before_of, IsAhead, IsSlotted}
+use Rattle.tca_templates.specs.inside.Slotted.{filled, place_of, Step, before_of, held, IsAhead, IsApart}
 use Rattle.tca_templates.proofs.Stored.{stays_there, templates-filter, goes, other_kind}
-use Rattle.tca_templates.proofs.SlotLaws.{IsThinned, thinned_same, thinned_all, thinned_out, leads_back}
-use Rattle.tca_templates.proofs.StepLaws.{kept_as, kept_room, kept_out, before_put}
+use Rattle.tca_templates.proofs.SlotLaws.{IsThinned, thinned_same, thinned_all, thinned_out, leads_back, count_out}
+use Rattle.tca_templates.proofs.StepLaws.{kept_as, kept_out, held_entered, before_put}
+use Rattle.tca_templates.proofs.KeyOrder.{kind_lookup}
 use Rattle.tca_templates.proofs.CoverLaws.{covered_put, covered_as, passes, passed_over, steps_still, leaves, stays_out, put_gone, next, some_is, is_beq, isnt_beq}
 use Rattle.tca_templates.proofs.slots.Slots.withdraw_all.Goals.{in-Some-place_of_kind+in_ok-make_room, in_default-place_of_kind}
 use Rattle.tca_templates.proofs.slots.Slots.withdraw_all.Goals as goal
@@ -21,7 +22,7 @@ returns-in_default-clause-ok c =
     let old = c.self.inside.slots.items in
     ap entries_of (sym known) ∙ ap entries_of (thinned_all test old old (thinned_same test old) (λ j e here.
     passes c.self.inside.kinds.entries c.args.domain c.args.options e (c.self.invariant.1.slots_in j (Some e) here)
-    (λ ahead _. absurd (subst (λ (o : Option Ids). IsAhead o e.0.1) (sym c.in_default.ensures.value) ahead))))
+    (λ ahead _. absurd (subst (λ (o : Option Ids). IsAhead o e.0.1) (sym (c.in_default.ensures.value ∙ kind_lookup (c.args.domain, c.args.options) _)) ahead))))
     ∙ templates-filter (filled old) c.args.domain c.args.options
     ∙ ap (λ (es : List (Key × Template)). withdraw_all c.args.domain c.args.options (entries_of es)) known
 
@@ -34,14 +35,38 @@ loop-i-init c = record {
   gone = λ n id le lt here. absurd (omega (arith, le, lt));
 }
 
-pub place_of_kind-requires : goal.place_of_kind-requires
-place_of_kind-requires c = subst (λ (ss : List (Option (Key × Template))). IsSlotted ss c.loop-i.self-inside.1.1.0.entries) (sym c.deref.ensures.value) c.loop-i.invariant.slotted.slotted
+pub place_of_kind-requires-clause-found : goal.place_of_kind-requires-clause-found
+place_of_kind-requires-clause-found c =
+    subst (λ (ss : List (Option (Key × Template))). (k : Key) → held c.loop-i.self-inside.1.1.0.entries k ≡ place_of k ss) (sym c.deref.ensures.value) c.loop-i.invariant.slotted.slotted.found
+
+pub place_of_kind-requires-clause-apart : goal.place_of_kind-requires-clause-apart
+place_of_kind-requires-clause-apart c = subst (λ (ss : List (Option (Key × Template))). IsApart ss) (sym c.deref.ensures.value) c.loop-i.invariant.slotted.slotted.apart
 
 pub invariant_of-self : goal.invariant_of-self
 invariant_of-self c = (
-  kept_room _ _ _ _ _ _ _ c.loop-i.invariant.slotted c.make_room.ensures.places c.make_room.ensures.steps c.make_room.ensures.spare,
+  kept_as _ _ _ _ _ _ refl c.make_room.ensures.steps c.loop-i.invariant.slotted,
   covered_as _ _ _ _ _ refl c.make_room.ensures.steps c.loop-i.invariant.covered,
 )
+
+pub set_place-requires : goal.set_place-requires
+set_place-requires c =
+    let xs = c.loop-i.self-inside.1.0.items in
+    let p = c.in-Some-place_of_kind.found in
+    let some = c.in-Some-place_of_kind.ensures.some in
+    let key : Key = (c.args.domain, c.index.result.now) in
+    let one : Key × Template = (key, some.0) in
+    let there : slice_get xs p ≡ Some (Some one) = ap (λ (ss : List (Option (Key × Template))). slice_get ss p) (sym c.deref.ensures.value) ∙ some.1 in
+    held_entered c.loop-i.self-inside.1.1.0.entries key p (c.loop-i.invariant.slotted.slotted.found key ∙ leads_back xs p one c.loop-i.invariant.slotted.slotted.apart there)
+
+pub overflow_sub-self : goal.overflow_sub-self
+overflow_sub-self c =
+    let xs = c.loop-i.self-inside.1.0.items in
+    let p = c.in-Some-place_of_kind.found in
+    let some = c.in-Some-place_of_kind.ensures.some in
+    let key : Key = (c.args.domain, c.index.result.now) in
+    let one : Key × Template = (key, some.0) in
+    let there : slice_get xs p ≡ Some (Some one) = ap (λ (ss : List (Option (Key × Template))). slice_get ss p) (sym c.deref.ensures.value) ∙ some.1 in
+    omega (arith, c.loop-i.invariant.slotted.slotted.counted, count_out key xs p (leads_back xs p one c.loop-i.invariant.slotted.slotted.apart there))
 
 pub returns-in_err-make_room-clause-before : goal.returns-in_err-make_room-clause-before
 returns-in_err-make_room-clause-before c =
@@ -72,13 +97,12 @@ loop-i-preserved c =
           let there : slice_get xs p ≡ Some (Some one) = ap (λ (ss : List (Option (Key × Template))). slice_get ss p) (sym c.deref.ensures.value) ∙ some.1 in
           let lt : p < length xs = slice_get_within xs p (Some one) there in
           let place : place_of key xs ≡ Some p = leads_back xs p one c.loop-i.invariant.slotted.slotted.apart there in
-          let room = kept_room xs _ w.make_room.new.places.entries _ _ _ _ c.loop-i.invariant.slotted w.make_room.ensures.places w.make_room.ensures.steps w.make_room.ensures.spare in
-          let found : w.swap_remove.result ≡ Some p = w.swap_remove.ensures.value ∙ room.slotted.found key ∙ place in
-          let count = sym (ap (λ (r : Option ℕ). length w.swap_remove.new.self.entries + (if is_some r then 1 else 0)) found) ∙ w.swap_remove.ensures.len in
+          let room = kept_as xs xs _ _ _ _ refl w.make_room.ensures.steps c.loop-i.invariant.slotted in
           let out : test one ≡ false = goes c.args.domain c.args.domain (beq some.0.options c.args.options) refl (is_beq some.0.options c.args.options some.2) in
           rw (w.self-inside-is, add-one) (record {
             slotted = kept_as _ _ _ _ _ _ w.put.ensures.slots w.put.ensures.steps
-                (kept_out key xs _ _ _ _ _ p room place w.swap_remove.ensures.updates.0 count w.in_ok-make_room.ensures.room w.swap_remove.ensures.room.0);
+                (kept_out key xs _ _ _ _ _ p room place w.set_place.ensures.held w.set_place.ensures.entered
+                (omega (arith, c.loop-i.invariant.slotted.slotted.counted, count_out key xs p place)));
             covered = covered_put xs _ _ _ _ _ p None w.put.ensures.slots w.put.ensures.steps w.make_room.ensures.steps lt c.loop-i.invariant.covered tt;
             before = before_put _ _ _ xs _ p None w.put.ensures.steps w.put.ensures.slots w.make_room.ensures.steps ∙ c.loop-i.invariant.before;
             thinned = subst (λ (ss : List (Option (Key × Template))). IsThinned test old ss) (sym w.put.ensures.slots) (thinned_out test old xs p one c.loop-i.invariant.thinned there out);
@@ -117,7 +141,7 @@ invariant_of-self-2 c =
     let ss = c.loop-i.self-inside.1.0.items in
     let gone : (j : ℕ) (e : Key × Template) → slice_get ss j ≡ Some (Some e) → stays_there c.args.domain c.args.options e ≡ true = λ j e here.
     passes c.self.inside.kinds.entries c.args.domain c.args.options e (c.loop-i.invariant.covered.slots_in j (Some e) here) (λ ahead same.
-    let found = subst (λ (o : Option Ids). IsAhead o e.0.1) (sym c.in-Some.ensures.value) ahead in
+    let found = subst (λ (o : Option Ids). IsAhead o e.0.1) (sym (c.in-Some.ensures.value ∙ kind_lookup (c.args.domain, c.args.options) _)) ahead in
     leaves c.args.domain c.args.options ss e j same here (c.loop-i.invariant.gone found.0 e.0.1 found.1 (omega (arith, c.loop-i-test.false, c.len-i-end.ensures, slice_get_within _ found.0 _ found.2)) found.2)) in (
       c.loop-i.invariant.slotted,
       record {
@@ -134,7 +158,7 @@ returns-clause-ok c =
     let ss = c.loop-i.self-inside.1.0.items in
     ap entries_of (thinned_all test old ss c.loop-i.invariant.thinned (λ j e here.
     passes c.self.inside.kinds.entries c.args.domain c.args.options e (c.loop-i.invariant.covered.slots_in j (Some e) here) (λ ahead same.
-    let found = subst (λ (o : Option Ids). IsAhead o e.0.1) (sym c.in-Some.ensures.value) ahead in
+    let found = subst (λ (o : Option Ids). IsAhead o e.0.1) (sym (c.in-Some.ensures.value ∙ kind_lookup (c.args.domain, c.args.options) _)) ahead in
     leaves c.args.domain c.args.options ss e j same here (c.loop-i.invariant.gone found.0 e.0.1 found.1 (omega (arith, c.loop-i-test.false, c.len-i-end.ensures, slice_get_within _ found.0 _ found.2)) found.2))))
     ∙ templates-filter (filled old) c.args.domain c.args.options
     ∙ ap (λ (es : List (Key × Template)). withdraw_all c.args.domain c.args.options (entries_of es)) known
