@@ -112,6 +112,7 @@ impl Slow {
         }
     }
 
+    /// Judges a packet of so many octets that comes with this colour, and takes its tokens.
     pub fn take(&mut self, octets: u64, pre: Colour) -> Colour {
         let pre = if self.aware { pre } else { Colour::Green };
         match self.kind {
