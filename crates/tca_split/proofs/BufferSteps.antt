@@ -1,13 +1,17 @@
 -- Messages that go to the buffers and the files of their domains.
-use Rattle.std.proofs.Common.{◌≡◌, ℕ, Bool, true, false, cond, List, [], ◌∷◌, ◌++◌, Option, Some, None, refl, sym, ap, ap₂, subst, ◌∙◌, arith, append_assoc, append-nil}
-use Rattle.std.specs.Prelude.{◌==◌, nat_eq, option_map}
+use Rattle.std.proofs.Common.{◌≡◌, ◌<◌, ◌+◌, ℕ, take, length, get_or, Bool, true, false, cond, List, [], ◌∷◌, ◌++◌, Option, Some, None, refl, sym, ap, ap₂, subst, ◌∙◌, arith, append_assoc, append-nil}
+use Rattle.std.specs.Prelude.{◌==◌, ◌||◌, nat_eq, option_map}
 use Rattle.std.specs.List.{concat}
 use Rattle.std.proofs.lemmas.Bool.Decides.{nat_tests}
 use Rattle.std.proofs.lemmas.List.Elements.{filter-append}
-use Rattle.std.proofs.lemmas.List.Folds.{concat-append}
+use Rattle.std.proofs.lemmas.List.Folds.{concat-append, list_any_more}
 use Rattle.tca_split.specs.Parts.{domain_of, messages_of}
 use Rattle.tca_split.specs.Folders.{Files, Lengthens}
-use Rattle.tca_split.specs.inside.Buffering.{Kept, Leaves, Starts, TakesPart, Takes, BeginsPart, Begins}
+use Rattle.tca_split.specs.Surveys.{is_among}
+use Rattle.tca_split.specs.inside.Buffering.{Kept, empty_for, Leaves, Starts, TakesPart, Takes, BeginsPart, Begins}
+use Rattle.std.specs.BTreeMap.{is_at}
+use Rattle.std.specs.Ordering.{nat_cmp}
+use Rattle.tca_split.proofs.DomainOrder.{domain_at}
 use Rattle.tca_split.proofs.DomainTemplates.{itself}
 use Rattle.tca_split.proofs.FileSteps.{longer, same_length}
 
@@ -151,11 +155,33 @@ begins_own d ms k kept front rest (Some fs) (Some gs) of there parts grown = λ 
         (subst (λ (n : List (List ℕ)). BeginsPart n (k d) (fs d) (gs d)) (sym of.own) (own_begun ms kept front rest (k d) (fs d) (gs d) there parts grown.0))
     one e false p = subst (λ (g : Option (List ℕ)). BeginsPart (messages_of e ms) (k e) (fs e) g) (sym (grown.1 e p)) (same_one (messages_of e ms) (k e) (fs e))
 
+-- an empty buffer for one domain more
+pub empty_more : {V : Type 0} (items : V → List ℕ) (ds : List ℕ) (i d : ℕ) (v : V) (k l : Option V) → i < length ds → items v ≡ [] → option_map items k ≡ empty_for (take i ds) d
+    → l ≡ cond (is_at (nat_cmp (get_or ds i 0)) d) (Some v) k → option_map items l ≡ empty_for (take (i + 1) ds) d
+empty_more {V} items ds i d v k l within none made now =
+    ap (option_map items) (now ∙ ap (λ b. cond b (Some v) k) (domain_at (get_or ds i 0) d ∙ turned (get_or ds i 0) d)) ∙ go (d == get_or ds i 0) (is_among d (take i ds)) made
+    ∙ ap (λ b. cond b (Some []) None) (sym (list_any_more (λ x. d == x) ds i 0 within))
+  where
+    turned : (a b : ℕ) → (a == b) ≡ (b == a)
+    turned a b = both (a == b) (b == a) refl refl
+      where
+        both : (p q : Bool) → (a == b) ≡ p → (b == a) ≡ q → p ≡ q
+        both true true e f = refl
+        both false false e f = refl
+        both true false e f = grind (arith, nat_tests, e, f)
+        both false true e f = grind (arith, nat_tests, e, f)
+
+    go : (p q : Bool) → option_map items k ≡ cond q (Some []) None → option_map items (cond p (Some v) k) ≡ cond (q || p) (Some []) None
+    go true true h = ap (λ (xs : List ℕ). Some xs) none
+    go true false h = ap (λ (xs : List ℕ). Some xs) none
+    go false true h = h
+    go false false h = h
+
 -- a buffer that was looked up and written, as a map tells it
-pub looked_up : {V : Type 0} (items : V → List ℕ) (d : ℕ) (v : V) (k l : ℕ → Option V) → ((e : ℕ) → l e ≡ cond (nat_eq d e) (Some v) (k e)) → Writes d (items v) (λ e. option_map items (k e)) (λ e. option_map items (l e))
+pub looked_up : {V : Type 0} (items : V → List ℕ) (d : ℕ) (v : V) (k l : ℕ → Option V) → ((e : ℕ) → l e ≡ cond (is_at (nat_cmp d) e) (Some v) (k e)) → Writes d (items v) (λ e. option_map items (k e)) (λ e. option_map items (l e))
 looked_up {V} items d v k l all = record {
-  here = ap (option_map items) (all d ∙ ap (λ b. cond b (Some v) (k d)) (itself d));
-  others = λ e ne. let there : nat_eq d e ≡ false = grind (arith, nat_tests, ne) in ap (option_map items) (all e ∙ ap (λ b. cond b (Some v) (k e)) there);
+  here = ap (option_map items) (all d ∙ ap (λ b. cond b (Some v) (k d)) (domain_at d d ∙ itself d));
+  others = λ e ne. let there : nat_eq d e ≡ false = grind (arith, nat_tests, ne) in ap (option_map items) (all e ∙ ap (λ b. cond b (Some v) (k e)) (domain_at d e ∙ there));
 }
 
 -- a message that was kept

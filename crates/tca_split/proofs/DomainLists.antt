@@ -1,13 +1,16 @@
 -- The domains of messages that come one after the other.
 use Rattle.std.proofs.Common.{◌≡◌, ℕ, ◌≤◌, Bool, true, false, cond, List, [], ◌∷◌, ◌++◌, length, refl, sym, ap, ◌∙◌, arith, append_assoc, append-nil}
-use Rattle.std.specs.Prelude.{◌==◌, ◌||◌, not, filter, nat_eq}
+use Rattle.std.specs.Prelude.{◌==◌, ◌||◌, not, filter}
 use Rattle.std.proofs.lemmas.Bool.Decides.{nat_tests}
 use Rattle.std.proofs.lemmas.List.{length-append}
 use Rattle.std.proofs.lemmas.List.Elements.{filter-append}
-use Rattle.indexmap.specs.IndexSet.{insert_key}
 use Rattle.tca_split.specs.Parts.{domain_of, domains_of}
 use Rattle.tca_split.specs.Surveys.{is_among}
 use Rattle.tca_split.proofs.DomainTemplates.{itself}
+
+-- a domain more, unless it is there
+abbrev pub with_domain : List ℕ → ℕ → List ℕ
+with_domain ds d = cond (is_among d ds) ds (ds ++ d ∷ [])
 
 among_kept : (x f : ℕ) → (x == f) ≡ false → (ds : List ℕ) → is_among x (filter (λ d. not (d == f)) ds) ≡ is_among x ds
 among_kept x f ne [] = refl
@@ -20,8 +23,8 @@ among_kept x f ne (d ∷ ds) = go (among_kept x f ne ds) (d == f) refl
         more ∙ sym (ap (λ b. b || is_among x ds) other)
     go more false p = ap (λ b. (x == d) || b) more
 
--- a domain more, unless it is there
-pub domains_push : (ms : List (List ℕ)) (m : List ℕ) → domains_of (ms ++ m ∷ []) ≡ insert_key nat_eq (domains_of ms) (domain_of m)
+-- the domains with a message more
+pub domains_push : (ms : List (List ℕ)) (m : List ℕ) → domains_of (ms ++ m ∷ []) ≡ with_domain (domains_of ms) (domain_of m)
 unfolding domains_of
 domains_push [] m = refl
 domains_push (f ∷ ms) m = ap (λ (l : List ℕ). domain_of f ∷ filter (λ d. not (d == domain_of f)) l) (domains_push ms m) ∙ go (domain_of m == domain_of f) refl (is_among (domain_of m) (domains_of ms)) refl
@@ -43,7 +46,7 @@ domains_push (f ∷ ms) m = ap (λ (l : List ℕ). domain_of f ∷ filter (λ d.
         ∙ ap (λ t. cond t (domain_of f ∷ filter (λ d. not (d == domain_of f)) (domains_of ms)) ((domain_of f ∷ filter (λ d. not (d == domain_of f)) (domains_of ms)) ++ domain_of m ∷ []))
         (sym (among_kept (domain_of m) (domain_of f) e (domains_of ms) ∙ a))
 
-more_keys : (ds : List ℕ) (d : ℕ) → length ds ≤ length (insert_key nat_eq ds d)
+more_keys : (ds : List ℕ) (d : ℕ) → length ds ≤ length (with_domain ds d)
 more_keys ds d = go (is_among d ds)
   where
     go : (b : Bool) → length ds ≤ length (cond b ds (ds ++ d ∷ []))
@@ -74,14 +77,14 @@ among_front (x ∷ ds) es d e = go (d == x) (among_front ds es d) e
     go true more e = refl
     go false more e = more e
 
-among_key : (ds : List ℕ) (d : ℕ) → is_among d (insert_key nat_eq ds d) ≡ true
+among_key : (ds : List ℕ) (d : ℕ) → is_among d (with_domain ds d) ≡ true
 among_key ds d = go (is_among d ds) refl
   where
     go : (b : Bool) → is_among d ds ≡ b → is_among d (cond b ds (ds ++ d ∷ [])) ≡ true
     go true e = e
     go false e = among_last ds d
 
-among_keys : (ds : List ℕ) (d x : ℕ) → is_among x ds ≡ true → is_among x (insert_key nat_eq ds d) ≡ true
+among_keys : (ds : List ℕ) (d x : ℕ) → is_among x ds ≡ true → is_among x (with_domain ds d) ≡ true
 among_keys ds d x e = go (is_among d ds)
   where
     go : (b : Bool) → is_among x (cond b ds (ds ++ d ∷ [])) ≡ true

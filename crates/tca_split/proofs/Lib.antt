@@ -6,6 +6,7 @@ pub mod PartsRead
 pub mod FileSteps
 pub mod LentFrames
 pub mod DomainLists
+pub mod DomainOrder
 pub mod BufferSteps
 pub mod SurveySteps
 pub mod ReadSteps

@@ -1,9 +1,12 @@
 -- A first reading, message by message and piece by piece.
-use Rattle.std.proofs.Common.{◌≡◌, Bool, ℕ, ◌+◌, ◌-◌, ◌^◌, ◌<◌, ◌≤◌, true, false, cond, List, [], ◌∷◌, ◌++◌, length, Option, Some, None, Ok, Err, refl, sym, ap, ap₂, subst, ◌∙◌, arith, drop, ◌⊎◌, inl, inr}
-use Rattle.std.specs.Prelude.{nat_lt, nat_eq, min, Result, IfOk, IfErr, IsErrOf}
+use Rattle.std.proofs.Common.{◌≡◌, ℕ, ◌+◌, ◌-◌, ◌^◌, ◌<◌, ◌≤◌, true, false, cond, List, [], ◌∷◌, ◌++◌, length, Option, Some, None, Ok, Err, refl, sym, ap, ap₂, subst, ◌∙◌, arith, drop, ◌⊎◌, inl, inr}
+use Rattle.std.specs.Prelude.{◌==◌, ◌||◌, nat_lt, min, Result, IfOk, IfErr, IsErrOf}
 use Rattle.std.proofs.lemmas.Bool.Decides.{nat_tests}
 use Rattle.std.proofs.lemmas.List.{length-append, drop_at}
-use Rattle.indexmap.specs.IndexSet.{insert_key}
+use Rattle.std.specs.BTreeMap.{is_at}
+use Rattle.std.specs.BTreeSet.{contains}
+use Rattle.std.specs.List.{list_any}
+use Rattle.std.specs.Ordering.{nat_cmp}
 use Rattle.tca_wire.specs.Frames.{Framing, Holds, Failed, IsStream, Feeds, HoldsPart, fault_of, ending, frames_of}
 use Rattle.tca_wire.specs.declared.fault.WireFault.{WireFault}
 use Rattle.tca_wire.specs.declared.fault.WireFault.TheVariants as wire
@@ -12,7 +15,7 @@ use Rattle.tca_wire.proofs.FramesOf.{frames_are, is_stream}
 use Rattle.tca_report.specs.device.Devices.{read_size}
 use Rattle.tca_report.proofs.lemmas.input.CaptureParts.{fails_on, in_longer}
 use Rattle.tca_split.specs.Parts.{domain_of, domains_of}
-use Rattle.tca_split.specs.Surveys.{most_domains, is_among, surveyed, surveyed_as, unless_cut}
+use Rattle.tca_split.specs.Surveys.{most_domains, is_among, as_u64, surveyed, surveyed_as, unless_cut}
 use Rattle.tca_split.specs.Faults.{framing_fault}
 use Rattle.tca_split.specs.inside.Surveying.{Surveys, IsFramed, AreTooMany, IsFirstRefused, IsOfFraming}
 use Rattle.tca_split.specs.Failures.{CountsReadFault}
@@ -21,43 +24,65 @@ use Rattle.tca_report.specs.declared.device.octets.ReadFault.TheVariants as read
 use Rattle.tca_split.specs.declared.survey.Survey.{Survey}
 use Rattle.tca_split.specs.declared.fault.SplitFault.{SplitFault}
 use Rattle.tca_split.specs.declared.fault.SplitFault.TheVariants.{Read, Wire, Limits, Exists, Changed, Write, Memory}
+use Rattle.tca_split.proofs.CreateSteps.{among_push}
 use Rattle.tca_split.proofs.DomainLists.{domains_push, no_fewer}
 
 counted_one : (n k : ℕ) → k ≡ min n (2 ^ 64 - 1) → min (k + 1) (2 ^ 64 - 1) ≡ min (n + 1) (2 ^ 64 - 1)
 counted_one n k e = omega (arith, e)
 
--- a message more
-pub survey_push : (ms : List (List ℕ)) (m : List ℕ) (s t : Survey) → Surveys ms s → t.domains.keys ≡ insert_key nat_eq s.domains.keys (domain_of m) → length t.domains.keys ≤ 4096
+more_messages : (ms : List (List ℕ)) (m : List ℕ) (s t : Survey) → Surveys ms s → t.messages ≡ min (s.messages + 1) (2 ^ 64 - 1) → t.messages ≡ as_u64 (length (ms ++ m ∷ []))
+more_messages ms m s t h count = count ∙ counted_one (length ms) s.messages h.count ∙ ap (λ n. min n (2 ^ 64 - 1)) (sym (length-append ms (m ∷ [])))
+
+new_domain : (ms : List (List ℕ)) (m : List ℕ) (s : Survey) → Surveys ms s → contains nat_cmp s.known (domain_of m) ≡ false → domains_of (ms ++ m ∷ []) ≡ domains_of ms ++ domain_of m ∷ []
+new_domain ms m s h new =
+    let ds = domains_of ms in
+    let d = domain_of m in
+    domains_push ms m ∙ ap (λ b. cond b ds (ds ++ d ∷ [])) (sym (h.known d) ∙ new)
+
+-- a message of a domain that has come
+pub survey_again : (ms : List (List ℕ)) (m : List ℕ) (s t : Survey) → Surveys ms s → t.domains.items ≡ s.domains.items → t.known.keys ≡ s.known.keys → contains nat_cmp s.known (domain_of m) ≡ true
     → t.messages ≡ min (s.messages + 1) (2 ^ 64 - 1) → Surveys (ms ++ m ∷ []) t
-survey_push ms m s t h keys few count =
-    let is : t.domains.keys ≡ domains_of (ms ++ m ∷ []) = keys ∙ ap (λ (l : List ℕ). insert_key nat_eq l (domain_of m)) h.domains ∙ sym (domains_push ms m) in
+survey_again ms m s t h same keys there count =
+    let ds = domains_of ms in
+    let d = domain_of m in
+    let is : domains_of (ms ++ m ∷ []) ≡ ds = domains_push ms m ∙ ap (λ b. cond b ds (ds ++ d ∷ [])) (sym (h.known d) ∙ there) in
     record {
-      domains = is;
-      few = omega (arith, few, ap (λ (l : List ℕ). length l) is);
-      count = count ∙ counted_one (length ms) s.messages h.count ∙ ap (λ n. min n (2 ^ 64 - 1)) (sym (length-append ms (m ∷ [])));
+      domains = same ∙ h.domains ∙ sym is;
+      known = λ e. ap (list_any (is_at (nat_cmp e))) keys ∙ h.known e ∙ ap (is_among e) (sym is);
+      few = omega (arith, h.few, ap (λ (l : List ℕ). length l) is);
+      count = more_messages ms m s t h count;
+    }
+
+-- the first message of a domain, where fewer than the most have come
+pub survey_new : (ms : List (List ℕ)) (m : List ℕ) (s t : Survey) → Surveys ms s → t.domains.items ≡ s.domains.items ++ domain_of m ∷ []
+    → ((e : ℕ) → contains nat_cmp t.known e ≡ (contains nat_cmp s.known e || (e == domain_of m))) → contains nat_cmp s.known (domain_of m) ≡ false → length s.domains.items < 4096
+    → t.messages ≡ min (s.messages + 1) (2 ^ 64 - 1) → Surveys (ms ++ m ∷ []) t
+survey_new ms m s t h more keys new few count =
+    let ds = domains_of ms in
+    let d = domain_of m in
+    let is = new_domain ms m s h new in
+    record {
+      domains = more ∙ ap (λ (l : List ℕ). l ++ d ∷ []) h.domains ∙ sym is;
+      known = λ e. keys e ∙ ap (λ b. b || (e == d)) (h.known e) ∙ sym (among_push ds d e) ∙ ap (is_among e) (sym is);
+      few = omega (arith, few, ap (λ (l : List ℕ). length l) is, length-append ds (d ∷ []), ap (λ (l : List ℕ). length l) h.domains);
+      count = more_messages ms m s t h count;
     }
 
 -- a domain more than there may be
-pub survey_full : (ms : List (List ℕ)) (m : List ℕ) (s : Survey) → Surveys ms s → 4096 ≤ length s.domains.keys → is_among (domain_of m) s.domains.keys ≡ false → most_domains < length (domains_of (ms ++ m ∷ []))
+survey_full : (ms : List (List ℕ)) (m : List ℕ) (s : Survey) → Surveys ms s → 4096 ≤ length s.domains.items → contains nat_cmp s.known (domain_of m) ≡ false
+    → most_domains < length (domains_of (ms ++ m ∷ []))
 survey_full ms m s h many new =
-    let keys = s.domains.keys in
-    let d = domain_of m in
-    let is : domains_of (ms ++ m ∷ []) ≡ keys ++ d ∷ [] =
-    domains_push ms m ∙ ap (λ (l : List ℕ). insert_key nat_eq l d) (sym h.domains) ∙ ap (λ b. cond b keys (keys ++ d ∷ [])) new in
-    omega (arith, many, ap (λ (l : List ℕ). length l) is, length-append keys (d ∷ []))
+    omega (arith, many, ap (λ (l : List ℕ). length l) (new_domain ms m s h new), length-append (domains_of ms) (domain_of m ∷ []), ap (λ (l : List ℕ). length l) h.domains)
 
--- the first message of a domain, where fewer than the most have come
-pub survey_first : (ms : List (List ℕ)) (m : List ℕ) (s : Survey) → Surveys ms s → length s.domains.keys < 4096 → is_among (domain_of m) s.domains.keys ≡ false → IsNewDomain ms m
-survey_first ms m s h few new = (ap (is_among (domain_of m)) (sym h.domains) ∙ new, omega (arith, few, ap (λ (l : List ℕ). length l) h.domains))
+-- why a domain isn't noted
+pub survey_refused : (ms : List (List ℕ)) (m : List ℕ) (s : Survey) (e : SplitFault) → Surveys ms s → contains nat_cmp s.known (domain_of m) ≡ false → (e ≡ Limits) ⊎ (e ≡ Memory)
+    → (e ≡ Limits → 4096 ≤ length s.domains.items) → AreTooMany (ms ++ m ∷ []) e
+survey_refused ms m s e h new (inl is) full = subst (λ (x : SplitFault). AreTooMany (ms ++ m ∷ []) x) (sym is) (survey_full ms m s h (full is) new)
+survey_refused ms m s e h new (inr is) full = subst (λ (x : SplitFault). AreTooMany (ms ++ m ∷ []) x) (sym is) tt
 
--- no more domains than there may be
-pub survey_room : (keys : List ℕ) (d : ℕ) → length keys ≤ 4096 → (length keys < 4096) ⊎ (is_among d keys ≡ true) → length (insert_key nat_eq keys d) ≤ 4096
-survey_room keys d most (inl few) = go (is_among d keys)
-  where
-    go : (b : Bool) → length (cond b keys (keys ++ d ∷ [])) ≤ 4096
-    go true = most
-    go false = omega (arith, few, length-append keys (d ∷ []))
-survey_room keys d most (inr there) = omega (arith, most, ap (λ b. length (cond b keys (keys ++ d ∷ []))) there)
+-- memory that is wanted for a domain
+pub survey_first : (ms : List (List ℕ)) (m : List ℕ) (s : Survey) → Surveys ms s → length s.domains.items < 4096 → contains nat_cmp s.known (domain_of m) ≡ false → IsNewDomain ms m
+survey_first ms m s h few new = (sym (h.known (domain_of m)) ∙ new, omega (arith, few, ap (λ (l : List ℕ). length l) h.domains))
 
 -- what is too many stays so with more messages
 pub still_many : (a b : List (List ℕ)) (e : SplitFault) → AreTooMany a e → AreTooMany (a ++ b) e

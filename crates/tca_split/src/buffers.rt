@@ -11,8 +11,8 @@ use crate::fault::SplitFault;
 use crate::folder::{Folder, append_all};
 use crate::survey::domain_of;
 use byteorder::{BigEndian, ByteOrder};
-use indexmap::IndexMap;
 use std::alloc::{AllocError, Global};
+use std::collections::BTreeMap;
 use tca_report::{Read, ReadFault};
 use tca_wire::WireFault;
 
@@ -22,10 +22,10 @@ const ALL_ROOM: usize = 33_554_432;
 // The most octets of one buffer.
 const MOST_ROOM: usize = 1_048_576;
 
-/// A buffer for each domain of a capture.
+/// A buffer for each domain of a capture, in a tree: a stranger chooses the domains, and could choose some that share a hash.
 #[derive(Drop)]
 pub(crate) struct Buffers {
-    pub(crate) buffers: IndexMap<u32, Vec<u8>>,
+    pub(crate) buffers: BTreeMap<u32, Vec<u8>>,
 }
 
 // How many octets each of so many buffers has.
@@ -138,7 +138,7 @@ impl Buffers {
         ensures { IfOk result (λ b. (d : ℕ) → buffered b d ≡ empty_for domains.now d) }
     {
         let room = room_of(domains.len());
-        let mut buffers = IndexMap::new(alloc);
+        let mut buffers = BTreeMap::new(alloc);
         for domain in domains {
             buffers.insert(*domain, Vec::with_capacity(alloc, room)?)?;
         }

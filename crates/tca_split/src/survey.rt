@@ -1,5 +1,7 @@
 //! The first reading of a capture: which observation domains it has messages of, and whether its framing is right.
-ghost use Rattle.std.specs.Prelude.{◌≡◌, ◌⊎◌, ◌<◌, ◌≤◌, ◌+◌, ◌++◌, ◌∷◌, [], ℕ, List, Some, Ok, Err, length, IfOk, IfErr, IsErrOf};
+ghost use Rattle.std.specs.Prelude.{◌≡◌, ◌⊎◌, ◌<◌, ◌≤◌, ◌+◌, ◌++◌, ◌∷◌, ◌==◌, ◌||◌, [], ℕ, List, Some, Ok, Err, length, IfOk, OnOk, IfErr, IsErrOf};
+ghost use Rattle.std.specs.BTreeSet.{contains};
+ghost use Rattle.std.specs.Ordering.{nat_cmp};
 ghost use Rattle.std.specs.List.{AllByRecursion};
 ghost use Rattle.tca_wire.specs.Frames.{IsFrame, frames_of, ending};
 ghost use Rattle.tca_wire.specs.declared.fault.WireFault.{WireFault};
@@ -11,8 +13,8 @@ ghost use Rattle.tca_split.specs.inside.Surveying.{Surveys, IsFramed, AreTooMany
 
 use crate::fault::{SplitFault, framing_fault};
 use byteorder::{BigEndian, ByteOrder};
-use indexmap::IndexSet;
 use std::alloc::{AllocError, Global};
+use std::collections::BTreeSet;
 use tca_report::{Read, ReadFault};
 use tca_wire::{Framer, Messages};
 
@@ -26,7 +28,9 @@ const MOST_DOMAINS: usize = 4096;
 #[derive(Drop)]
 pub(crate) struct Survey {
     /// The domains, in the order in which they first came.
-    pub(crate) domains: IndexSet<u32>,
+    pub(crate) domains: Vec<u32>,
+    /// The same domains in a tree: a stranger chooses them, and could choose some that share a hash.
+    known: BTreeSet<u32>,
     /// How many messages came; 2^64 - 1 stands for all above it too.
     pub(crate) messages: u64,
 }
@@ -52,9 +56,28 @@ impl Survey {
         ensures { Surveys [] result }
     {
         Survey {
-            domains: IndexSet::new(alloc),
+            domains: Vec::new(alloc),
+            known: BTreeSet::new(alloc),
             messages: 0,
         }
+    }
+
+    // Notes a domain that hasn't come yet.
+    fn add_domain(&mut self, domain: u32) -> Result<(), SplitFault>
+        ensures domains { OnOk result (self.new.domains.items ≡ self.old.domains.items ++ domain ∷ []) }
+        ensures known { OnOk result ((d : ℕ) → contains nat_cmp self.new.known d ≡ (contains nat_cmp self.old.known d || (d == domain))) }
+        ensures messages { self.new.messages ≡ self.old.messages }
+        ensures room { OnOk result (length self.old.domains.items < 4096) }
+        ensures limits { IsErrOf result SplitFault.Limits → 4096 ≤ length self.old.domains.items }
+        ensures kind { IfErr result (λ e. (e ≡ SplitFault.Limits) ⊎ (e ≡ SplitFault.Memory)) }
+        ensures memory { IsErrOf result SplitFault.Memory → length self.old.domains.items < 4096 }
+    {
+        if self.domains.len() >= MOST_DOMAINS {
+            return Err(SplitFault::Limits);
+        }
+        self.known.insert(domain)?;
+        self.domains.push(domain)?;
+        Ok(())
     }
 
     // Counts a message, and notes its domain.
@@ -66,13 +89,12 @@ impl Survey {
         ensures memory { IsErrOf result SplitFault.Memory → (ms : List (List ℕ)) → Surveys ms self → IsNewDomain ms message.now }
     {
         let domain = domain_of(message);
-        let mut domains = self.domains;
-        if domains.len() >= MOST_DOMAINS && !domains.contains(&domain) {
-            return Err(SplitFault::Limits);
+        let mut survey = self;
+        if !survey.known.contains(&domain) {
+            survey.add_domain(domain)?;
         }
-        domains.insert(domain)?;
-        let messages = self.messages.saturating_add(1);
-        Ok(Survey { domains, messages })
+        survey.messages = survey.messages.saturating_add(1);
+        Ok(survey)
     }
 
     // Takes messages in their order.

@@ -1,8 +1,9 @@
 -- What becomes of the messages of a second reading: a domain's go behind what its buffer holds, and from the front of the buffer to its file.
 -- Cited inside this crate alone.
-use Rattle.std.specs.Prelude.{◌≡◌, ℕ, ⊤, false, List, [], ◌∷◌, ◌++◌, Option, Some, None, Err, option_map, nat_eq, is_some, if◌then◌else◌}
+use Rattle.std.specs.Prelude.{◌≡◌, ℕ, ⊤, false, List, [], ◌∷◌, ◌++◌, Option, Some, None, Err, option_map, is_some, if◌then◌else◌}
 use Rattle.std.specs.List.{concat, AllByRecursion}
-use Rattle.indexmap.specs.IndexMap.{get}
+use Rattle.std.specs.BTreeMap.{get}
+use Rattle.std.specs.Ordering.{nat_cmp}
 use Rattle.tca_report.specs.declared.device.octets.ReadFault.TheVariants as read
 use Rattle.tca_wire.specs.Frames.{Framing, Feeds, IsFrame, fault_of, frames_of, ending}
 use Rattle.tca_split.specs.Parts.{domain_of, messages_of}
@@ -18,7 +19,7 @@ abbrev pub Kept : Type 0
 Kept = ℕ → Option (List ℕ)
 
 abbrev pub buffered : Buffers → ℕ → Option (List ℕ)
-buffered b domain = option_map (λ v. v.items) (get nat_eq b.buffers domain)
+buffered b domain = option_map (λ v. v.items) (get nat_cmp b.buffers domain)
 
 -- an empty buffer for each of these domains
 abbrev pub empty_for : List ℕ → ℕ → Option (List ℕ)

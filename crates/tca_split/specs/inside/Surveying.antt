@@ -1,16 +1,19 @@
 -- What has come of a first reading so far. Cited inside this crate alone.
 use Rattle.std.specs.Prelude.{◌≡◌, ◌≤◌, ◌<◌, ℕ, ⊤, List, length, Err}
+use Rattle.std.specs.BTreeSet.{contains}
+use Rattle.std.specs.Ordering.{nat_cmp}
 use Rattle.tca_wire.specs.Frames.{Framing, Holds, IsStream}
 use Rattle.tca_report.specs.declared.device.octets.ReadFault.TheVariants as read
 use Rattle.tca_split.specs.Parts.{domains_of}
-use Rattle.tca_split.specs.Surveys.{most_domains, surveyed, as_u64}
+use Rattle.tca_split.specs.Surveys.{most_domains, is_among, surveyed, as_u64}
 use Rattle.tca_split.specs.declared.survey.Survey.{Survey}
 use Rattle.tca_split.specs.declared.fault.SplitFault.{SplitFault}
 use Rattle.tca_split.specs.declared.fault.SplitFault.TheVariants.{Read, Wire, Limits, Exists, Changed, Write, Memory}
 
 -- the survey of these messages, whose domains are few enough
 pub record Surveys (messages : List (List ℕ)) (s : Survey) : Type 0 where
-  pub domains : s.domains.keys ≡ domains_of messages
+  pub domains : s.domains.items ≡ domains_of messages
+  pub known : (d : ℕ) → contains nat_cmp s.known d ≡ is_among d (domains_of messages)
   pub few : length (domains_of messages) ≤ most_domains
   pub count : s.messages ≡ as_u64 (length messages)
 

@@ -15,7 +15,7 @@ returns-in_err-write_parts-clause-refused g c =
     let p = err_from_is_err_and c.from_residual-in_err-write_parts.result c.from_residual-in_err-write_parts.ensures.1 in
     rw (p.1, p.2) (λ octets files left again known.
     let s = c.in_ok-survey.ensures.ok octets left in
-    let own : c.as_slice-domains.result.now ≡ domains_of (frames_of octets).0 = c.as_slice-domains.ensures.keys ∙ s.0.domains in
+    let own : c.as_slice-domains.result.now ≡ domains_of (frames_of octets).0 = c.as_slice-domains.ensures.value ∙ s.0.domains in
     let free : IsFree octets files = λ d has. c.in_ok-check_free.ensures.free files known d (ap (is_among d) own ∙ has) in
     let same : g.F.Folder.files c.check_free.new.folder ≡ Some files = c.in_ok-check_free.ensures.files ∙ known in
     writing_refused octets files (g.F.Folder.files c.write_parts.new.folder) c.in_err-write_parts.field-0.0 (right_of octets c.in_ok-survey.survey s.0 s.1) s.1 free
@@ -37,7 +37,7 @@ returns-in_err-check_free-clause-memory g c = λ is octets left.
 pub returns-in_err-write_parts-clause-memory : goal.returns-in_err-write_parts-clause-memory
 returns-in_err-write_parts-clause-memory g c = λ is octets left.
     let s = c.in_ok-survey.ensures.ok octets left in
-    let own : c.as_slice-domains.result.now ≡ domains_of (frames_of octets).0 = c.as_slice-domains.ensures.keys ∙ s.0.domains in
+    let own : c.as_slice-domains.result.now ≡ domains_of (frames_of octets).0 = c.as_slice-domains.ensures.value ∙ s.0.domains in
     let free : (files : Files) → g.F.Folder.files c.args.folder.now ≡ Some files → IsFree octets files = λ files known d has. c.in_ok-check_free.ensures.free files known d (ap (is_among d) own ∙ has) in
     inr (inr (right_of octets c.in_ok-survey.survey s.0 s.1, free))
 
@@ -50,7 +50,7 @@ returns-in_err-write_parts-clause-untouched g c =
 pub returns-clause-done : goal.returns-clause-done
 returns-clause-done g c = λ octets files left again known.
     let s = c.in_ok-survey.ensures.ok octets left in
-    let own : c.as_slice-domains.result.now ≡ domains_of (frames_of octets).0 = c.as_slice-domains.ensures.keys ∙ s.0.domains in
+    let own : c.as_slice-domains.result.now ≡ domains_of (frames_of octets).0 = c.as_slice-domains.ensures.value ∙ s.0.domains in
     let same : g.F.Folder.files c.check_free.new.folder ≡ Some files = c.in_ok-check_free.ensures.files ∙ known in
     record {
       right = right_of octets c.in_ok-survey.survey s.0 s.1;

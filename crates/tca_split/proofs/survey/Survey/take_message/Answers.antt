@@ -1,45 +1,38 @@
-use Rattle.std.proofs.Common.{◌≡◌, ◌<◌, ◌≤◌, ◌⊎◌, ◌∙◌, ap, sym, inl, inr, true, false, arith, length, nat_eq}
-use Rattle.indexmap.specs.IndexSet.{insert_key}
+use Rattle.std.proofs.Common.{◌≡◌, ℕ, ◌+◌, ◌^◌, ◌-◌, ◌||◌, ◌==◌, ◌++◌, ◌∷◌, [], ◌∙◌, ap, sym, true, false, Err}
+use Rattle.std.specs.Prelude.{min}
+use Rattle.std.specs.BTreeSet.{contains}
+use Rattle.std.specs.Ordering.{nat_cmp}
+use Rattle.std.proofs.lemmas.Result.{err_from_is_err_and}
 use Rattle.tca_split.specs.Parts.{domain_of}
-use Rattle.tca_split.specs.Surveys.{is_among}
-use Rattle.tca_split.proofs.SurveySteps.{survey_push, survey_full, survey_first, survey_room}
+use Rattle.tca_split.specs.declared.survey.Survey.{Survey}
+use Rattle.tca_split.specs.declared.fault.SplitFault.{SplitFault}
+use Rattle.tca_split.proofs.SurveySteps.{survey_again, survey_new, survey_refused}
 use Rattle.tca_split.proofs.survey.Survey.take_message.Goals as goal
-use Rattle.tca_split.proofs.survey.Survey.take_message.Goals.{else-len-ge-MOST_DOMAINS-via-then-len-ge-MOST_DOMAINS+else-not-contains, else-len-ge-MOST_DOMAINS-via-else-len-ge-MOST_DOMAINS}
+use Rattle.tca_split.proofs.survey.Survey.take_message.Goals.{then-not-contains+in_ok-add_domain, else-not-contains}
 
-pub returns-then-not-contains-clause-err : goal.returns-then-not-contains-clause-err
-returns-then-not-contains-clause-err c = λ ms h.
+pub returns-in_err-add_domain-clause-err : goal.returns-in_err-add_domain-clause-err
+returns-in_err-add_domain-clause-err c = λ ms h.
+    let p = err_from_is_err_and c.from_residual.result c.from_residual.ensures.1 in
     let absent : c.contains.result ≡ false = cc in
-    let new : is_among (domain_of c.args.message.now) c.args.self.domains.keys ≡ false =
-    ap (λ d. is_among d c.args.self.domains.keys) (sym c.domain_of-domain.ensures) ∙ sym c.contains.ensures ∙ absent in
-    let many : 4096 ≤ length c.args.self.domains.keys = omega arith in
-    survey_full ms c.args.message.now c.args.self h many new
-
-pub returns-in_err-insert-clause-memory : goal.returns-in_err-insert-clause-memory
-returns-in_err-insert-clause-memory c = λ is ms h.
-    let absent : is_among c.domain_of-domain.result c.args.self.domains.keys ≡ false = c.in_err-insert.ensures.absent in
-    let new : is_among (domain_of c.args.message.now) c.args.self.domains.keys ≡ false =
-    ap (λ d. is_among d c.args.self.domains.keys) (sym c.domain_of-domain.ensures) ∙ absent in
-    let few : length c.args.self.domains.keys < 4096 =
-    elim c.else-len-ge-MOST_DOMAINS.branch [
-      | else-len-ge-MOST_DOMAINS-via-then-len-ge-MOST_DOMAINS+else-not-contains w ↦
-          let there : w.contains.result ≡ true = cc in
-          let none : w.contains.result ≡ false = w.contains.ensures ∙ absent in
-          absurd cc
-      | else-len-ge-MOST_DOMAINS-via-else-len-ge-MOST_DOMAINS w ↦ omega arith
-    ] in
-    survey_first ms c.args.message.now c.args.self h few new
+    let new : contains nat_cmp c.args.self.known (domain_of c.args.message.now) ≡ false = ap (contains nat_cmp c.args.self.known) (sym c.domain_of-domain.ensures) ∙ sym c.contains.ensures ∙ absent in
+    rw (p.1, p.2) (survey_refused ms c.args.message.now c.args.self c.in_err-add_domain.field-0.0 h new c.in_err-add_domain.ensures.kind
+    (λ is. c.in_err-add_domain.ensures.limits (ap (λ (x : SplitFault). Err x) is)))
 
 pub returns-clause-ok : goal.returns-clause-ok
 returns-clause-ok c = λ ms h.
-    let keys : c.insert.new.self.keys ≡ insert_key nat_eq c.args.self.domains.keys (domain_of c.args.message.now) =
-    c.in_ok-insert.ensures.keys ∙ ap (insert_key nat_eq c.args.self.domains.keys) c.domain_of-domain.ensures in
-    let most : length c.args.self.domains.keys ≤ 4096 = omega (arith, h.few, ap length h.domains) in
-    let room : (length c.args.self.domains.keys < 4096) ⊎ (is_among (domain_of c.args.message.now) c.args.self.domains.keys ≡ true) =
-    elim c.else-len-ge-MOST_DOMAINS.branch [
-      | else-len-ge-MOST_DOMAINS-via-then-len-ge-MOST_DOMAINS+else-not-contains w ↦
-          let there : w.contains.result ≡ true = cc in
-          inr (ap (λ d. is_among d c.args.self.domains.keys) (sym c.domain_of-domain.ensures) ∙ sym w.contains.ensures ∙ there)
-      | else-len-ge-MOST_DOMAINS-via-else-len-ge-MOST_DOMAINS w ↦ inl (omega arith)
-    ] in
-    let few : length c.insert.new.self.keys ≤ 4096 = omega (arith, ap length keys, survey_room c.args.self.domains.keys (domain_of c.args.message.now) most room) in
-    survey_push ms c.args.message.now c.args.self _ h keys few (omega arith)
+    let m = c.args.message.now in
+    let old = c.args.self in
+    let its : contains nat_cmp old.known (domain_of m) ≡ c.contains.result = ap (contains nat_cmp old.known) (sym c.domain_of-domain.ensures) ∙ sym c.contains.ensures in
+    elim c.if-not-contains.branch [
+      | then-not-contains+in_ok-add_domain w ↦
+          let new : c.contains.result ≡ false = cc in
+          survey_new ms m old _ h
+          (ap (λ (s : Survey). s.domains.items) w.survey-is ∙ w.in_ok-add_domain.ensures.domains ∙ ap (λ (d : ℕ). old.domains.items ++ d ∷ []) c.domain_of-domain.ensures)
+          (λ e. ap (λ (s : Survey). contains nat_cmp s.known e) w.survey-is ∙ w.in_ok-add_domain.ensures.known e ∙ ap (λ (d : ℕ). contains nat_cmp old.known e || (e == d)) c.domain_of-domain.ensures)
+          (its ∙ new) w.in_ok-add_domain.ensures.room
+          (c.saturating_add.ensures ∙ ap (λ (s : Survey). min (s.messages + 1) (2 ^ 64 - 1)) w.survey-is ∙ ap (λ n. min (n + 1) (2 ^ 64 - 1)) w.in_ok-add_domain.ensures.messages)
+      | else-not-contains w ↦
+          let there : c.contains.result ≡ true = cc in
+          survey_again ms m old _ h (ap (λ (s : Survey). s.domains.items) w.survey-is) (ap (λ (s : Survey). s.known.keys) w.survey-is) (its ∙ there)
+          (c.saturating_add.ensures ∙ ap (λ (s : Survey). min (s.messages + 1) (2 ^ 64 - 1)) w.survey-is)
+    ]
