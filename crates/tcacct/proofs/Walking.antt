@@ -25,3 +25,8 @@ walk_all {A} lists i all left past so_far none =
 pub none_left : {A B : Type 0} (view : A → B) (r : Option A) (left rest : List B) → MatchOption r ((left ≡ []) × (rest ≡ [])) (λ x. left ≡ view x ∷ rest) → is_some r ≡ false → left ≡ []
 none_left view None left rest steps none = steps.0
 none_left view (Some x) left rest steps none = absurd cc
+
+-- what comes next behind the same items is the same
+pub next_same : {A : Type 0} (first : List A) (x y : A) (xs ys : List A) → first ++ x ∷ xs ≡ first ++ y ∷ ys → x ≡ y
+next_same [] x y xs ys e = cc
+next_same (f ∷ first) x y xs ys e = let rest : first ++ x ∷ xs ≡ first ++ y ∷ ys = cc in next_same first x y xs ys rest

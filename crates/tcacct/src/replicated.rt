@@ -1,9 +1,9 @@
 //! The command `bill` by replicas and workers.
-ghost use Rattle.std.specs.Prelude.{◌≡◌, ◌≢◌, ◌≤◌, ◌↔◌, ◌++◌, IfOk, IfErr, IsTrue, None, length, true};
+ghost use Rattle.std.specs.Prelude.{◌≡◌, ◌≢◌, ◌≤◌, ◌↔◌, ◌++◌, List, IfOk, IfErr, IsTrue, None, length, true};
 ghost use Rattle.std.specs.List.{flat_map};
 ghost use Rattle.std.specs.List.Sorted.{IsStrictlySortedBy};
 ghost use Rattle.tca_accounts.specs.Plans.{AccountPlan};
-ghost use Rattle.tca_report.specs.report.Reports.{report_cmp, most_reports};
+ghost use Rattle.tca_report.specs.report.Reports.{PacketReport, report_cmp, most_reports};
 ghost use Rattle.tcacct.specs.Billed.{IsBillDone};
 ghost use Rattle.tca_program.specs.Devices.{after, before, device};
 ghost use Rattle.tca_program.specs.Noted.{AreNotes};
@@ -102,7 +102,8 @@ fn are_log(lists: &[Items<Report>], log: &Log) -> bool
 
 // Whether these reports come next. Then only those behind them are left.
 fn come_next(left: &mut RowsIter<'_, Report, Global>, reports: &[Report]) -> bool
-    ensures { result ≡ true → left.old ≡ reports.now ++ left.new }
+    ensures next { result ≡ true → left.old ≡ reports.now ++ left.new }
+    ensures others { (rest : List PacketReport) → left.old ≡ reports.now ++ rest → result ≡ true }
 {
     for report in reports {
         let Some(held) = left.next() else {
@@ -121,15 +122,7 @@ fn are_all_of(reports: &[Report], log: &Log) -> bool
     ensures limit { length log.now ≤ most_reports }
 {
     let mut left = log.reports();
-    for report in reports {
-        let Some(held) = left.next() else {
-            return false;
-        };
-        if *held != *report {
-            return false;
-        }
-    }
-    left.next().is_none()
+    come_next(&mut left, reports) && left.next().is_none()
 }
 
 // The statement of what a replica holds.

@@ -10,7 +10,7 @@ use Rattle.tcacct.proofs.replicated.are_log.Goals as goal
 pub loop-reports-preserved : goal.loop-reports-preserved
 loop-reports-preserved c =
     let l = c.loop-reports in
-    walk_more c.args.lists.now l.reports-index c.reports-item.result c.args.log.now l.left c.come_next.new.left c.loop-reports-test.true c.reports-item.is l.invariant (c.come_next.ensures c.if-not-come_next.false ∙ ap (λ rs. rs ++ c.come_next.new.left) c.as_slice.ensures)
+    walk_more c.args.lists.now l.reports-index c.reports-item.result c.args.log.now l.left c.come_next.new.left c.loop-reports-test.true c.reports-item.is l.invariant (c.come_next.ensures.next c.if-not-come_next.false ∙ ap (λ rs. rs ++ c.come_next.new.left) c.as_slice.ensures)
 
 pub returns-clause-chained : goal.returns-clause-chained
 returns-clause-chained c ended =
