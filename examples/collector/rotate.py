@@ -6,6 +6,7 @@ read by itself: each in a message of its own that has no data, before the SIZE o
 to `.ipfix` when it is full, when the stream ends, and at SIGTERM or SIGINT, behind the last message that came whole.
 """
 import os
+import re
 import select
 import signal
 import struct
@@ -97,28 +98,45 @@ def template_records(kind, octets):
         at = end
 
 
-def learn(known, message):
-    """Takes what a message says of templates into `known`, which has a message for each domain and template: the newest definition, and none that was withdrawn."""
-    domain = message[12:16]
-    definitions = ((kind, record) for kind, octets in sets(message) if kind in (TEMPLATES, OPTIONS_TEMPLATES) for record in template_records(kind, octets))
-    for kind, record in definitions:
+class Templates:
+    """What is known of templates: a message for each domain and identifier, with the newest definition. A withdrawn one is not known."""
+
+    def __init__(self):
+        self.known, self.kinds = {}, {}  # kinds: the identifiers of each domain and kind
+
+    def learn(self, message):
+        """Takes what a message says of templates."""
+        domain = message[12:16]
+        for kind, octets in sets(message):
+            if kind in (TEMPLATES, OPTIONS_TEMPLATES):
+                for record in template_records(kind, octets):
+                    self.take(message, domain, kind, record)
+
+    def take(self, message, domain, kind, record):
         number, fields = struct.unpack_from(">HH", record)
-        one = struct.pack(">HH", kind, 4 + len(record)) + record
         if number == kind:
             # All of this kind are withdrawn.
-            for key in [key for key, old in known.items() if key[0] == domain and old[16:18] == one[:2]]:
-                del known[key]
-        elif fields == 0:
-            known.pop((domain, number), None)
-        elif (domain, number) in known or len(known) < MOST_TEMPLATES:
-            known[domain, number] = message[:2] + struct.pack(">H", 16 + len(one)) + message[4:16] + one
+            for one in self.kinds.pop((domain, kind), ()):
+                del self.known[domain, one]
+            return
+        if fields and (domain, number) not in self.known and len(self.known) >= MOST_TEMPLATES:
+            return
+        for each in (TEMPLATES, OPTIONS_TEMPLATES):
+            self.kinds.get((domain, each), set()).discard(number)
+        if fields == 0:
+            self.known.pop((domain, number), None)
+            return
+        one = struct.pack(">HH", kind, 4 + len(record)) + record
+        self.known[domain, number] = message[:2] + struct.pack(">H", 16 + len(one)) + message[4:16] + one
+        self.kinds.setdefault((domain, kind), set()).add(number)
 
 
 def first_number(folder, session):
     """One more than the highest number that a file of this session has, here or in the folders beside, where files are billed."""
     beside = os.path.dirname(os.path.abspath(folder))
     found = [name for at in (folder, f"{beside}/billing", f"{beside}/billed") if os.path.isdir(at) for name in os.listdir(at)]
-    return max((int(name[len(session) + 1 :].split(".")[0]) + 1 for name in found if name.startswith(f"{session}-")), default=0)
+    numbers = (re.fullmatch(rf"{re.escape(session)}-(\d+)\.(?:part|ipfix)", name) for name in found)
+    return max((int(one[1]) + 1 for one in numbers if one), default=0)
 
 
 class Files:
@@ -134,14 +152,14 @@ class Files:
             rest = rest[self.file.write(rest) :]
         self.whole += len(octets)
 
-    def put(self, message, known):
+    def put(self, message, templates):
         """Writes a message; where it doesn't fit, into a new file behind the known templates."""
         if self.file and len(message) > self.room:
             self.finish()
         if not self.file:
             self.file = open(f"{self.path}-{self.number:06}.part", "xb", buffering=0)
             self.number, self.whole, self.room = self.number + 1, 0, self.size
-            self.write(b"".join(known.values()))
+            self.write(b"".join(templates.known.values()))
         self.write(message)
         self.room -= len(message)
 
@@ -156,11 +174,11 @@ class Files:
 def main():
     folder, size = sys.argv[1], int(sys.argv[2])
     session = sys.argv[3] if len(sys.argv) > 3 else "0"
-    files, known, stopped = Files(folder, size, session), {}, []
+    files, templates, stopped = Files(folder, size, session), Templates(), []
     try:
         for message in messages(stopped):
-            files.put(message, known)
-            learn(known, message)
+            files.put(message, templates)
+            templates.learn(message)
     finally:
         files.finish()
 

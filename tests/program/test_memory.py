@@ -14,7 +14,7 @@ from rows import EMPTY, OBJECT, ONE, PLAN, SHORT, STATEMENT, THREE, THREE_2, TIM
 
 HERE = Path(__file__).resolve().parent
 MOST_GROWTHS = 2000
-FAMILIES = (b"memory 1", b"plan 8", b"log 2", b"share 3", b"work 5", b"work 3", b"read 3", b"absorb 4", b"wire 7", b"statement 5")
+FAMILIES = (b"memory 1", b"plan 8", b"log 2", b"share 3", b"work 5", b"work 3", b"read 3", b"absorb 4", b"statement 5")
 
 # Tests that hold whether one growth is refused or not.
 HOLDS = {

@@ -24,8 +24,9 @@ use tca_report::Report;
 /// the set of them all. Its own chain is what its own `take` got new.
 ///
 /// A book beside the log keeps the bill, so that a late report costs what follows it and not the whole history. After new reports of
-/// a list were taken at once, or those of a delta absorbed at once, and after a merge, there is no book until a single report that is
-/// new to its chain comes or `keep_book` is called, and the bill is made from the log when it is asked.
+/// a list were taken at once, or those of a delta absorbed at once, and after a merge, there is no book until a single report comes
+/// that is new, to the log in a take and to its chain in an absorb, or `keep_book` is called; the bill is made from the log when it is
+/// asked.
 #[derive(Drop)]
 pub struct Replica {
     contents: Contents,
@@ -121,7 +122,7 @@ impl Replica {
     /// many of the new reports were appended, and why the log didn't take the next one. A delta with nothing new takes no memory.
     ///
     /// Where the new reports are many beside the log and beside all chains they are appended at once, which costs less and answers the
-    /// same.
+    /// same. A run of an origin of which nothing is held moves the chains of the higher origins by one place.
     pub fn absorb(&mut self, delta: &Delta) -> Result<u64, AbsorbFault>
         ensures state { self.new ≡ absorbed self.old delta.now (outcome_of result) }
         ensures outcome { IsOutcome self.old.name (chain_of self.old) delta.now (outcome_of result) }

@@ -113,7 +113,8 @@ impl Run {
         true
     }
 
-    /// The same run once more. It shares the list. `AllocError` comes where a growth was refused, and leaves this run as it was.
+    /// The same run once more. It shares the list, so no memory is taken: `AllocError` comes only where the list can have no owner
+    /// more, and leaves this run as it was.
     pub fn copy(&self) -> Result<Run, AllocError>
         ensures { IfOk result (λ r. r ≡ self.now) }
     {
@@ -124,7 +125,8 @@ impl Run {
         })
     }
 
-    /// The same runs once more. `AllocError` comes where a growth was refused, and leaves these runs as they were.
+    /// The same runs once more. `AllocError` comes where a growth was refused or a list can have no owner more, and leaves these runs
+    /// as they were.
     pub fn copies(alloc: Global, runs: &[Run]) -> Result<Vec<Run>, AllocError>
         ensures { IfOk result (λ list. list.items ≡ runs.now) }
     {
@@ -189,7 +191,8 @@ impl Delta {
         Run::are_same(&self.runs, &other.runs)
     }
 
-    /// The same delta once more. `AllocError` comes where a growth was refused, and leaves this delta as it was.
+    /// The same delta once more. `AllocError` comes where a growth was refused or a list can have no owner more, and leaves this delta
+    /// as it was.
     pub fn copy(&self, alloc: Global) -> Result<Delta, AllocError>
         ensures { IfOk result (λ d. d ≡ self.now) }
     {

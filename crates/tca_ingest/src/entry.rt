@@ -149,8 +149,8 @@ impl Entry {
         }
     }
 
-    /// The same entry once more. Its reports are shared, not copied. `AllocError` comes where a growth was refused, and this entry stays
-    /// as it is.
+    /// The same entry once more. Its reports are shared, not copied. `AllocError` comes where a growth was refused or its reports can have
+    /// no owner more, and this entry stays as it is.
     pub fn copy(&self, alloc: Global) -> Result<Entry, AllocError>
         ensures { IfOk result (λ e. entry_view e ≡ entry_view self.now) }
     {

@@ -22,7 +22,7 @@ const ALL_ROOM: usize = 33_554_432;
 // The most octets of one buffer.
 const MOST_ROOM: usize = 1_048_576;
 
-/// A buffer for each domain of a capture, in a tree: a stranger chooses the domains, and could choose some that share a hash.
+/// A buffer for each domain of a capture, in a tree: whoever sends messages chooses the domains, and could choose some that share a hash.
 #[derive(Drop)]
 pub(crate) struct Buffers {
     pub(crate) buffers: BTreeMap<u32, Vec<u8>>,

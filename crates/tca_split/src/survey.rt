@@ -29,7 +29,7 @@ const MOST_DOMAINS: usize = 4096;
 pub(crate) struct Survey {
     /// The domains, in the order in which they first came.
     pub(crate) domains: Vec<u32>,
-    /// The same domains in a tree: a stranger chooses them, and could choose some that share a hash.
+    /// The same domains in a tree: whoever sends messages chooses them, and could choose some that share a hash.
     known: BTreeSet<u32>,
     /// How many messages came; 2^64 - 1 stands for all above it too.
     pub(crate) messages: u64,

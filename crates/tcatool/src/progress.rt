@@ -70,7 +70,7 @@ impl<'r, R: Clock, V: io::Write> Progress<'r, R, V> {
 }
 
 impl<'r, R, V: io::Write> Progress<'r, R, V> {
-    // Prints how many MiB are done.
+    // Prints how many MiB of all are done.
     fn tell(&mut self, done: u64) {
         let command = self.command;
         let all = self.all / MEBIBYTE;

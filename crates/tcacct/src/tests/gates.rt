@@ -91,22 +91,30 @@ fn each_replica_has_its_own_jobs(rt: HostRuntime) {
     assert!(rt; third == 1);
 }
 
-// The jobs in the order in which they came, each a digit counted from 1.
+// The jobs in the order in which they began and ended, each a digit counted from 1.
 #[derive(Drop)]
 struct Order {
     jobs: AtomicU64,
 }
 
-impl Gate for Order {
-    fn before(&self, job: u32) {
+impl Order {
+    fn note(&self, job: u32) {
         let before = self.jobs.load(Ordering::SeqCst).wrapping_mul(10);
         let job = u64::from(job).wrapping_add(1);
         self.jobs.store(before.wrapping_add(job), Ordering::SeqCst);
     }
+}
+
+impl Gate for Order {
+    fn before(&self, job: u32) {
+        self.note(job);
+    }
 
     fn inside(&self, _job: u32) {}
 
-    fn after(&self, _job: u32) {}
+    fn after(&self, job: u32) {
+        self.note(job);
+    }
 }
 
 // Of five inputs the first replica of three has two, as has the second, and the third has one.
@@ -117,5 +125,5 @@ fn inputs_go_round_the_replicas(rt: HostRuntime) {
     };
     let rows = [FIRST, SECOND, THIRD, FIRST, SECOND];
     assert!(rt; bills(&rt, rt.alloc(), &rows, (3, 1), &gate));
-    assert!(rt; gate.jobs.load(Ordering::SeqCst) == 12_121);
+    assert!(rt; gate.jobs.load(Ordering::SeqCst) == 1_122_112_211);
 }

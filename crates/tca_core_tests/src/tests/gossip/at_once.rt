@@ -266,11 +266,23 @@ fn absorbs_beside(alloc: Global, one: &mut Replica) -> bool {
         && holds(one) == Outcome::Holds(1100, [0, 10000, 1100])
 }
 
+// One that is an eighth of the chains goes in at once, after which there is no book.
+fn absorbs_an_eighth(alloc: Global, one: &mut Replica) -> bool {
+    let Some(list) = long_list(alloc, 1100, 1500) else {
+        return false;
+    };
+    let Some(sent) = run_of(alloc, 4, list) else {
+        return false;
+    };
+    absorbed(&one.absorb(&sent)) == Outcome::Absorbed(1500) && !one.keeps_book()
+}
+
 fn goes_beside(alloc: Global) -> Option<bool> {
     let Some(mut one) = replica_under(alloc, PLAN, 1) else {
         return None;
     };
-    Some(absorbs_repeated(alloc, &mut one) && absorbs_beside(alloc, &mut one))
+    let beside = absorbs_repeated(alloc, &mut one) && absorbs_beside(alloc, &mut one);
+    Some(beside && absorbs_an_eighth(alloc, &mut one))
 }
 
 #[test]
