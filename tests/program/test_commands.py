@@ -111,9 +111,10 @@ class Combines(ProgramTest):
         self.assert_refused(self.run_program("combine", "out", "x", "1@decode", "2@cut"), "1@decode", "decode", 1)
 
     def test_more_words_than_forty(self):
-        rows = [(TIME + n, 7, 0, n, 100 + n, 0, 1) for n in range(100)]
+        # More than a bill may have.
+        rows = [(TIME + n, 7, 0, n, 100 + n, 0, 1) for n in range(300)]
         names = [self.write(f"n{n}", export([row])) for n, row in enumerate(rows)]
-        self.assert_done(self.run_program("combine", "out", *names), b"reports 100\n")
+        self.assert_done(self.run_program("combine", "out", *names), b"reports 300\n")
         self.assertEqual(self.read("out"), export(rows))
 
 
@@ -250,8 +251,9 @@ class Bills(ProgramTest):
         self.assert_refused(self.run_program("bill", "plan", "a"), "plan", "plan", 7)
 
     def test_notes_of_each_input(self):
+        """Of as many as a bill may have."""
         words, lines = [], []
-        for n in range(7):
+        for n in range(255):
             words.append(f"{n}@{self.write(f'n{n}', noted(n))}")
             lines.append(f"tcacct: {words[-1]}: notes {n + 1} 1 {n}\n")
         self.write("quiet", THREE_2)

@@ -167,6 +167,18 @@ class Limits(ProgramTest):
         self.assertTrue(filecmp.cmp(self.folder / "whole", self.folder / "again", shallow=False))
         self.write("one", ONE)
         self.assert_refused(self.run_program("combine", "out", "whole", "1@one"), "1@one", "log", 1)
+        with open(self.folder / "most", "ab") as file:
+            file.write(capture(7, most, [(TIME, 1500, 0, 1)]))
+        self.assert_refused(self.run_program("combine", "out", "most"), "most", "log", 1)
+
+    def test_more_repeats_than_a_log_holds(self):
+        """An input may have more reports than a log where few of them differ."""
+        self.write("repeats", capture(7, 0, [(TIME + n, 1500, 0, 1) for n in range(2_048)]) * 2_049)
+        self.assert_done(self.run_program("combine", "out", "repeats"), b"reports 2048\n")
+        self.write("plan", PLAN.toml())
+        run = self.run_program("bill", "plan", "repeats")
+        self.assertEqual((run.status, run.err), (0, b""))
+        self.assertIn(b"\nreports 2048\n", run.out)
 
     def test_as_many_sets_as_a_message_holds(self):
         self.write("capture", message_with(struct.pack(">HH", 4, 4) * 16_379) + ONE)

@@ -243,6 +243,32 @@ class WholePages(ToolTest):
             if text.get("class") == "middle":
                 self.assertTrue(340 <= Decimal(text.get("x")) <= 3260)
 
+    def test_gaps_and_times(self):
+        """A bar has five sixths of its room, at most 400 units, and a time stands below the middle of its bar, where the picture has room."""
+        for count in (1, 2, 3, 7, 9, 90):
+            picture = self.tree_of(statement(3_600_000, [("alpha", [(n, ONE) for n in range(count)])])).find(".//figure/svg")
+            for column, *pieces in (bar.findall("rect") for bar in picture.findall("g")):
+                left, right, _, _ = self.edges(column)
+                for begins, ends, _, _ in map(self.edges, pieces):
+                    self.assertAlmostEqual(ends - begins, min((right - left) * 5 / 6, 400), delta=Decimal("0.00001"))
+            marks = [re.match(r"M([\d.]+) \d+V", path.get("d")) for path in picture.findall("path")]
+            middles = [Decimal(mark[1]) for mark in marks if mark]
+            self.assertEqual(len(middles), min(count, 3))
+            # A time is two lines of text: the day, and the time of the day.
+            times = [Decimal(text.get("x")) for text in picture.findall("text") if text.get("class") == "middle"]
+            self.assertEqual(times, [min(middle, 3260) for middle in middles for _ in range(2)])
+
+    def test_highest_bars(self):
+        """The axis reaches the highest bar, and at most 2.1 times as far; the picture says whose it is."""
+        numbers = random.Random(19)
+        accounts = [(f"account_{n}", [(0, (int(2 ** numbers.uniform(3, 62)), 1, 0, 0, 0, 0))]) for n in range(200)]
+        sections = self.tree_of(statement(3_600_000, accounts)).findall(".//section")
+        for section, (name, [(_, (octets, *_))]) in zip(sections, accounts, strict=True):
+            picture = section.find("figure/svg")
+            number, unit = [text.text.split() for text in picture.findall("text") if text.get("class") == "end"][-1]
+            self.assertTrue(octets <= int(number) * UNITS[unit] <= 2.1 * octets, (name, octets))
+            self.assertEqual(picture.get("aria-label"), f"Octets of {name} in each period")
+
     def test_units(self):
         """Of each unit one, one and a half, and three quarters, which are told in the unit below; of the least one these are octets."""
         wholes = list(UNITS.items())
@@ -269,6 +295,15 @@ class WholePages(ToolTest):
         section = self.tree_of(statement(3_600_000, [("alpha", [(0, sums)])])).find(".//section")
         found = [small.text.replace("\u00a0", " ") for small in section.findall(".//tbody/tr/td/small")]
         self.assertEqual(found, ["1.49 KiB", "1018.94 KiB", "1023.99 PiB", "1.00 EiB"])
+
+    def test_borders_of_numbers(self):
+        """Digits stand in groups of three from 1,000 on, and octets in a larger unit from 1,024 on."""
+        numbers = [1023, 1024, *(10**n - less for n in range(1, 20) for less in (1, 0))]
+        accounts = [(f"account_{n}", [(0, (number, 1, 0, 0, 0, 0))]) for n, number in enumerate(numbers)]
+        sections = self.tree_of(statement(3_600_000, accounts)).findall(".//section")
+        for section, number in zip(sections, numbers, strict=True):
+            cell = section.find(".//tbody/tr/td")
+            self.assertEqual((cell.text, cell.find("small") is None), (grouped(number), number < 1024))
 
     def test_the_greatest_sums(self):
         """Each sum may have 64 bits, so what several colours have together may have more."""

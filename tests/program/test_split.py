@@ -123,6 +123,20 @@ class Splitting(ProgramTest):
             self.assert_refused_by(self.split(folder, "capture"), "split", "write", 1)
         self.assertFalse(os.path.exists("/4294967295.ipfix"))
 
+    def test_a_folder_of_a_long_path(self):
+        """Its path leaves room for one of the files, but not for the other one, which so can't be looked for: neither is made."""
+        folder = os.open(self.folder, os.O_RDONLY)
+        names = ["d" * 200] * 20 + ["d" * 64]
+        for name in names:
+            os.mkdir(name, dir_fd=folder)
+            above, folder = folder, os.open(name, os.O_RDONLY, dir_fd=folder)
+            os.close(above)
+        self.addCleanup(os.close, folder)
+        self.write("capture", message(5) + message(2**32 - 1))
+        self.assertTrue(len("/".join([*names, "5.ipfix"])) < 4096 <= len("/".join([*names, "4294967295.ipfix"])))
+        self.assert_refused_by(self.split("/".join(names), "capture"), "split", "write", 1)
+        self.assertEqual(os.listdir(folder), [])
+
     def test_a_capture_that_is_not_there(self):
         for options in ((), ("--progress",)):
             self.assert_refused_by(self.split(*options, "parts", "capture"), "capture", "read", 1)

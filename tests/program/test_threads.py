@@ -36,7 +36,7 @@ class Threads(ProgramTest):
     def test_as_many_are_started(self):
         """In all, so that replicas count too: each starts its own workers."""
         names = [f"n{n}" for n in range(4)]
-        for replicas, workers in ((1, 1), (1, 8), (2, 3), (3, 2), (16, 1)):
+        for replicas, workers in ((1, 1), (1, 8), (1, 64), (2, 3), (3, 2), (16, 1)):
             started, _ = self.count(names, "--replicas", replicas, "--workers", workers)
             self.assertEqual(started, replicas * workers, (replicas, workers))
 

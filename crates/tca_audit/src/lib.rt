@@ -6,8 +6,8 @@
 //! other crates it takes the readers of plans and exports, the table of code points, the account that owns a report, the sums of
 //! three colours to which a packet is counted (`Sums::count`), and the text of a bill. A token is let in only where a bucket has
 //! room for it, so between two packets no more are let in than packets took out before.
-//! Where the identities of the reports don't ascend, it takes 12 octets of memory for each report and each disputed identity beside the list of
-//! reports itself.
+//! Where the identities of the reports don't ascend, it takes 12 octets of memory for each report and up to 24 for each disputed identity, beside
+//! the list of reports itself.
 //!
 //! - `check`: the audit as a whole; `verdict`: the comparison, octet by octet; `fault`: why there is none;
 //! - `bill`: the sums of all accounts; `account`: one account; `disputes`: the identities that more than one report has;

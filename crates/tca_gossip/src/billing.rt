@@ -19,8 +19,8 @@ use tca_report::Report;
 const ROWS_A_MARK: u32 = 256;
 
 /// The bill of a log. A book keeps it, so that a late report costs what follows it. After many reports at once no book is kept
-/// until a single report comes that is new, to the log in a take and to its chain in an absorb, or a book is asked for: whoever takes a few long lists meters the log once, when
-/// the bill is asked, and not once a list.
+/// until a single report comes that is new, to the log in a take and to its chain in an absorb, or a book is asked for: whoever
+/// takes a few long lists meters the log once, when the bill is asked, and not once a list.
 #[derive(Drop)]
 pub(crate) struct Billing {
     book: Book,

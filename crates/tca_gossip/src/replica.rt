@@ -102,7 +102,7 @@ impl Replica {
         taken
     }
 
-    /// Takes the reports of a list as `take` does. Where the replica holds nothing and no report comes twice, a list that is taken at once
+    /// Takes the reports of a list as `take` does. Where the replica has no chain and no report comes twice, a list that is taken at once
     /// is its own chain, so that the reports aren't copied.
     pub fn take_shared(&mut self, reports: Items<Report>) -> Taken
         ensures within { result.taken ≤ length reports }
@@ -143,7 +143,7 @@ impl Replica {
     }
 
     /// For each origin of which more is held than the summary counts, the run of the rest. `AllocError` comes where a growth was
-    /// refused, and leaves the replica as it was.
+    /// refused, or a list can have no owner more, and leaves the replica as it was.
     pub fn delta(&self, since: &Summary) -> Result<Delta, AllocError>
         ensures { IfOk result (λ d. d ≡ delta_of (summary_count since.now) self.now.chains) }
     {

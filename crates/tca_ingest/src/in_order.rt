@@ -11,9 +11,9 @@ use crate::side::Side;
 use std::alloc::{AllocError, Global};
 use tca_report::Notes;
 
-/// Whether the passes have just the entries of the receipts, each as often, and each pass its own in the order of the jobs. Each entry is
-/// compared with one call where the passes' numbers follow one another, else with one of each pass and one more at most. False may also
-/// come for want of memory.
+/// Whether the passes have just the entries of the receipts, each as often, and each pass its own in the order of the jobs. An entry is
+/// compared with one call where the passes' numbers follow one another and it comes next in its pass, else with one of each pass and one
+/// more at most. False may also come for want of memory.
 #[tactic(auto, unfolding(crate::specs::Works::entries_in))]
 pub(crate) fn are_in_order<L: Side>(alloc: Global, done: &[Done], passes: &[Pass<L>]) -> bool
     ensures entries { result ≡ true → IsPermutation (entries_in done.now) (all_calls passes.now) }

@@ -19,7 +19,8 @@ use tca_report::Report;
 
 /// A replica behind a lock, with its journal. Each call takes the lock, which may wait, makes the `Held`'s call of its name, and
 /// lets go. It is refused as that call is: one that makes an entry with `JournalFull` where the journal has 1,048,576 entries, and with
-/// `Memory` where a growth was refused for the entry or for the answer in it. On a refusal no entry was made and nothing changed.
+/// `Memory` where a growth was refused for the entry or for the bill, summary or delta in it. On a refusal no entry was made and nothing
+/// changed.
 #[derive(Drop)]
 pub struct Shared<L: Side> {
     pub(crate) held: Mutex<Held<L>>,

@@ -234,6 +234,8 @@ impl<K: Ord + Copy, A: Allocator + Copy> Rows<K, A> {
             *self = merged(self, other)?;
             return Ok(());
         }
+        // Where no row has gone in, a refusal has nothing to withdraw.
+        self.reserve()?;
         for key in other.iter() {
             if let Err(refused) = self.reserve() {
                 self.withdraw_all(other);

@@ -12,7 +12,7 @@ use tca_report::Report;
 // Where fewer than this part of a list ascend, the whole list is sorted.
 const PART: usize = 4;
 
-// At how many places a list is looked at.
+// At how many places a list is looked at, at most.
 const LOOKS: usize = 1_024;
 
 /// The reports of a list in order, each once. A list that ascends is given back; of one that ascends but for some reports, as where
@@ -23,7 +23,7 @@ pub fn set_of<A: Allocator + Copy>(reports: Vec<Report, A>) -> Vec<Report, A>
     set_where(reports, false)
 }
 
-// Whether a list seems to ascend: at 1,024 places, where reports stand in order beside each other and from one place to the next.
+// Whether a list seems to ascend: at up to 1,024 places, where reports stand in order beside each other and from one place to the next.
 fn seems_to_ascend(list: &[Report]) -> bool {
     let step = list.len() / LOOKS + 1;
     let mut last = 0;
@@ -40,7 +40,7 @@ fn seems_to_ascend(list: &[Report]) -> bool {
 }
 
 /// The same list, with its set beside, so that each of its owners has the set without sorting it. A list that ascends is its own set, so where
-/// it seems to, at 1,024 places, it has none beside; nor has it where memory is wanting for one.
+/// it seems to, at up to 1,024 places, it has none beside; nor has it where memory is wanting for one.
 pub fn with_set<A: Allocator + Copy>(alloc: A, list: Items<Report, A>) -> Items<Report, A>
     ensures { result ≡ list }
 {

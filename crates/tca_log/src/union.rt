@@ -112,9 +112,9 @@ impl<A: Allocator + Copy> Log<A> {
 }
 
 impl<A: Allocator + Copy> Log<A> {
-    /// Takes the reports of a list, where it has none, they ascend and are at most 4,194,304, and answers whether it did. It holds the list with its other owners
-    /// then, and takes memory for a copy, but makes none before another report comes. `AllocError` comes where a growth was refused, which
-    /// leaves the log as it was.
+    /// Takes the reports of a list, where it has none, they ascend and are at most 4,194,304, and answers whether it did. It holds the
+    /// list with its other owners then, and takes memory for a copy, but makes none before another report comes. `AllocError` comes where
+    /// a growth was refused, or the list can have no owner more, which leaves the log as it was.
     pub fn take_shared(&mut self, list: &Items<Report, A>) -> Result<bool, AllocError>
         ensures new { IfOk result (λ took. took ≡ true → self.new ≡ list.now) }
         ensures none { IfOk result (λ took. took ≡ true → self.old ≡ []) }
@@ -144,8 +144,8 @@ impl<A: Allocator + Copy> Log<A> {
 
     /// Adds the reports of a list that may be shared, as `add_all` does. Where the log has none it holds their set with its other owners,
     /// if that is the list or stands beside it; else it takes the list, or a copy where it has other owners. `Full` comes only where the
-    /// log would have more than 4,194,304 reports, and `Memory` where a growth was refused, also that of the copy; both leave the log
-    /// as it was. Unlike `add_all` it may be refused memory also where nothing is new.
+    /// log would have more than 4,194,304 reports, and `Memory` where a growth was refused, also that of the copy, or the list can have no
+    /// owner more; both leave the log as it was. Unlike `add_all` it may be refused memory also where nothing is new.
     pub fn add_list(&mut self, list: Items<Report, A>) -> Result<u32, LogFault>
         ensures ok { OnOk result (self.new ≡ after (Many list) self.old) }
         ensures count { IfOk result (λ n. n + length self.old ≡ length self.new) }

@@ -1,5 +1,5 @@
 -- Slots and what stands in them.
-use Rattle.std.proofs.Common.{◌≡◌, Bool, ℕ, zero, suc, ◌+◌, ◌<◌, ◌≤◌, true, false, cond, List, [], ◌∷◌, ◌++◌, length, take, set, Option, Some, None, ◌⊎◌, inl, inr, refl, sym, ap, subst, ◌∙◌, arith}
+use Rattle.std.proofs.Common.{◌≡◌, Bool, ℕ, zero, suc, ◌+◌, ◌<◌, ◌≤◌, true, false, cond, List, [], ◌∷◌, ◌++◌, length, take, set, Option, Some, None, ◌⊎◌, inl, inr, refl, sym, ap, subst, ◌∙◌, arith, length-append, length-set}
 use Rattle.std.specs.Prelude.{filter, slice_get, ⊤}
 use Rattle.std.specs.Option.{option_map, is_some}
 use Rattle.std.specs.Map.{lookup}
@@ -72,7 +72,7 @@ placed k (Some x ∷ ss) e =
     ap (λ b. cond b (Some 0) (option_map suc (place_of k ss))) m.0 ∙ ap (option_map suc) (placed k ss m.1)
 
 pub slotted_none : {X : Type 0} → IsSlotted {X = X} [] [] 0
-slotted_none = record { found = λ j. refl; apart = tt; counted = refl }
+slotted_none = record { found = λ j. refl; apart = tt; counted = refl; few = omega arith }
 
 -- the template of a key is exchanged
 pub filled_put : {X : Type 0} (k : Key) (t : X) (ss : Slots X) (i : ℕ) → place_of k ss ≡ Some i → filled (set ss i (Some (k, t))) ≡ insert_entry same_key (filled ss) k t
@@ -128,6 +128,7 @@ slotted_put k t ss ps n i s e = record {
   found = λ j. s.found j ∙ sym (place_put k t j ss i e);
   apart = apart_put k t ss i e s.apart;
   counted = s.counted ∙ sym (count_put k t ss i e);
+  few = omega (arith, s.few, length-set ss i (Some (k, t)));
 }
 
 -- a new template goes last
@@ -169,12 +170,13 @@ count_push k t (None ∷ ss) = count_push k t ss
 count_push k t (Some x ∷ ss) = ap suc (count_push k t ss)
 
 pub slotted_push : {X : Type 0} (k : Key) (t : X) (ss : Slots X) (ps qs : Places) (m n : ℕ) → IsSlotted ss ps m → place_of k ss ≡ None
-    → ((j : Key) → held qs j ≡ cond (same_key k j) (Some (length ss)) (held ps j)) → n ≡ m + 1
+    → ((j : Key) → held qs j ≡ cond (same_key k j) (Some (length ss)) (held ps j)) → length qs ≤ length ps + 1 → n ≡ m + 1
     → IsSlotted (ss ++ Some (k, t) ∷ []) qs n
-slotted_push k t ss ps qs m n s e u more = record {
+slotted_push k t ss ps qs m n s e u keys more = record {
   found = λ j. u j ∙ ap (λ o. cond (same_key k j) (Some (length ss)) o) (s.found j) ∙ sym (place_push k t j ss e);
   apart = apart_push k t ss e s.apart;
   counted = omega (arith, more, s.counted, count_push k t ss);
+  few = omega (arith, s.few, keys, length-append ss (Some (k, t) ∷ []));
 }
 
 -- an empty slot changes nothing
@@ -192,13 +194,6 @@ pub filled_gap : {X : Type 0} (ss : Slots X) → filled (ss ++ None ∷ []) ≡ 
 filled_gap [] = refl
 filled_gap (None ∷ ss) = filled_gap ss
 filled_gap (Some x ∷ ss) = ap (λ es. x ∷ es) (filled_gap ss)
-
-pub slotted_gap : {X : Type 0} (ss : Slots X) (ps : Places) (n : ℕ) → IsSlotted ss ps n → IsSlotted (ss ++ None ∷ []) ps n
-slotted_gap ss ps n s = record {
-  found = λ j. s.found j ∙ sym (place_gap j ss);
-  apart = apart_gap ss s.apart;
-  counted = s.counted ∙ sym (ap length (filled_gap ss));
-}
 
 -- a template is taken out of its slot
 pub filled_out : {X : Type 0} (k : Key) (ss : Slots X) (i : ℕ) → place_of k ss ≡ Some i → filled (set ss i None) ≡ shift_remove_entry (same_key k) (filled ss)
@@ -275,12 +270,13 @@ count_out k (Some x ∷ ss) i e = elim (hit (same_key k x.0) (place_of k ss) i e
 ]
 
 pub slotted_out : {X : Type 0} (k : Key) (ss : Slots X) (ps qs : Places) (m n i : ℕ) → IsSlotted ss ps m → place_of k ss ≡ Some i
-    → ((j : Key) → held qs j ≡ cond (same_key k j) None (held ps j)) → n + 1 ≡ m
+    → ((j : Key) → held qs j ≡ cond (same_key k j) None (held ps j)) → length qs ≡ length ps → n + 1 ≡ m
     → IsSlotted (set ss i None) qs n
-slotted_out k ss ps qs m n i s e u less = record {
+slotted_out k ss ps qs m n i s e u keys less = record {
   found = λ j. u j ∙ ap (λ o. cond (same_key k j) None o) (s.found j) ∙ sym (place_out k j ss i s.apart e);
   apart = apart_out k ss i e s.apart;
   counted = omega (arith, less, s.counted, count_out k ss i e);
+  few = omega (arith, s.few, keys, length-set ss i None);
 }
 
 -- each key leads to its slot

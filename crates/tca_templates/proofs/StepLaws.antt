@@ -1,5 +1,5 @@
 -- What stood in the slots before the steps.
-use Rattle.std.proofs.Common.{◌≡◌, Bool, ℕ, zero, suc, ◌+◌, ◌<◌, true, false, cond, List, [], ◌∷◌, ◌++◌, length, get_or, set, Option, Some, None, IfSome, refl, sym, ap, subst, ◌∙◌, arith}
+use Rattle.std.proofs.Common.{◌≡◌, Bool, ℕ, zero, suc, ◌+◌, ◌<◌, ◌≤◌, true, false, cond, List, [], ◌∷◌, ◌++◌, length, get_or, set, Option, Some, None, IfSome, refl, sym, ap, subst, ◌∙◌, arith}
 use Rattle.std.proofs.lemmas.List.{set-get_or, length-set}
 use Rattle.std.proofs.Common.{length-append}
 use Rattle.std.specs.Prelude.{slice_get}
@@ -183,11 +183,12 @@ count_in e (None ∷ ss) (suc i) lt = count_in e ss i (omega (arith, lt))
 count_in e (Some x ∷ ss) (suc i) lt = ap suc (count_in e ss i (omega (arith, lt)))
 
 pub slotted_in : {X : Type 0} (k : Key) (t : X) (ss : Slots X) (ps qs : Places) (m n i : ℕ) → i < length ss → IsApart (set ss i (Some (k, t))) → IsSlotted (set ss i None) ps m
-    → ((j : Key) → held qs j ≡ cond (same_key k j) (Some i) (held ps j)) → n ≡ m + 1 → IsSlotted (set ss i (Some (k, t))) qs n
-slotted_in k t ss ps qs m n i lt a s u more = record {
+    → ((j : Key) → held qs j ≡ cond (same_key k j) (Some i) (held ps j)) → length qs ≡ length ps → n ≡ m + 1 → IsSlotted (set ss i (Some (k, t))) qs n
+slotted_in k t ss ps qs m n i lt a s u keys more = record {
   found = λ j. u j ∙ ap (λ o. cond (same_key k j) (Some i) o) (s.found j) ∙ sym (place_in k t j ss i lt a);
   apart = a;
   counted = omega (arith, more, s.counted, count_in (k, t) ss i lt);
+  few = omega (arith, s.few, keys, length-set ss i None, length-set ss i (Some (k, t)));
 }
 
 -- where no steps are noted
@@ -221,19 +222,19 @@ module _ {X : Type 0} where
   }
 
   pub kept_out : (k : Key) (ss : Slots X) (ps qs : Places) (m n : ℕ) (o : Option (List (Step X))) (i : ℕ) → IsKept ss ps m o → place_of k ss ≡ Some i
-      → ((j : Key) → held qs j ≡ cond (same_key k j) None (held ps j)) → Stay ps qs → n + 1 ≡ m
+      → ((j : Key) → held qs j ≡ cond (same_key k j) None (held ps j)) → Stay ps qs → length qs ≡ length ps → n + 1 ≡ m
       → IsKept (set ss i None) qs n (noted o i (get_or ss i None))
-  kept_out k ss ps qs m n o i s e u w less = record {
-    slotted = slotted_out k ss ps qs m n i s.slotted e u less;
+  kept_out k ss ps qs m n o i s e u w keys less = record {
+    slotted = slotted_out k ss ps qs m n i s.slotted e u keys less;
     steps_back = put_steps o ss i None (stands k ss i e).within s.slotted.apart s.steps_back;
     entered = entered_noted qs o i (get_or ss i None) (steps_stay ps qs w o s.entered) (one_stays ps qs w (get_or ss i None) (slot_entered ss ps m i s.slotted));
   }
 
   pub kept_push : (k : Key) (t : X) (ss : Slots X) (ps qs : Places) (m n : ℕ) (o : Option (List (Step X))) (i : ℕ) → IsKept ss ps m o → place_of k ss ≡ None → i ≡ length ss
-      → ((j : Key) → held qs j ≡ cond (same_key k j) (Some (length ss)) (held ps j)) → Stay ps qs → n ≡ m + 1
+      → ((j : Key) → held qs j ≡ cond (same_key k j) (Some (length ss)) (held ps j)) → Stay ps qs → length qs ≤ length ps + 1 → n ≡ m + 1
       → IsKept (ss ++ Some (k, t) ∷ []) qs n (noted o i None)
-  kept_push k t ss ps qs m n o i s e at u w more = subst (λ j. IsKept (ss ++ Some (k, t) ∷ []) qs n (noted o j None)) (sym at) (record {
-    slotted = slotted_push k t ss ps qs m n s.slotted e u more;
+  kept_push k t ss ps qs m n o i s e at u w keys more = subst (λ j. IsKept (ss ++ Some (k, t) ∷ []) qs n (noted o j None)) (sym at) (record {
+    slotted = slotted_push k t ss ps qs m n s.slotted e u keys more;
     steps_back = push_steps o ss (k, t) s.slotted.apart s.steps_back;
     entered = entered_noted qs o (length ss) None (steps_stay ps qs w o s.entered) tt;
   })

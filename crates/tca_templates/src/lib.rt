@@ -5,9 +5,11 @@
 //! stand, is worked out when the template is defined; a record with a field of variable length is gone over once.
 //! Only `read` copies fields; and it notes what template sets change, and puts that back where the message is refused.
 //! Templates are found in a map ordered by their domain and ID, and withdrawn without moving the others. All that a stranger's
-//! messages can make a decoder keep is 4,096 templates of 512 fields each, in at most twice as many slots and those that
-//! the last message added. Memory is the last that a record can want: one that is refused for itself is refused so
-//! whether or not there is memory for it.
+//! messages can make a decoder keep is 4,096 templates of 512 fields each, in at most twice as many slots, with no more
+//! keys than slots and lists of twice as many IDs, and what the last message added. There may be more of these for as long as
+//! memory is refused for taking the needless ones away.
+//! Memory is the last that a record can want: one that is refused for itself is refused so whether or not there is memory
+//! for it.
 //!
 //! - `decoder`: a session; `reading`: the sets of one message;
 //! - `template`, `specifiers`, `store`: what a template says, the records that define and withdraw templates, and

@@ -1,12 +1,12 @@
 //! The templates that are known, each in a slot of its own, in the order in which they were first seen.
 //!
 //! A withdrawal leaves its slot empty, so that nothing is moved, and its key without a place. The empty slots and these keys
-//! are taken away together, when a new template comes and they are as many as the templates. So what a withdrawal and a
-//! definition cost on average is one search of a tree of keys, whichever keys a stranger chooses.
+//! are taken away together, when a new template comes and they are as many as the templates, and 64 at least. So what a
+//! withdrawal and a definition cost on average is a few searches of trees of keys, whichever keys a stranger chooses.
 //!
 //! For each domain and kind the IDs are listed that were defined so, one more with each definition. A withdrawal of all
 //! goes over those that were listed since the last one. So each definition is gone over once, whatever else is known.
-//! Where the lists have more than twice as many IDs as there are templates, each template is listed once, anew.
+//! Where the lists have twice as many IDs as there are templates, and 64 at least, each template is listed once, anew.
 //!
 //! While a message is read that may be refused, each change notes what stood in its slot before, and no key is taken away. So
 //! a refusal is undone without memory, from the last change to the first. A list that a template comes back to is gone over
@@ -86,6 +86,7 @@ fn set_place(places: &mut Places, key: (u32, u16), place: Option<usize>)
     requires { is_entered places.old.entries key ≡ true }
     ensures held { (k : Key) → held places.new.entries k ≡ (if same_key key k then place else held places.old.entries k) }
     ensures entered { (k : Key) → is_entered places.old.entries k ≡ true → is_entered places.new.entries k ≡ true }
+    ensures as_many { length places.new.entries ≡ length places.old.entries }
 {
     if let Some(old) = places.get_mut(&key) {
         *old = place;
@@ -96,6 +97,7 @@ fn set_place(places: &mut Places, key: (u32, u16), place: Option<usize>)
 fn enter_place(places: &mut Places, key: (u32, u16), place: usize) -> Result<(), AllocError>
     ensures held { OnOk result ((k : Key) → held places.new.entries k ≡ (if same_key key k then Some place else held places.old.entries k)) }
     ensures entered { OnOk result ((k : Key) → is_entered places.old.entries k ≡ true → is_entered places.new.entries k ≡ true) }
+    ensures few { OnOk result (length places.new.entries ≤ length places.old.entries + 1) }
     ensures err { OnErr result (places.new.entries ≡ places.old.entries) }
 {
     places.insert(key, Some(place))?;
@@ -387,9 +389,10 @@ impl Slots {
         self.steps = Some(Vec::new(alloc));
     }
 
-    // The message was read: what it changed stays.
+    // The message was read: what it changed stays, and no steps are noted any more.
     pub(crate) fn keep(&mut self)
-        ensures { self.new.known ≡ self.old.known }
+        ensures known { self.new.known ≡ self.old.known }
+        ensures before { self.new.before ≡ None }
     {
         self.steps = None;
     }

@@ -1,32 +1,18 @@
 //! `tcacct`: usage accounting that operator and customer can both check.
 //!
-//! `shell` reads the command line and the files, calls the command's function, and prints the one line
-//! of a refusal. The commands are functions over octets and writers, and carry the contracts, as do the
-//! word of that line, the exit status and the texts.
+//! `main` hands the words of the command line and the devices to the commands, which are a library, `tca_commands`, and are tried here.
 #![tactic(auto)]
 
-mod answers;
-mod audit;
-mod bill;
-mod combine;
-mod commands;
-mod ending;
-mod laws;
-mod line;
-mod meter;
-mod notes;
-mod refusals;
-mod replicas;
-mod replicated;
-mod shell;
 #[cfg(test)]
 mod tests;
-mod texts;
-mod together;
 
-use shell::{NAME, run_words};
 use std::io;
 use std::process::ExitCode;
+pub use tca_commands::{
+    Line, NotesLine, equal_summaries_make_one_statement, read_line, run, run_audit, run_bill,
+    run_bill_plain, run_combine, run_meter, word_of, written_out,
+};
+use tca_commands::{NAME, run_words};
 pub use tca_program::{Asked, Family, RunFault, asked_by, split_word, unite};
 use tca_program::{Ending, end, words_of};
 use tca_report::Host;

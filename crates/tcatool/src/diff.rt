@@ -147,6 +147,15 @@ fn told_apart(
     Ok((rows, counts))
 }
 
+// The same of two sets alone.
+fn told_of(alloc: Global, a: &Log, b: &Log) -> Result<(Vec<LoneReport>, Differences), AllocError>
+    ensures rows { IfOk result (λ x. x.0.items ≡ lone a.now b.now) }
+    ensures counts { IfOk result (λ x. x.1 ≡ differences_of a.now b.now) }
+{
+    let all = united(alloc, a, b)?;
+    told_apart(alloc, &all, a, b)
+}
+
 // The reports that just one input has, and how many there are of each kind.
 fn difference_of(
     alloc: Global,
@@ -157,8 +166,7 @@ fn difference_of(
     ensures refused { IfErr result (IsComparingRefused (input_view a.now) (input_view b.now)) }
 {
     let (first, second) = sides(alloc, a, b)?;
-    let all = united(alloc, &first, &second)?;
-    let told = told_apart(alloc, &all, &first, &second)?;
+    let told = told_of(alloc, &first, &second)?;
     Ok(told)
 }
 

@@ -68,6 +68,8 @@ fn open_file<R: Files + AllocGlobal>(
     how: &OpenOptions,
 ) -> io::Result<()> {
     let path = path_of(rt.alloc(), folder, domain)?;
+    // Room comes first, so that no file is made that couldn't be kept open.
+    open.reserve(1)?;
     for _ in 0..=open.len() {
         match how.open(rt, path.as_str()) {
             Ok(file) => {

@@ -1258,6 +1258,24 @@ fn a_list_that_may_be_shared_is_added_once(rt: HostRuntime) {
     assert!(rt; log.len() == 6 && log.disputed() == 1);
 }
 
+// What a log answers that is given one report as often as this, as a list that may be shared.
+fn adds_repeats(alloc: Global, log: &mut Log, count: u32) -> Option<Result<u32, LogFault>> {
+    let report = within_ranges(9, 9, 40)?;
+    let mut repeats = Vec::with_capacity(alloc, count as usize).ok()?;
+    for _ in 0..count {
+        repeats.push(report).ok()?;
+    }
+    let list = Items::of(alloc, repeats).ok()?;
+    Some(log.add_list(list))
+}
+
+#[test]
+fn a_list_of_more_repeats_than_a_log_holds_is_added_long(rt: HostRuntime) {
+    let mut log = Log::new(rt.alloc());
+    assert!(rt; adds_repeats(rt.alloc(), &mut log, LIMIT + 1) == Some(Ok(1)));
+    assert!(rt; log.len() == 1);
+}
+
 #[test]
 fn rows_are_put_and_withdrawn_without_memory(rt: HostRuntime) -> Result<(), Fail> {
     let heap = LocalHeap::new(rt.alloc(), 1 << 13)?;

@@ -37,11 +37,12 @@ held places k = option_flatten (lookup (same_key k) places)
 abbrev pub is_entered : Places → Key → Bool
 is_entered places k = is_some (lookup (same_key k) places)
 
--- The place of each key is that of its slot, no two slots have one key, and so many are filled.
+-- The place of each key is that of its slot, no two slots have one key, and so many are filled. There are no more keys than slots.
 pub record IsSlotted {X : Type 0} (slots : List (Option (Key × X))) (places : Places) (count : ℕ) : Type 0 where
   pub found : (k : Key) → held places k ≡ place_of k slots
   pub apart : IsApart slots
   pub counted : count ≡ length (filled slots)
+  pub few : length places ≤ length slots
 
 -- A step back: the slot of this place stood so.
 abbrev pub Step : Type 0 → Type 0

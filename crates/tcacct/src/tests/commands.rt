@@ -1,9 +1,7 @@
-use crate::bill::run_bill_plain;
-use crate::combine::run_combine;
-use crate::meter::run_meter;
 use std::alloc::{AllocError, Global};
 use std::io;
 use std::test::*;
+use tca_commands::{run_bill_plain, run_combine, run_meter};
 use tca_program::{Family, RunFault};
 use tca_report::{Host, Input, Notes};
 

@@ -1,7 +1,7 @@
-use crate::notes::NotesLine;
 use std::alloc::{AllocError, Global};
 use std::fmt::Display;
 use std::test::*;
+use tca_commands::NotesLine;
 use tca_ingest::{CloseFault, JobFault, ShareFault, WorkFault};
 use tca_program::{Ending, Family, LineFault, RunFault};
 use tca_report::{InputFault, Notes};

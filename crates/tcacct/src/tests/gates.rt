@@ -1,6 +1,5 @@
 //! Bills whose workers are held or watched by gates: two jobs are begun before either is done, each replica has workers of its own, and the
 //! inputs go round the replicas. Each wait has a limit, so that the tests end where it is not so.
-use crate::replicated::run_bill;
 use crate::tests::commands::{FIRST, OPENING, PLAN, Row, SECOND, THIRD, THREE_REPORTS};
 use crate::tests::meeting::Meeting;
 use crate::tests::replicated::export_of_each;
@@ -10,6 +9,7 @@ use std::sync::Wait;
 use std::sync::atomic::{AtomicU64, Ordering};
 use std::test::*;
 use std::thread::Threads;
+use tca_commands::run_bill;
 use tca_ingest::Gate;
 use tca_report::Host;
 

@@ -1,6 +1,6 @@
-use crate::line::{Line, read_line};
 use std::alloc::Global;
 use std::test::*;
+use tca_commands::{Line, read_line};
 use tca_program::LineFault;
 
 #[test]

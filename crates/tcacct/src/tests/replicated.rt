@@ -1,6 +1,4 @@
 //! The bill by replicas and workers: the same as by one thread, for every number of both.
-use crate::bill::run_bill_plain;
-use crate::replicated::run_bill;
 use crate::tests::commands::{
     EXPORT_OF_THREE, FIRST, Full, OPENING, PLAN, Row, SECOND, TEMPLATE_AND_RECORD, THIRD,
     THREE_REPORTS, export, plain,
@@ -10,6 +8,7 @@ use std::io;
 use std::sync::Wait;
 use std::test::*;
 use std::thread::Threads;
+use tca_commands::{run_bill, run_bill_plain};
 use tca_ingest::NoGate;
 use tca_program::{Family, RunFault};
 use tca_report::{Host, Input};

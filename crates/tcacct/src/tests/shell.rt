@@ -1,4 +1,3 @@
-use crate::shell::{NAME, run};
 use crate::tests::commands::{
     EXAMPLE_CAPTURE, EXPORT_OF_THREE, FIRST, Full, OLD_EXPORT_OF_THREE, OPENING, PLAN, SECOND,
     SPEC, TEMPLATE_AND_RECORD, THIRD, THREE_LINES, THREE_REPORTS, export, old_export,
@@ -11,6 +10,7 @@ use std::sync::Wait;
 use std::test::*;
 use std::thread::Threads;
 use std::{env, fs, io, process};
+use tca_commands::{NAME, run};
 use tca_program::{Ending, LineFault, end, words_of};
 use tca_report::Host;
 

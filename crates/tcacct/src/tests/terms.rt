@@ -1,5 +1,4 @@
 //! Plan terms: an account whose meter changes at a millisecond, billed with a late report, by each number of replicas, and audited.
-use crate::audit::run_audit;
 use crate::tests::commands::{EXPORT_OF_THREE, OPENING, PLAN, Row, THREE_REPORTS, export, plain};
 use crate::tests::replicated::{Written, billed_plainly, bills_as};
 use crate::tests::shell::{enter, gives, writes_three};
@@ -9,6 +8,7 @@ use std::sync::Wait;
 use std::test::*;
 use std::thread::Threads;
 use std::{fs, io};
+use tca_commands::run_audit;
 use tca_program::{Family, RunFault};
 use tca_report::{Host, Input};
 

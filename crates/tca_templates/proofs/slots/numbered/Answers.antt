@@ -31,7 +31,7 @@ loop-slot-preserved c =
           let count : c.loop-slot.count ≡ length (filter is_some front) = omega (arith, c.loop-slot.invariant.counted, ap length (filled_full front), full_count front) in
           rw (w.places-is, w.count-is, add-one, take_more ss i (Some one) there, full_push front one)
           (slotted_push one.0 one.1 (filter is_some front) ps w.enter_place.new.places.entries _ _ c.loop-slot.invariant (full_place one.0 front (none_before ss i one c.requires there))
-          (λ j. w.in_ok-enter_place.ensures.held j ∙ ap (λ n. if same_key one.0 j then Some n else held ps j) count) refl)
+          (λ j. w.in_ok-enter_place.ensures.held j ∙ ap (λ n. if same_key one.0 j then Some n else held ps j) count) w.in_ok-enter_place.ensures.few refl)
       | in_default w ↦
           let there : slice_get ss i ≡ Some None = read ∙ ap (λ s. Some s) w.in_default.is in
           rw (w.places-is, w.count-is, add-one, take_more ss i None there, full_gap front) c.loop-slot.invariant

@@ -13,3 +13,9 @@ returns-in_default-clause-held c = absurd (entered_there c.args.key c.args.place
 
 pub returns-in_default-clause-entered : goal.returns-in_default-clause-entered
 returns-in_default-clause-entered c = absurd (entered_there c.args.key c.args.places.now.entries c.requires c.in_default.ensures.value)
+
+pub returns-in-Some-clause-as_many : goal.returns-in-Some-clause-as_many
+returns-in-Some-clause-as_many c = (c.get_mut.follows.holds _).2
+
+pub returns-in_default-clause-as_many : goal.returns-in_default-clause-as_many
+returns-in_default-clause-as_many c = absurd (entered_there c.args.key c.args.places.now.entries c.requires c.in_default.ensures.value)

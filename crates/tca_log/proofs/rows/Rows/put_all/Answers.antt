@@ -8,7 +8,7 @@ returns-then-len-eq0-clause-ok g c = putting_nothing g.K.Ord.cmp g.met.K.Ord.tot
 pub loop-key-init : goal.loop-key-init
 loop-key-init g c =
     let all : c.into_iter-key-iterator.result ≡ c.args.other.now.rows = cc in
-    rw all (putting_none g.K.Ord.cmp g.met.K.Ord.total c.args.other.now.rows c.args.self.now.rows c.len.ensures.rises c.requires.apart c.requires.few)
+    rw (all, c.reserve.ensures.rows) (putting_none g.K.Ord.cmp g.met.K.Ord.total c.args.other.now.rows c.args.self.now.rows c.len.ensures.rises c.requires.apart c.requires.few)
 
 pub loop-key-preserved : goal.loop-key-preserved
 loop-key-preserved g c =

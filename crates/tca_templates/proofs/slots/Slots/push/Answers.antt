@@ -1,5 +1,5 @@
 use Rattle.std.proofs.lemmas.Grind.{common_steps}
-use Rattle.std.proofs.Common.{◌≡◌, ◌+◌, List, ◌∷◌, ◌++◌, [], length, refl, ap, arith, ◌∙◌}
+use Rattle.std.proofs.Common.{◌≡◌, List, ◌∷◌, ◌++◌, [], length, refl, ap, arith, ◌∙◌}
 use Rattle.std.specs.Prelude.{Option, Some, None, if◌then◌else◌}
 use Rattle.std.specs.Map.{lookup}
 use Rattle.tca_templates.specs.declared.template.Template.{Template}
@@ -24,7 +24,7 @@ invariant_of-self-2 c =
     let all = c.in_ok-push.ensures.items ∙ ap (λ (ts : List (Option (Key × Template))). ts ++ Some (key, c.args.template) ∷ []) c.reserve.ensures.items in (
       kept_as _ _ _ _ _ _ all c.note.ensures
           (kept_push key c.args.template ss ps c.enter_place.new.places.entries _ _ _ _ room place last
-          (λ j. c.in_ok-enter_place.ensures.held j ∙ ap (λ n. if same_key key j then Some n else held ps j) last) c.in_ok-enter_place.ensures.entered refl),
+          (λ j. c.in_ok-enter_place.ensures.held j ∙ ap (λ n. if same_key key j then Some n else held ps j) last) c.in_ok-enter_place.ensures.entered c.in_ok-enter_place.ensures.few refl),
       covered_push ss _ _ _ _ _ c.len-place.result (Some (key, c.args.template)) all c.note.ensures c.make_room.ensures.steps
           (covered_ahead ss _ _ _ c.list.ensures.ahead c.list.ensures.among c.self.invariant.1) c.in_ok-list.ensures.ok,
     )

@@ -105,7 +105,7 @@ loop-place-preserved-after-slot c =
           let place : place_of one.0 ss ≡ Some p = leads_back ss p one c.loop-place.invariant.kept.slotted.apart (here ∙ ap (λ z. Some z) w.in-Some-index.is) in
           let n = c.loop-place.self-inside.count in
           let less : (n - 1) + 1 ≡ n = omega (arith, c.loop-place.invariant.kept.slotted.counted, count_out one.0 ss p place) in
-          rw w.self-inside-is (refl, slotted_out one.0 ss ps w.set_place.new.places.entries n (n - 1) p c.loop-place.invariant.kept.slotted place w.set_place.ensures.held less, w.set_place.ensures.entered, c.loop-place.invariant.none)
+          rw w.self-inside-is (refl, slotted_out one.0 ss ps w.set_place.new.places.entries n (n - 1) p c.loop-place.invariant.kept.slotted place w.set_place.ensures.held w.set_place.ensures.as_many less, w.set_place.ensures.entered, c.loop-place.invariant.none)
       | in_default-index w ↦
           rw w.self-inside-is (refl, emptied ss ps _ p (here ∙ ap (λ z. Some z) w.in_default-index.is) c.loop-place.invariant.kept.slotted, λ j e. e, c.loop-place.invariant.none)
     ] in
@@ -117,7 +117,7 @@ loop-place-preserved-after-slot c =
           rw w.self-inside-is (
             out.0,
             subst (λ (z : Option (Key × Template)). IsSlotted (set ss p z) w.set_place-in-Some-slot.new.places.entries (c.match-index.self-inside.count + 1)) (sym w.in-Some-slot.is)
-                (slotted_in one.0 one.1 ss c.match-index.self-inside.places.entries w.set_place-in-Some-slot.new.places.entries _ _ p last.1 apart out.1 w.set_place-in-Some-slot.ensures.held refl),
+                (slotted_in one.0 one.1 ss c.match-index.self-inside.places.entries w.set_place-in-Some-slot.new.places.entries _ _ p last.1 apart out.1 w.set_place-in-Some-slot.ensures.held w.set_place-in-Some-slot.ensures.as_many refl),
             (λ j e. w.set_place-in-Some-slot.ensures.entered j (out.2 j e)),
             out.3,
           )
@@ -170,7 +170,7 @@ loop-place-preserved c =
           let place : place_of one.0 ss ≡ Some p = leads_back ss p one c.loop-place.invariant.kept.slotted.apart (here ∙ ap (λ z. Some z) w.in-Some-index.is) in
           let n = c.loop-place.self-inside.count in
           let less : (n - 1) + 1 ≡ n = omega (arith, c.loop-place.invariant.kept.slotted.counted, count_out one.0 ss p place) in
-          rw w.self-inside-is (refl, slotted_out one.0 ss ps w.set_place.new.places.entries n (n - 1) p c.loop-place.invariant.kept.slotted place w.set_place.ensures.held less, w.set_place.ensures.entered, c.loop-place.invariant.none)
+          rw w.self-inside-is (refl, slotted_out one.0 ss ps w.set_place.new.places.entries n (n - 1) p c.loop-place.invariant.kept.slotted place w.set_place.ensures.held w.set_place.ensures.as_many less, w.set_place.ensures.entered, c.loop-place.invariant.none)
       | in_default-index w ↦
           rw w.self-inside-is (refl, emptied ss ps _ p (here ∙ ap (λ z. Some z) w.in_default-index.is) c.loop-place.invariant.kept.slotted, λ j e. e, c.loop-place.invariant.none)
     ] in
@@ -182,7 +182,7 @@ loop-place-preserved c =
           rw w.self-inside-is (
             out.0,
             subst (λ (z : Option (Key × Template)). IsSlotted (set ss p z) w.set_place-in-Some-slot.new.places.entries (c.match-index.self-inside.count + 1)) (sym w.in-Some-slot.is)
-                (slotted_in one.0 one.1 ss c.match-index.self-inside.places.entries w.set_place-in-Some-slot.new.places.entries _ _ p last.1 apart out.1 w.set_place-in-Some-slot.ensures.held refl),
+                (slotted_in one.0 one.1 ss c.match-index.self-inside.places.entries w.set_place-in-Some-slot.new.places.entries _ _ p last.1 apart out.1 w.set_place-in-Some-slot.ensures.held w.set_place-in-Some-slot.ensures.as_many refl),
             (λ j e. w.set_place-in-Some-slot.ensures.entered j (out.2 j e)),
             out.3,
           )

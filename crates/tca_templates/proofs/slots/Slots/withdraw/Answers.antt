@@ -36,7 +36,7 @@ invariant_of-self-in-Some c =
     let room = kept_as ss ss _ _ _ _ refl c.make_room.ensures.steps c.self.invariant.0 in
     let place : place_of key ss ≡ Some c.in-Some.place = sym (c.in-Some.ensures ∙ room.slotted.found key) in (
       kept_as _ _ _ _ _ _ c.put.ensures.slots c.put.ensures.steps
-          (kept_out key ss _ _ _ _ _ c.in-Some.place room place c.set_place.ensures.held c.set_place.ensures.entered (omega (arith, c.self.invariant.0.slotted.counted, count_out key ss c.in-Some.place place))),
+          (kept_out key ss _ _ _ _ _ c.in-Some.place room place c.set_place.ensures.held c.set_place.ensures.entered c.set_place.ensures.as_many (omega (arith, c.self.invariant.0.slotted.counted, count_out key ss c.in-Some.place place))),
       covered_put ss _ _ _ _ _ c.in-Some.place None c.put.ensures.slots c.put.ensures.steps c.make_room.ensures.steps (stands key ss c.in-Some.place place).within c.self.invariant.1 tt,
     )
 

@@ -1,4 +1,4 @@
-use Rattle.std.proofs.Common.{◌≡◌, ◌<◌, ◌+◌, inl, inr, ℕ, List, true, false, subst, length, refl, ap, sym, arith, ◌∙◌, add-one}
+use Rattle.std.proofs.Common.{◌≡◌, ◌<◌, inl, inr, ℕ, List, true, false, subst, length, refl, ap, sym, arith, ◌∙◌, add-one}
 use Rattle.std.specs.Prelude.{Option, Some, None, slice_get}
 use mathlib.Core.Bool.{beq}
 use Rattle.std.proofs.lemmas.Option.{slice_get_read, slice_get_within}
@@ -101,7 +101,7 @@ loop-i-preserved c =
           let out : test one ≡ false = goes c.args.domain c.args.domain (beq some.0.options c.args.options) refl (is_beq some.0.options c.args.options some.2) in
           rw (w.self-inside-is, add-one) (record {
             slotted = kept_as _ _ _ _ _ _ w.put.ensures.slots w.put.ensures.steps
-                (kept_out key xs _ _ _ _ _ p room place w.set_place.ensures.held w.set_place.ensures.entered
+                (kept_out key xs _ _ _ _ _ p room place w.set_place.ensures.held w.set_place.ensures.entered w.set_place.ensures.as_many
                 (omega (arith, c.loop-i.invariant.slotted.slotted.counted, count_out key xs p place)));
             covered = covered_put xs _ _ _ _ _ p None w.put.ensures.slots w.put.ensures.steps w.make_room.ensures.steps lt c.loop-i.invariant.covered tt;
             before = before_put _ _ _ xs _ p None w.put.ensures.steps w.put.ensures.slots w.make_room.ensures.steps ∙ c.loop-i.invariant.before;

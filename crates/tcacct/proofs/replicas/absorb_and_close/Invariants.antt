@@ -1,8 +1,0 @@
-use Rattle.std.proofs.Common.{[], take}
-use Rattle.tca_ingest.specs.Closed.{replicas_of}
-use Rattle.tcacct.specs.inside.Absorbs.{AbsorbsEach}
-use Rattle.tcacct.proofs.replicas.absorb_and_close.Given as goal
-
--- the pass had its replica absorb what it lacked of those so far
-abbrev pub invariant-loop-other : goal.invariant-loop-other
-invariant-loop-other g l = AbsorbsEach (replicas_of (take l.other-index l.others)) (record { number = l.mine.number; calls = [] }) l.mine
