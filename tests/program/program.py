@@ -13,7 +13,7 @@ TOOL = Path(os.environ.get("TCATOOL", ROOT / "crates/tcatool/out/tcatool"))
 # Executables with the tests of the crates, of which some are run with growths refused.
 TESTS = {
     name: Path(os.environ.get(f"{name.upper()}_TESTS", ROOT / f"crates/{name}/out/{name}_tests"))
-    for name in ("tca_core_tests", "tca_ingest_tests", "tca_audit", "tcacct")
+    for name in ("tca_core_tests", "tca_ingest_tests", "tcacct")
 }
 SECONDS = 120
 

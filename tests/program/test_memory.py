@@ -30,8 +30,7 @@ HOLDS = {
         "tests::jobs_memory::workers_that_were_refused_close_at_once",
         "tests::jobs_memory::a_worker_that_was_refused_its_thread_does_nothing",
     ),
-    "tca_audit": ("tests::statements::issues_what_has_changed",),
-    "tcacct": ("tests::replicated::writes_nothing_where_it_is_refused",),
+    "tcacct": ("tests::replicated::writes_nothing_where_it_is_refused", "tests::statements::issues_what_has_changed"),
 }
 
 

@@ -33,6 +33,3 @@ mod verdict;
 pub use check::{audit, audit_under};
 pub use fault::AuditFault;
 pub use verdict::Verdict;
-
-#[cfg(test)]
-mod tests;

@@ -1,3 +1,4 @@
+mod audits;
 mod commands;
 mod faults;
 mod gates;
@@ -6,5 +7,6 @@ mod meeting;
 mod replicated;
 mod sessions;
 mod shell;
+mod statements;
 mod terms;
 mod words;

@@ -1,10 +1,7 @@
-//! Audits from outside, by reports whose colours were found by hand, and by statements of the bill; and, in a module of its own, statements,
-//! whose crate has no tests.
-mod statements;
-
-use crate::{AuditFault, Verdict, audit, audit_under};
+//! Audits from outside, by reports whose colours were found by hand, and by statements of the bill.
 use std::alloc::{AllocError, Global};
 use tca_accounts::{Bill, Key, Plan, PlanFault, bill_all};
+use tca_audit::{AuditFault, Verdict, audit, audit_under};
 use tca_log::Log;
 use tca_report::{Content, ExportFault, Host, Identity, Report};
 use tca_statements::{Statement, render};

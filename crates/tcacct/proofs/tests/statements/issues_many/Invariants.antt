@@ -1,5 +1,5 @@
 use Rattle.std.proofs.Common.{◌≡◌, length}
-use Rattle.tca_audit.proofs.tests.statements.issues_many.Given as goal
+use Rattle.tcacct.proofs.tests.statements.issues_many.Given as goal
 
 abbrev pub invariant-loop-n : goal.invariant-loop-n
 invariant-loop-n l = length l.bill.accounts ≡ l.issuer.accounts

@@ -1,0 +1,137 @@
+"""Wrong bodies as `must-fail/` has them, and which of them one check can judge together."""
+
+import re
+from dataclasses import dataclass, field
+
+FUNCTION = re.compile(r"( *)(?:pub(?:\([^)]*\))? )?(?:const )?(?:unsafe )?fn (\w+)")
+CONSTANT = re.compile(r"const (\w+):")
+BLOCK = re.compile(r"(?:pub )?(?:unsafe )?(?:trait|impl(?:<.*?>)?) (?:(?P<trait>[\w:]+)(?:<.*>)? for )?(?:&(?:'\w+ )?)?(?:mut )?(?P<type>[\w:]+)")
+
+
+class BadEdit(Exception):
+    """An edit that can't be made, or that says nothing of what is proved."""
+
+
+@dataclass(frozen=True)
+class Function:
+    """A function: where it stands, and the end of the path that the prover prints. A method's path begins with its type's module, wherever it stands."""
+
+    file: str
+    first: int
+    last: int
+    path: str
+
+
+@dataclass
+class Edit:
+    """One file of `must-fail/`: texts that are put in the place of others."""
+
+    name: str
+    pairs: list = field(default_factory=list)
+
+    @classmethod
+    def read(cls, path):
+        edit, file, old = cls(path.stem), None, None
+        for line in path.read_text(encoding="utf-8").split("\n"):
+            if line.startswith("file: "):
+                file = line.removeprefix("file: ").strip()
+            elif line.startswith("old: "):
+                old = line.removeprefix("old: ")
+            elif line.startswith("new:"):
+                if not file or not old:
+                    raise BadEdit("a 'new:' line stands before any 'file:' or 'old:' line")
+                edit.pairs.append((file, old, line.removeprefix("new:").removeprefix(" ")))
+                old = None
+        if not edit.pairs:
+            raise BadEdit("it has no 'old:' and 'new:' pair")
+        return edit
+
+    def made(self, texts):
+        """The texts with this edit made in them."""
+        after = dict(texts)
+        for file, old, new in self.pairs:
+            found = after.get(file, "").count(old)
+            if found != 1:
+                raise BadEdit(f"an 'old:' text stands in {file} {found} times, and not once")
+            after[file] = after[file].replace(old, new)
+        return after
+
+    def functions(self, texts):
+        """The functions that it changes, of a constant those of its file that name it. There are none where it changes a definition."""
+        found = set()
+        for file, old, _ in self.pairs:
+            text, constant = texts[file], CONSTANT.match(old)
+            places = [text.index(old)]
+            if constant:
+                places = [it.start() for it in re.finditer(rf"\b{constant[1]}\b", text)]
+            if file.startswith("src/"):
+                found |= {function_at(file, text, it) for it in places}
+        return found - {None}
+
+
+@dataclass
+class Batch:
+    """Edits that are made together, with the functions of each, and the texts with all of them made."""
+
+    edits: list
+    texts: dict
+
+    def takes(self, edit, functions):
+        """Adds an edit of other functions, where its texts are still there."""
+        held = [those for _, those in self.edits]
+        if not functions or not all(held) or any(functions & those for those in held):
+            return False
+        try:
+            self.texts = edit.made(self.texts)
+        except BadEdit:
+            return False
+        self.edits.append((edit, functions))
+        return True
+
+
+def batches_of(edits, texts):
+    """As few batches as it takes in the order of the edits. One that changes no function stands alone."""
+    batches = []
+    for edit in edits:
+        functions = edit.functions(texts)
+        if not any(batch.takes(edit, functions) for batch in batches):
+            batches.append(Batch([(edit, functions)], edit.made(texts)))
+    return batches
+
+
+def function_at(file, text, at):
+    """The function in whose text, contract or body, a place of a formatted file is."""
+    lines, number = text.split("\n"), text.count("\n", 0, at)
+    for first in range(number, -1, -1):
+        begins = FUNCTION.match(lines[first])
+        if begins:
+            indent, name = begins.groups()
+            last = last_line(lines, first, indent)
+            if number <= last:
+                before = [owner_of(lines[:first])] if indent else module_of(file)
+                return Function(file, first + 1, last + 1, "::".join([*before, name]))
+    return None
+
+
+def last_line(lines, first, indent):
+    """The line with the closing brace of the function that begins on the first one; the first one where it has no body behind it."""
+    if lines[first].endswith(("}", ";")):
+        return first
+    for at in range(first + 1, len(lines)):
+        if lines[at] == indent + "}":
+            return at
+        if lines[at] and not lines[at].startswith(indent):
+            break
+    return first
+
+
+def module_of(file):
+    parts = file.removeprefix("src/").removesuffix(".rt").split("/")
+    return [it for it in parts if it not in ("lib", "main", "mod")]
+
+
+def owner_of(lines):
+    """The type of the block in which a method stands, and behind it the trait where the method is a trait's."""
+    block = next(it for it in map(BLOCK.match, reversed(lines)) if it)
+    last_name = lambda path: (path or "").split("::")[-1]
+    return last_name(block["type"]) + last_name(block["trait"])

@@ -1,0 +1,102 @@
+"""The prover's verdicts on functions whose bodies were changed."""
+
+import re
+import shutil
+import subprocess
+import sys
+import tempfile
+from pathlib import Path
+
+from edits import BadEdit
+
+PARTS = ("src", "specs", "proofs")
+# An error that a text names what isn't there any more. It shows that a name went, and not that a contract refuses the body.
+NAMES = re.compile(r"has no field|is not in scope|has no `|was not admitted|is no name|operand is missing|expected the end|cannot continue")
+ERROR = re.compile(r"(?:note: )?(?:\./)?(?P<file>[^\s:]+):(?P<line>\d+):\d+: (?P<said>.*)")
+# What `search` left open of a function, on the line that names it; what follows is about the functions that it calls.
+LEFT = re.compile(r"did not prove ([^;]*)")
+
+
+class Crates:
+    """The crates of a folder in which `rt ci` ran, and checks of them over the libraries that it left."""
+
+    def __init__(self, top):
+        sys.path.insert(0, str(Path(shutil.which("rt")).resolve().parent))
+        import rtlib
+
+        self.prover = rtlib.RATTLE
+        self.crates = {it.name: it for it in rtlib.crates_below(str(top))}
+
+    def __iter__(self):
+        return iter(self.crates)
+
+    def texts(self, name):
+        folder = Path(self.crates[name].folder)
+        files = (it for part in PARTS for it in (folder / part).rglob("*") if it.is_file())
+        return {str(it.relative_to(folder)): it.read_text(encoding="utf-8") for it in files}
+
+    def check(self, name, texts, functions, kept):
+        """What the prover says of these functions of a crate with these texts, or of the whole crate where none is named; kept holds what the
+        checks before it proved."""
+        words = [*self.crates[name].words(["--jobs", "1"], keeps=False), "--incremental", kept]
+        words += [word for it in functions for word in ("--only", it.path)]
+        with tempfile.TemporaryDirectory(prefix="edits-") as room:
+            for file, text in texts.items():
+                path = Path(room, file)
+                path.parent.mkdir(parents=True, exist_ok=True)
+                path.write_text(text, encoding="utf-8")
+            ran = subprocess.run(
+                [self.prover, "check", *words],
+                cwd=room,
+                stdin=subprocess.DEVNULL,
+                stdout=subprocess.PIPE,
+                stderr=subprocess.STDOUT,
+                encoding="utf-8",
+                errors="replace",
+            )
+        return Verdict(name, ran.returncode, ran.stdout)
+
+
+class Verdict:
+    """What one check said."""
+
+    def __init__(self, crate, status, said):
+        self.crate, self.status = crate, status
+        self.lines = said.rstrip("\n").split("\n")
+        told = re.compile(rf"fn {crate}::(\S+): (.*)")
+        self.functions = dict(it.groups() for it in map(told.fullmatch, self.lines) if it)
+        self.errors = [it for it in map(ERROR.fullmatch, self.lines) if it and (it["said"].startswith("error") or it[0].startswith("note: "))]
+
+    def has_ended(self, of_functions):
+        """Whether the prover came to its end and refused what it was asked for, some functions or the whole crate."""
+        return self.status in (1, 3) and self.lines[-1].startswith("only=") if of_functions else self.lines[-1].startswith("logic=not-proved")
+
+    def refusal(self, function):
+        """At what the prover refused a function by its own code, if it did."""
+        path, said = next((it for it in self.functions.items() if f"::{it[0]}".endswith(f"::{function.path}")), ("", ""))
+        if not said.startswith(("not proved", "no proof")):
+            return None
+        left = LEFT.search(said)
+        if left:
+            return left[1]
+        own = self.told_in_proofs(path) + [
+            it["said"] for it in self.errors if it["file"] == function.file and function.first <= int(it["line"]) <= function.last
+        ]
+        told = [it for it in own if not NAMES.search(it)]
+        if own and not told:
+            raise BadEdit(f"it falls only because a text names what it took away: {own[0][:160]}")
+        return told[0][:160] if told else None
+
+    def told_in_proofs(self, path):
+        """What it said of a function's files of proofs."""
+        folder = f"proofs/{path.replace('::', '/')}/"
+        return [it["said"] for it in self.errors if it["file"].startswith(folder)]
+
+    def others(self, functions):
+        """Functions that were refused by their own code though it is as it was. One that calls a refused function isn't proved either."""
+        for path, said in self.functions.items():
+            is_known = any(f"::{path}".endswith(f"::{it.path}") for it in functions)
+            is_refused = said.startswith(("not proved", "no proof", "could not tell"))
+            is_by_itself = "; it calls" not in said and ": it calls" not in said
+            if not is_known and is_refused and (is_by_itself or LEFT.search(said) or any(not NAMES.search(it) for it in self.told_in_proofs(path))):
+                yield path

@@ -1,0 +1,114 @@
+"""How the wrong bodies are tried: which go into one check, and what the prover's words about them come to."""
+import sys
+import unittest
+
+from program import ROOT
+
+sys.path.append(str(ROOT / "tests/edits"))
+from edits import BadEdit, Edit, batches_of
+from prover import Verdict
+
+TEXTS = {
+    "specs/Sums.antt": "total = 1\n",
+    "src/sums.rt": """\
+const MOST: u32 = 3;
+
+// The sum of two.
+fn sum(a: u32, b: u32) -> u32
+    ensures { result ≡ a + b }
+{
+    a + b
+}
+
+impl<A: Copy> Iterator for Sums<A> {
+    fn next(&mut self) -> Option<u32> {
+        self.left.checked_sub(MOST)
+    }
+}
+
+impl<A: Copy> Sums<A> {
+    pub fn len(&self) -> u32 { self.left }
+
+    pub fn new(
+        left: u32,
+    ) -> Sums<A> {
+        Sums { left }
+    }
+}
+""",
+}
+END = "only=2 proved=0"
+
+
+def edit(name, old, new, file="src/sums.rt"):
+    return Edit(name, [(file, old, new)])
+
+
+def found(edits):
+    return [[(it.name, {f.path for f in those}) for it, those in batch.edits] for batch in batches_of(edits, TEXTS)]
+
+
+class Batches(unittest.TestCase):
+    def test_functions_apart_go_together(self):
+        edits = [edit("a", "a + b\n", "a - b\n"), edit("b", "checked_sub(MOST)", "checked_add(MOST)"), edit("c", "{ self.left }", "{ 0 }"), edit("d", "Sums { left }", "Sums { left: 0 }")]
+        self.assertEqual(found(edits), [[("a", {"sums::sum"}), ("b", {"SumsIterator::next"}), ("c", {"Sums::len"}), ("d", {"Sums::new"})]])
+        text = batches_of(edits, TEXTS)[0].texts["src/sums.rt"]
+        for one in ("a - b\n", "checked_add(MOST)", "{ 0 }", "Sums { left: 0 }"):
+            self.assertIn(one, text)
+
+    def test_one_function_is_changed_once(self):
+        edits = [edit("a", "self.left.checked_sub", "0.checked_sub"), edit("b", "checked_sub(MOST)", "checked_add(MOST)")]
+        self.assertEqual(found(edits), [[("a", {"SumsIterator::next"})], [("b", {"SumsIterator::next"})]])
+
+    def test_a_constant_stands_for_who_names_it(self):
+        self.assertEqual(found([edit("a", "const MOST: u32 = 3;", "const MOST: u32 = 4;")]), [[("a", {"SumsIterator::next"})]])
+
+    def test_a_definition_stands_alone(self):
+        edits = [edit("a", "total = 1", "total = 2", "specs/Sums.antt"), edit("b", "{ self.left }", "{ 0 }"), edit("c", "total = 1", "total = 3", "specs/Sums.antt")]
+        self.assertEqual(found(edits), [[("a", set())], [("b", {"Sums::len"})], [("c", set())]])
+
+    def test_a_text_that_is_not_there_once(self):
+        for old in ("not there", "u32"):
+            with self.assertRaises(BadEdit):
+                edit("a", old, "other").made(TEXTS)
+
+
+class Verdicts(unittest.TestCase):
+    def of(self, *lines):
+        edits = [edit("a", "a + b\n", "a - b\n"), edit("b", "{ self.left }", "{ 0 }")]
+        [batch] = batches_of(edits, TEXTS)
+        self.sum, self.length = (next(iter(those)) for _, those in batch.edits)
+        return Verdict("sums", 1, "\n".join([*lines, END]))
+
+    def test_a_goal_that_search_left(self):
+        said = self.of("fn sums::sums::sum: no proof: expected answers in ./proofs/sums/sum/Answers.antt; `search` did not prove `returns`; it calls `sums::f`, which is not proved")
+        self.assertEqual(said.refusal(self.sum), "`returns`")
+        self.assertEqual(list(said.others([self.sum])), [])
+        self.assertEqual(list(said.others([self.length])), ["sums::sum"])
+
+    def test_an_answer_that_no_longer_holds(self):
+        said = self.of("./proofs/sums/sum/Answers.antt:3:4: error: `returns`: the two types differ", "fn sums::sums::sum: not proved", "fn sums::sums::Sums::len: proved")
+        self.assertEqual(said.refusal(self.sum), "error: `returns`: the two types differ")
+        self.assertIsNone(said.refusal(self.length))
+
+    def test_a_contract_that_is_not_met(self):
+        said = self.of("src/sums.rt:7:5: error: `returns` does not hold", "fn sums::sums::sum: not proved")
+        self.assertEqual(said.refusal(self.sum), "error: `returns` does not hold")
+
+    def test_who_calls_a_refused_function(self):
+        said = self.of("fn sums::sums::sum: no proof: it calls `sums::f`, which is not proved", "fn sums::sums::Sums::len: could not tell")
+        self.assertIsNone(said.refusal(self.sum))
+        self.assertIsNone(said.refusal(self.length))
+        self.assertEqual(list(said.others([])), ["sums::Sums::len"])
+
+    def test_a_name_that_went(self):
+        said = self.of("./proofs/sums/sum/Answers.antt:3:4: error: `c.left` is not in scope", "fn sums::sums::sum: not proved")
+        with self.assertRaises(BadEdit):
+            said.refusal(self.sum)
+
+    def test_a_check_that_came_to_no_end(self):
+        said = self.of()
+        self.assertTrue(said.has_ended([self.sum]))
+        self.assertFalse(Verdict("sums", 1, "rattle: error: no function").has_ended([1]))
+        self.assertFalse(Verdict("sums", 0, "logic=proved").has_ended([]))
+        self.assertTrue(Verdict("sums", 1, "logic=not-proved").has_ended([]))
