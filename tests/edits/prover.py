@@ -18,7 +18,7 @@ LEFT = re.compile(r"did not prove ([^;]*)")
 
 
 class Crates:
-    """The crates of a folder in which `rt ci` ran, and checks of them over the libraries that it left."""
+    """The crates of a folder, and checks of them over the libraries that were built there."""
 
     def __init__(self, top):
         sys.path.insert(0, str(Path(shutil.which("rt")).resolve().parent))
@@ -29,6 +29,9 @@ class Crates:
 
     def __iter__(self):
         return iter(self.crates)
+
+    def below(self, name):
+        return [it.name for it in self.crates[name].below()]
 
     def texts(self, name):
         folder = Path(self.crates[name].folder)
@@ -65,7 +68,7 @@ class Verdict:
         self.lines = said.rstrip("\n").split("\n")
         told = re.compile(rf"fn {crate}::(\S+): (.*)")
         self.functions = dict(it.groups() for it in map(told.fullmatch, self.lines) if it)
-        self.errors = [it for it in map(ERROR.fullmatch, self.lines) if it and (it["said"].startswith("error") or it[0].startswith("note: "))]
+        self.errors = [it for it in map(ERROR.fullmatch, self.lines) if it and it["said"].startswith(("error", "it is not proved"))]
 
     def has_ended(self, of_functions):
         """Whether the prover came to its end and refused what it was asked for, some functions or the whole crate."""

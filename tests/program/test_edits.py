@@ -101,8 +101,16 @@ class Verdicts(unittest.TestCase):
         self.assertIsNone(said.refusal(self.length))
         self.assertEqual(list(said.others([])), ["sums::Sums::len"])
 
+    def test_a_place_in_the_code(self):
+        said = self.of("note: src/sums.rt:7:5: it is not proved that this is so (`returns`)", "fn sums::sums::sum: not proved")
+        self.assertEqual(said.refusal(self.sum), "it is not proved that this is so (`returns`)")
+
     def test_a_name_that_went(self):
-        said = self.of("./proofs/sums/sum/Answers.antt:3:4: error: `c.left` is not in scope", "fn sums::sums::sum: not proved")
+        said = self.of(
+            "note: ./proofs/sums/sum/Answers.antt:3:4: large solution",
+            "./proofs/sums/sum/Answers.antt:3:4: error: `c.left` is not in scope",
+            "fn sums::sums::sum: not proved",
+        )
         with self.assertRaises(BadEdit):
             said.refusal(self.sum)
 
