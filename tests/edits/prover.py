@@ -1,10 +1,12 @@
 """The prover's verdicts on functions whose bodies were changed."""
 
+import os
 import re
 import shutil
 import subprocess
 import sys
 import tempfile
+import threading
 from pathlib import Path
 
 from edits import BadEdit
@@ -24,14 +26,24 @@ class Crates:
         sys.path.insert(0, str(Path(shutil.which("rt")).resolve().parent))
         import rtlib
 
-        self.prover = rtlib.RATTLE
+        # (what these words begin ends with this program; the first call has to be the main thread's)
+        self.prover = [*rtlib.guarded(), rtlib.RATTLE]
         self.crates = {it.name: it for it in rtlib.crates_below(str(top))}
+        self.building, self.unbuilt = threading.Lock(), set()
 
     def __iter__(self):
         return iter(self.crates)
 
     def below(self, name):
         return [it.name for it in self.crates[name].below()]
+
+    def build_below(self, name):
+        """Builds the libraries below a crate that aren't there, as a kit leaves them out that kept them from an earlier run."""
+        with self.building:
+            for it in self.crates[name].below():
+                if not os.path.isdir(it.rlib) and (it.name in self.unbuilt or it.build_rlib(["--jobs", "1"], anew=False)):
+                    self.unbuilt.add(it.name)
+                    raise BadEdit(f"its library {it.name} isn't built")
 
     def texts(self, name):
         folder = Path(self.crates[name].folder)
@@ -49,7 +61,7 @@ class Crates:
                 path.parent.mkdir(parents=True, exist_ok=True)
                 path.write_text(text, encoding="utf-8")
             ran = subprocess.run(
-                [self.prover, "check", *words],
+                [*self.prover, "check", *words],
                 cwd=room,
                 stdin=subprocess.DEVNULL,
                 stdout=subprocess.PIPE,

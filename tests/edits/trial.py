@@ -45,6 +45,10 @@ def try_all(crates, edits, lanes, is_ready):
 def try_crate(crates, name, paths):
     """Tries these edits of a crate: of each its name, whether it was refused, and where or why not."""
     texts, edits, results = crates.texts(name), [], []
+    try:
+        crates.build_below(name)
+    except BadEdit as why:
+        return [(path.stem, False, f"not tried: {why}") for path in paths]
     for path in paths:
         try:
             edit = Edit.read(path)
