@@ -5,7 +5,7 @@ from dataclasses import dataclass, field
 
 FUNCTION = re.compile(r"( *)(?:pub(?:\([^)]*\))? )?(?:const )?(?:unsafe )?fn (\w+)")
 CONSTANT = re.compile(r"const (\w+):")
-BLOCK = re.compile(r"(?:pub )?(?:unsafe )?(?:trait|impl(?:<.*?>)?) (?:(?P<trait>[\w:]+)(?:<.*>)? for )?(?:&(?:'\w+ )?)?(?:mut )?(?P<type>[\w:]+)")
+BLOCK = re.compile(r"(?:pub )?(?:unsafe )?(?:trait|impl(?:<.*?>)?) (?:(?P<trait>[\w:]+)(?:<(?P<of>\w+).*>)? for )?(?:&(?:'\w+ )?)?(?:mut )?(?P<type>[\w:]+)")
 
 
 class BadEdit(Exception):
@@ -131,7 +131,7 @@ def module_of(file):
 
 
 def owner_of(lines):
-    """The type of the block in which a method stands, and behind it the trait where the method is a trait's."""
+    """The type of the block in which a method stands; behind it the trait where the method is a trait's, and of what it is."""
     block = next(it for it in map(BLOCK.match, reversed(lines)) if it)
     last_name = lambda path: (path or "").split("::")[-1]
-    return last_name(block["type"]) + last_name(block["trait"])
+    return last_name(block["type"]) + last_name(block["trait"]) + (block["of"] or "")

@@ -67,8 +67,9 @@ def judged(crates, name, batch, kept):
     functions = [it for _, those in batch.edits for it in those]
     verdict = crates.check(name, batch.texts, functions, kept)
     results = [(edit.name, *verdict_on(verdict, those)) for edit, those in batch.edits]
-    beside = batch.edits[0][0].name
-    return results + [(beside, False, f"{path} is refused beside it, whose code is as it was") for path in verdict.others(functions)]
+    # (all that rests on a changed definition may be refused)
+    others = verdict.others(functions) if functions else []
+    return results + [(batch.edits[0][0].name, False, f"{path} is refused beside it, whose code is as it was") for path in others]
 
 
 def verdict_on(verdict, functions):

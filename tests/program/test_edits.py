@@ -26,6 +26,12 @@ impl<A: Copy> Iterator for Sums<A> {
     }
 }
 
+impl<T: Drop> From<AllocFailed<T>> for Fault {
+    fn from(_: AllocFailed<T>) -> Fault {
+        Fault::Memory
+    }
+}
+
 impl<A: Copy> Sums<A> {
     pub fn len(&self) -> u32 { self.left }
 
@@ -55,6 +61,9 @@ class Batches(unittest.TestCase):
         text = batches_of(edits, TEXTS)[0].texts["src/sums.rt"]
         for one in ("a - b\n", "checked_add(MOST)", "{ 0 }", "Sums { left: 0 }"):
             self.assertIn(one, text)
+
+    def test_a_trait_of_a_type(self):
+        self.assertEqual(found([edit("a", "Fault::Memory", "Fault::Full")]), [[("a", {"FaultFromAllocFailed::from"})]])
 
     def test_one_function_is_changed_once(self):
         edits = [edit("a", "self.left.checked_sub", "0.checked_sub"), edit("b", "checked_sub(MOST)", "checked_add(MOST)")]
