@@ -5,7 +5,7 @@ from dataclasses import dataclass, field
 
 FUNCTION = re.compile(r"( *)(?:pub(?:\([^)]*\))? )?(?:const )?(?:unsafe )?fn (\w+)")
 CONSTANT = re.compile(r"const (\w+):")
-BLOCK = re.compile(r"(?:pub )?(?:unsafe )?(?:trait|impl(?:<.*?>)?) (?:(?P<trait>[\w:]+)(?:<(?P<of>\w+).*>)? for )?(?:&(?:'\w+ )?)?(?:mut )?(?P<type>[\w:]+)")
+BLOCK = re.compile(r"(?:pub )?(?:unsafe )?(?:trait|impl(?:<.*?>)?) (?:(?P<trait>[\w:]+)(?:<(?P<of>\w*).*>)? for )?(?:&(?:'\w+ )?)?(?:mut )?(?P<type>[\w:]+)")
 
 
 class BadEdit(Exception):
