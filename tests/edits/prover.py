@@ -3,6 +3,7 @@
 import os
 import re
 import shutil
+import signal
 import subprocess
 import sys
 import tempfile
@@ -60,16 +61,22 @@ class Crates:
                 path = Path(room, file)
                 path.parent.mkdir(parents=True, exist_ok=True)
                 path.write_text(text, encoding="utf-8")
-            ran = subprocess.run(
-                [*self.prover, "check", *words],
-                cwd=room,
-                stdin=subprocess.DEVNULL,
-                stdout=subprocess.PIPE,
-                stderr=subprocess.STDOUT,
-                encoding="utf-8",
-                errors="replace",
-            )
+            ran = self.run(words, room)
+            if ran.returncode == -signal.SIGKILL:
+                # (most likely for want of memory beside the other checks)
+                ran = self.run(words, room)
         return Verdict(name, ran.returncode, ran.stdout)
+
+    def run(self, words, room):
+        return subprocess.run(
+            [*self.prover, "check", *words],
+            cwd=room,
+            stdin=subprocess.DEVNULL,
+            stdout=subprocess.PIPE,
+            stderr=subprocess.STDOUT,
+            encoding="utf-8",
+            errors="replace",
+        )
 
 
 class Verdict:
