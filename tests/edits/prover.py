@@ -14,7 +14,8 @@ from edits import BadEdit
 
 PARTS = ("src", "specs", "proofs")
 # An error that a text names what isn't there any more. It shows that a name went, and not that a contract refuses the body.
-NAMES = re.compile(r"has no field|is not in scope|has no `|was not admitted|is no name|operand is missing|expected the end|cannot continue")
+UNREAD = re.compile(r"has no field|is not in scope|is no name|operand is missing|expected the end|cannot continue")
+NAMES = re.compile(UNREAD.pattern + "|has no `|was not admitted")
 ERROR = re.compile(r"(?:note: )?(?:\./)?(?P<file>[^\s:]+):(?P<line>\d+):\d+: (?P<said>.*)")
 # What `search` left open of a function, on the line that names it; what follows is about the functions that it calls.
 LEFT = re.compile(r"did not prove ([^;]*)")
@@ -65,7 +66,7 @@ class Crates:
             if ran.returncode == -signal.SIGKILL:
                 # (most likely for want of memory beside the other checks)
                 ran = self.run(words, room)
-        return Verdict(name, ran.returncode, ran.stdout)
+        return Verdict(name, ran.stdout)
 
     def run(self, words, room):
         return subprocess.run(
@@ -82,16 +83,28 @@ class Crates:
 class Verdict:
     """What one check said."""
 
-    def __init__(self, crate, status, said):
-        self.crate, self.status = crate, status
+    def __init__(self, crate, said):
         self.lines = said.rstrip("\n").split("\n")
         told = re.compile(rf"fn {crate}::(\S+): (.*)")
         self.functions = dict(it.groups() for it in map(told.fullmatch, self.lines) if it)
         self.errors = [it for it in map(ERROR.fullmatch, self.lines) if it and it["said"].startswith(("error", "it is not proved"))]
 
-    def has_ended(self, of_functions):
-        """Whether the prover came to its end and refused what it was asked for, some functions or the whole crate."""
-        return self.status in (1, 3) and self.lines[-1].startswith("only=") if of_functions else self.lines[-1].startswith("logic=not-proved")
+    def has_ended(self):
+        """Whether the prover came to its end, on some functions or on the whole crate."""
+        return self.lines[-1].startswith(("only=", "logic="))
+
+    def unread(self):
+        """A text of the crate that the prover couldn't read, so that nothing behind it was tried."""
+        return next((it[0] for it in self.errors if it["file"].startswith(("src/", "specs/")) and UNREAD.search(it["said"])), None)
+
+    def refusal_of_all(self):
+        """At what the prover refused the crate, if it did."""
+        if not self.lines[-1].startswith("logic=not-proved"):
+            return None
+        told = [it["said"] for it in self.errors if not NAMES.search(it["said"])]
+        if not told:
+            raise BadEdit("it falls only because a text names what it took away")
+        return told[0][:160]
 
     def refusal(self, function):
         """At what the prover refused a function by its own code, if it did."""

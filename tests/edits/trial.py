@@ -74,12 +74,12 @@ def judged(crates, name, batch, kept):
 
 def verdict_on(verdict, functions):
     """Whether the prover refused one of an edit's functions, or the crate where the edit changes none, and where or why not."""
-    if not verdict.has_ended(functions):
+    if not verdict.has_ended():
         return False, "\n".join(["BAD EDIT: the prover came to no end; the last lines of what it said:", *verdict.lines[-6:]])
-    if not functions:
-        return True, f"refused: {verdict.errors[0]['said'][:160] if verdict.errors else 'the crate is not proved'}"
+    if verdict.unread():
+        return False, f"BAD EDIT: the prover can't read the edited text: {verdict.unread()[:160]}"
     try:
-        refused = [(it.path, verdict.refusal(it)) for it in functions]
+        refused = [(it.path, verdict.refusal(it)) for it in functions] or [("the crate", verdict.refusal_of_all())]
     except BadEdit as why:
         return False, f"BAD EDIT: {why}"
     at = next((f"{path}: {said}" for path, said in refused if said), None)

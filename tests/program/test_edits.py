@@ -87,7 +87,7 @@ class Verdicts(unittest.TestCase):
         edits = [edit("a", "a + b\n", "a - b\n"), edit("b", "{ self.left }", "{ 0 }")]
         [batch] = batches_of(edits, TEXTS)
         self.sum, self.length = (next(iter(those)) for _, those in batch.edits)
-        return Verdict("sums", 1, "\n".join([*lines, END]))
+        return Verdict("sums", "\n".join([*lines, END]))
 
     def test_a_goal_that_search_left(self):
         said = self.of("fn sums::sums::sum: no proof: expected answers in ./proofs/sums/sum/Answers.antt; `search` did not prove `returns`; it calls `sums::f`, which is not proved")
@@ -124,8 +124,16 @@ class Verdicts(unittest.TestCase):
             said.refusal(self.sum)
 
     def test_a_check_that_came_to_no_end(self):
-        said = self.of()
-        self.assertTrue(said.has_ended([self.sum]))
-        self.assertFalse(Verdict("sums", 1, "rattle: error: no function").has_ended([1]))
-        self.assertFalse(Verdict("sums", 0, "logic=proved").has_ended([]))
-        self.assertTrue(Verdict("sums", 1, "logic=not-proved").has_ended([]))
+        self.assertTrue(self.of().has_ended())
+        self.assertFalse(Verdict("sums", "rattle: error: no function").has_ended())
+
+    def test_a_definition(self):
+        self.assertIsNone(Verdict("sums", "logic=proved functions=2").refusal_of_all())
+        said = "proofs/Sums.antt:3:4: error: `added`: the two types differ\nlogic=not-proved"
+        self.assertEqual(Verdict("sums", said).refusal_of_all(), "error: `added`: the two types differ")
+        with self.assertRaises(BadEdit):
+            Verdict("sums", "proofs/Sums.antt:3:4: error: `total` is not in scope\nlogic=not-proved").refusal_of_all()
+
+    def test_a_text_that_cannot_be_read(self):
+        self.assertIsNone(self.of("src/sums.rt:7:5: error: `returns` does not hold").unread())
+        self.assertIsNotNone(self.of("specs/Sums.antt:1:1: error: `totals` is not in scope").unread())
