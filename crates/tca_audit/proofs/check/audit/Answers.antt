@@ -18,3 +18,12 @@ returns-in-Err c =
       refused = λ p f named wrong. let e = c.in-Err.ensures.fault other named.utf8 in let is = named.named in absurd cc;
       agrees = λ p reports named spelled same. let e = c.in-Err.ensures.fault other named.utf8 in let is = named.named in absurd cc;
     }
+
+pub returns-in-Err-Memory-clause-err : goal.returns-in-Err-Memory-clause-err
+returns-in-Err-Memory-clause-err c = search rules
+
+pub returns-in-Err-Memory-clause-refused : goal.returns-in-Err-Memory-clause-refused
+returns-in-Err-Memory-clause-refused c = search rules
+
+pub returns-in-Err-Memory-clause-agrees : goal.returns-in-Err-Memory-clause-agrees
+returns-in-Err-Memory-clause-agrees c = search rules

@@ -58,3 +58,9 @@ returns-clause-agrees c = λ reports spelled same.
     let due : c.deref-2.result.now ≡ statement_under plan reports =
     c.deref-2.ensures.value ∙ c.in_ok-text.ensures ∙ ap (statement_text plan) (c.in_ok-bill.ensures ∙ ap (bill_of plan) read) in
     agrees_with c.deref-2.result.now c.args.statement.now c.compared.result c.compared.ensures (same ∙ sym due)
+
+pub returns-in-Err-Memory-clause-err : goal.returns-in-Err-Memory-clause-err
+returns-in-Err-Memory-clause-err c = search rules
+
+pub returns-in-Err-Memory-clause-agrees : goal.returns-in-Err-Memory-clause-agrees
+returns-in-Err-Memory-clause-agrees c = search rules

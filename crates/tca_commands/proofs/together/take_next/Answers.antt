@@ -1,4 +1,4 @@
-use Rattle.std.proofs.Common.{◌≡◌, ◌∙◌, ◌&&◌, ◌||◌, ◌+◌, ◌<◌, ℕ, suc, Bool, true, false, Some, List, length, slice_get, slice_set, refl, sym, ap, subst, arith}
+use Rattle.std.proofs.Common.{◌≡◌, ◌∙◌, ◌&&◌, ◌||◌, ◌+◌, ◌<◌, ℕ, suc, Bool, true, false, Some, List, length, slice_get, slice_set, refl, sym, ap, subst, arith, rules}
 use Rattle.std.proofs.lemmas.List.{length-set}
 use Rattle.std.proofs.lemmas.Option.{slice_get_read}
 use Rattle.std.specs.Ordering.{eq_by_cmp}
@@ -46,3 +46,6 @@ loop-n-preserved c = elim c.if-stands_at.branch [
       subst (λ v. AreTaken c.args.lists.now c.args.taken.now.items v.items c.if-stands_at.is_next c.args.report.now) (sym w.taken-is)
       (subst (λ (b : Bool). AreTaken c.args.lists.now c.args.taken.now.items c.loop-n.taken.items b c.args.report.now) (sym w.is_next-is) c.loop-n.invariant)
 ]
+
+pub loop-n-init : goal.loop-n-init
+loop-n-init c = search rules

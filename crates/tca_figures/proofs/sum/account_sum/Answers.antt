@@ -11,3 +11,6 @@ returns-in_err-span-clause-refused c =
     let wide : ¬ FitsAccount (added_account c.args.account.now c.args.other.now) = λ f. range.1
     (both_parts (λ s. AllFit64 s.sums) c.loop-sum.sum.spans (added_spans c.loop-sum.left.now c.loop-sum.right.now) (subst AllFit i.2 f.1)).1 in
     search (rules, wide, range.0)
+
+pub returns-in_default-clause-refused : goal.returns-in_default-clause-refused
+returns-in_default-clause-refused c = search rules

@@ -24,3 +24,6 @@ returns-in-None-clause-lacks c missed = record {
   its = ap entry_in c.in-Ok.is;
   lacks = subst (λ (es : List (Bor Entry)). AllByRecursion (λ e. e ≢ entry_view c.in-Ok.receipt.entry) (views_of es)) c.deref.ensures.value (c.in-None.ensures.none refl);
 }
+
+pub returns-in-None-clause-struck : goal.returns-in-None-clause-struck
+returns-in-None-clause-struck c = search rules

@@ -1,4 +1,4 @@
-use Rattle.std.proofs.Common.{◌∙◌, [], ◌∷◌, ◌++◌, ap}
+use Rattle.std.proofs.Common.{◌∙◌, [], ◌∷◌, ◌++◌, ap, rules}
 use Rattle.std.proofs.lemmas.List.{map-append}
 use Rattle.tca_ingest.specs.Entries.{EntryView}
 use Rattle.tca_ingest.specs.EntryViews.{entry_view, entry_views}
@@ -11,3 +11,6 @@ returns-clause-journal g c =
     ap entry_views c.push_reserved-2.ensures.items
     ∙ map-append entry_view old (first ∷ [])
     ∙ ap (λ (e : EntryView). entry_views old ++ e ∷ []) c.entry.view_is
+
+pub returns-clause-places : goal.returns-clause-places
+returns-clause-places g c = search rules

@@ -1,4 +1,4 @@
-use Rattle.std.proofs.Common.{◌≡◌, ◌+◌, ◌-◌, Bool, true, false, cond, List, [], ◌∷◌, ◌++◌, get_or, drop, ap, sym, subst, ◌∙◌, arith}
+use Rattle.std.proofs.Common.{◌≡◌, ◌+◌, ◌-◌, Bool, true, false, cond, List, [], ◌∷◌, ◌++◌, get_or, drop, ap, sym, subst, ◌∙◌, arith, rules}
 use Rattle.std.specs.Ordering.{eq_by_cmp}
 use Rattle.std.specs.List.Sorted.{IsSorted}
 use Rattle.tca_join.specs.Sets.{has}
@@ -37,3 +37,6 @@ pub returns-clause-sorted : goal.returns-clause-sorted
 returns-clause-sorted g c =
     let all : c.loop-at.again.items ≡ repeated_in identity_cmp c.args.identities.now = repeated_end c.args.identities.now c.loop-at.at c.loop-at.again.items (repeated_in identity_cmp c.args.identities.now) (omega arith) c.loop-at.invariant in
     subst (IsSorted identity_cmp) (sym all) (sorted_from_order identity_cmp identity_total (repeated_in identity_cmp c.args.identities.now) (order_repeated identity_cmp identity_total c.args.identities.now (order_from_sorted identity_cmp identity_total c.args.identities.now c.requires)))
+
+pub loop-at-init : goal.loop-at-init
+loop-at-init g c = search rules

@@ -1,3 +1,4 @@
+use Rattle.std.proofs.lemmas.Grind.{common_steps}
 use Rattle.std.proofs.Common.{◌≤◌, arith, length, take_all, ◌≡◌, ◌∙◌, Some, ap}
 use Rattle.tca_program.specs.Words.{texts}
 use Rattle.clap.specs.Words.{found_of}
@@ -12,3 +13,6 @@ returns c =
     let past : length c.in-Some.words.now ≤ c.loop-word.word-index = omega (arith, c.loop-word-test.false) in
     let all : texts c.loop-word.list.items ≡ texts c.in-Some.words.now = c.loop-word.invariant ∙ ap texts (take_all _ c.in-Some.words.now past) in
     ap Some all ∙ c.in-Some.ensures ∙ raw_values-rows (found_of c.args.matches.now) c.args.id.now
+
+pub loop-word-preserved : goal.loop-word-preserved
+loop-word-preserved c = grind (arith, common_steps)

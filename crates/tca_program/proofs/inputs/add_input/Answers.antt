@@ -1,5 +1,5 @@
 use Rattle.std.proofs.lemmas.Grind.{common_steps}
-use Rattle.std.proofs.Common.{◌≡◌, ◌∙◌, ◌++◌, ◌≤◌, Ok, Err, length, sym, ap, le-ltb, arith}
+use Rattle.std.proofs.Common.{◌≡◌, ◌∙◌, ◌++◌, ◌≤◌, Ok, Err, length, sym, ap, le-ltb, arith, rules}
 use Rattle.tca_join.specs.Sets.{in_order}
 use Rattle.tca_report.specs.report.Reports.{report_cmp}
 use Rattle.tca_report.specs.input.Inputs.{input_view, read_input}
@@ -57,3 +57,6 @@ returns-in-Err-add_all-clause-no_write c = grind (arith, common_steps)
 
 pub returns-in-Err-add_all-clause-memory_last : goal.returns-in-Err-add_all-clause-memory_last
 returns-in-Err-add_all-clause-memory_last c = grind (arith, common_steps)
+
+pub returns-in-Err-clause-kept : goal.returns-in-Err-clause-kept
+returns-in-Err-clause-kept c = search rules

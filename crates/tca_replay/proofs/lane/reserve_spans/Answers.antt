@@ -1,4 +1,4 @@
-use Rattle.std.proofs.Common.{arith}
+use Rattle.std.proofs.Common.{arith, rules}
 use Rattle.std.proofs.lemmas.Grind.{common_steps}
 use Rattle.tca_replay.proofs.lane.reserve_spans.Goals as goal
 
@@ -28,3 +28,6 @@ returns-clause-capacity g c = grind (arith, common_steps)
 
 pub returns-clause-room : goal.returns-clause-room
 returns-clause-room g c = grind (arith, common_steps)
+
+pub returns-clause-ample : goal.returns-clause-ample
+returns-clause-ample g c = search rules

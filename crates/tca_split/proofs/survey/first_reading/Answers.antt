@@ -87,3 +87,9 @@ returns-in_err-survey-in-Ok-clause-memory g c = λ is octets e.
     let told : IsErrOf {T = Survey} {E = SplitFault} (Err c.in_err-survey-in-Ok.field-0.0) Memory = ap (λ (x : SplitFault). Err x) (sym p.2) ∙ sym p.1 ∙ is in
     inr (wants_memory octets t.0 own r.0 t.2 c.loop-turn.framer c.loop-turn.survey (g.R.Read.left c.read.new.self) t.5 t.6 all r.1 (omega (arith, length-take c.in-Ok.n c.read.new.into))
     (subst (λ (l : List ℕ). BringMore t.0 l) same (c.in_err-survey-in-Ok.ensures.memory told t.0 t.2 t.5 t.6)))
+
+pub returns-in-Err-clause-memory : goal.returns-in-Err-clause-memory
+returns-in-Err-clause-memory g c = search rules
+
+pub returns-in-Err-clause-read : goal.returns-in-Err-clause-read
+returns-in-Err-clause-read g c = search rules

@@ -47,3 +47,6 @@ returns-in-Some-clause-full g c =
 
 pub returns-in_err-reports-clause-full : goal.returns-in_err-reports-clause-full
 returns-in_err-reports-clause-full g c = grind (arith, common_steps)
+
+pub returns-then-branch-clause-count : goal.returns-then-branch-clause-count
+returns-then-branch-clause-count g c = search rules

@@ -1,4 +1,4 @@
-use Rattle.std.proofs.Common.{◌≡◌, ◌++◌, ◌∙◌, List, length, ap, sym, arith}
+use Rattle.std.proofs.Common.{◌≡◌, ◌++◌, ◌∙◌, List, length, ap, sym, arith, rules}
 use Rattle.std.proofs.lemmas.Grind.{common_steps}
 use Rattle.tca_join.specs.Sets.{in_order}
 use Rattle.tca_report.specs.report.Reports.{PacketReport, report_cmp}
@@ -62,3 +62,6 @@ returns-in_err-take_in-clause-memory g c =
     let count = c.count_new-new.ensures ∙ ap (λ (l : List PacketReport). length (without_each report_cmp rows l)) c.as_slice.ensures in
     let size = union_length report_cmp report_total report_exact rows set c.self.invariant.rises c.requires in
     rw (← c.self.view_is) (grind (arith, size, count, c.if-new-len.false, c.len.ensures.length, common_steps))
+
+pub returns-then-new-len-clause-memory : goal.returns-then-new-len-clause-memory
+returns-then-new-len-clause-memory g c = search rules

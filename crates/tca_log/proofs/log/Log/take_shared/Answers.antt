@@ -1,4 +1,4 @@
-use Rattle.std.proofs.Common.{◌≡◌, [], ap, sym, subst, ◌∙◌, arith}
+use Rattle.std.proofs.Common.{◌≡◌, [], ap, sym, subst, ◌∙◌, arith, rules}
 use Rattle.std.proofs.lemmas.List.{nil_from_length}
 use Rattle.std.specs.List.Sorted.{IsStrictlySortedBy}
 use Rattle.tca_report.specs.report.Reports.{report_cmp}
@@ -19,3 +19,6 @@ returns-clause-new g c =
     let is : news ≡ c.args.list.now = c.in_ok-news.ensures ∙ c.in_ok-share.ensures in
     let rises : IsStrictlySortedBy report_cmp news = subst (IsStrictlySortedBy report_cmp) (c.as_slice-2.ensures ∙ sym is) (c.rise.ensures.rises c.if-not-rise.false) in
     λ e. c.in_ok-take_in.ensures.ok ∙ ap (put_each report_cmp news) none ∙ put_each_none report_cmp report_total news rises ∙ is
+
+pub returns-then-len-gt0-clause-all : goal.returns-then-len-gt0-clause-all
+returns-then-len-gt0-clause-all g c = search rules

@@ -1,4 +1,4 @@
-use Rattle.std.proofs.Common.{◌∙◌, ◌++◌, [], ◌∷◌, ap}
+use Rattle.std.proofs.Common.{◌∙◌, ◌++◌, [], ◌∷◌, ap, rules}
 use Rattle.tca_statements.specs.Issues.{less, sum_of}
 use Rattle.tca_statements.proofs.AmountSums.{less_computed, sum_made}
 use Rattle.tca_statements.proofs.amounts.Amounts.make.Goals as goal
@@ -14,3 +14,6 @@ invariant_of-self-2 c =
           ∙ sum_made so_far c.args.due,
       c.requires,
     )
+
+pub invariant_of-self : goal.invariant_of-self
+invariant_of-self c = search rules

@@ -1,0 +1,5 @@
+use Rattle.std.proofs.Common.{rules}
+use Rattle.tca_program.proofs.fault.RunFault.read.Goals as goal
+
+pub returns : goal.returns
+returns c = search rules
