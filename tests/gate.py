@@ -23,9 +23,10 @@ COUNTS = re.compile(r"(\d+) passed, (\d+) failed")
 
 
 class Proving:
-    """`rt ci` in a folder, with what it has proved so far."""
+    """`rt ci` in a folder, with what it has proved so far; each line that it prints is passed on."""
 
-    def __init__(self, top, lanes):
+    def __init__(self, top, lanes, hear):
+        self.hear = hear
         self.proved, self.has_ended, self.counts, self.status = set(), False, (0, 1), None
         self.process = subprocess.Popen(
             ["rt", "ci"],
@@ -44,6 +45,7 @@ class Proving:
         """Passes its lines on, and notes what they say."""
         for line in self.process.stdout:
             print(line, end="", flush=True)
+            self.hear(line)
             proved, counts = re.match(r"rt: (\w+) proved$", line), COUNTS.match(line)
             if proved:
                 self.proved.add(proved[1])
@@ -70,7 +72,7 @@ def main():
         top = Path(folder, ROOT.name)
         shutil.copytree(ROOT, top, symlinks=True, ignore=shutil.ignore_patterns(".git", "out", "must-fail", "__pycache__"))
         crates = Crates(top)
-        with Proving(top, max(lanes - 1, 1)) as proving:
+        with Proving(top, max(lanes - 1, 1), crates.hear) as proving:
             passed, failed = try_all(
                 crates,
                 edits_of(ROOT, crates),

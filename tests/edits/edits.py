@@ -5,7 +5,14 @@ from dataclasses import dataclass, field
 
 FUNCTION = re.compile(r"( *)(?:pub(?:\([^)]*\))? )?(?:const )?(?:unsafe )?fn (\w+)")
 CONSTANT = re.compile(r"const (\w+):")
-BLOCK = re.compile(r"(?:pub )?(?:unsafe )?(?:trait|impl(?:<.*?>)?) (?:(?P<trait>[\w:]+)(?:<(?P<of>\w*).*>)? for )?(?:&(?:'\w+ )?)?(?:mut )?(?P<type>[\w:]+)")
+BLOCK = re.compile(r"(?:pub(?:\([^)]*\))? )?(?:unsafe )?(?:trait|impl(?:<.*?>)?) (?:(?P<trait>[\w:]+)(?:<(?P<of>\w*).*>)? for )?(?:&(?:'\w+ )?)?(?:mut )?(?P<type>[\w:]+)")
+# A proof that is left open.
+OPEN = """\
+use Rattle.{crate}.proofs.{path}.Statement.{{statement}}
+
+pub {name}_spec : {{M : Type 1}} → statement M
+{name}_spec = ?
+"""
 
 
 class BadEdit(Exception):
@@ -20,6 +27,10 @@ class Function:
     first: int
     last: int
     path: str
+
+    def is_at(self, path):
+        """Whether it is the function that the prover calls so, by its path below the crate."""
+        return f"::{path}".endswith(f"::{self.path}")
 
 
 @dataclass
@@ -99,26 +110,58 @@ def batches_of(edits, texts):
     return batches
 
 
-def function_at(file, text, at):
-    """The function in whose text, contract or body, a place of a formatted file is."""
-    lines, number = text.split("\n"), text.count("\n", 0, at)
-    for first in range(number, -1, -1):
-        begins = FUNCTION.match(lines[first])
+def functions_of(file, text):
+    """The functions of a formatted file, contract and body."""
+    lines = text.split("\n")
+    for first, line in enumerate(lines):
+        begins = FUNCTION.match(line)
         if begins:
             indent, name = begins.groups()
-            last = last_line(lines, first, indent)
-            if number <= last:
-                before = [owner_of(lines[:first])] if indent else module_of(file)
-                return Function(file, first + 1, last + 1, "::".join([*before, name]))
-    return None
+            before = [owner_of(lines[:first])] if indent else module_of(file)
+            yield Function(file, first + 1, last_line(lines, first, indent) + 1, "::".join([*before, name]))
+
+
+def function_at(file, text, at):
+    """The function in whose text a place of a file is."""
+    number = text.count("\n", 0, at) + 1
+    return next((it for it in functions_of(file, text) if it.first <= number <= it.last), None)
+
+
+def emptied(text, function):
+    """The text with a body that never returns in the place of the function's, as long as that was; as it is where the body is one line."""
+    lines = text.split("\n")
+    own = range(function.first - 1, function.last - 1)
+    indent = FUNCTION.match(lines[function.first - 1])[1]
+    begins = [it for it in own if lines[it] == indent + "{"] or [it for it in own if lines[it].endswith("{")]
+    for at in range(begins[0] + 1, function.last - 1) if lines[function.last - 1] == indent + "}" else ():
+        lines[at] = indent + "    loop {}" if at == begins[0] + 1 else ""
+    return "\n".join(lines)
+
+
+def taken_by_contract(crate, texts, paths, functions):
+    """The texts of a crate with an open proof, and a body that never returns, in the place of those of the functions of these paths that are none
+    of the functions given. A check takes them by their contracts, as it does where it judges those that call them."""
+    after, others = dict(texts), [path for path in paths if not any(it.is_at(path) for it in functions)]
+    for path in others:
+        folder, name = f"proofs/{path.replace('::', '/')}", path.split("::")[-1]
+        for file in ("Answers.antt", "Invariants.antt"):
+            after.pop(f"{folder}/{file}", None)
+        after[f"{folder}/Proof.antt"] = OPEN.format(crate=crate, path=path.replace("::", "."), name=name)
+    for file in (it for it in texts if it.startswith("src/")):
+        for function in functions_of(file, texts[file]):
+            if any(function.is_at(path) for path in others):
+                after[file] = emptied(after[file], function)
+    return after
 
 
 def last_line(lines, first, indent):
-    """The line with the closing brace of the function that begins on the first one; the first one where it has no body behind it."""
+    """The last line of the function that begins on the first one: that of the closing brace, or of the semicolon where it has no body."""
     if lines[first].endswith(("}", ";")):
         return first
+    has_body = lines[first].endswith("{")
     for at in range(first + 1, len(lines)):
-        if lines[at] == indent + "}":
+        has_body = has_body or lines[at] == indent + "{" or (lines[at].startswith(indent + ")") and lines[at].endswith("{"))
+        if lines[at] == indent + "}" or (lines[at].endswith(";") and not has_body):
             return at
         if lines[at] and not lines[at].startswith(indent):
             break

@@ -10,7 +10,7 @@ import tempfile
 import threading
 from pathlib import Path
 
-from edits import BadEdit
+from edits import BadEdit, taken_by_contract
 
 PARTS = ("src", "specs", "proofs")
 # An error that a text names what isn't there any more. It shows that a name went, and not that a contract refuses the body.
@@ -19,6 +19,13 @@ NAMES = re.compile(UNREAD.pattern + "|has no `|was not admitted")
 ERROR = re.compile(r"(?:note: )?(?:\./)?(?P<file>[^\s:]+):(?P<line>\d+):\d+: (?P<said>.*)")
 # What `search` left open of a function, on the line that names it; what follows is about the functions that it calls.
 LEFT = re.compile(r"did not prove ([^;]*)")
+PROVED = re.compile(r"fn (\w+)::([\w:]+): proved\s*$")
+
+
+def proved_by(line):
+    """The crate and the path below it of the function that a line says is proved. There is none for tests, and for closures, whose path has `fn` in it."""
+    said = PROVED.match(line)
+    return said.groups() if said and not {"fn", "tests"} & {*said[2].split("::")} else None
 
 
 class Crates:
@@ -32,6 +39,7 @@ class Crates:
         self.prover = [*rtlib.guarded(), rtlib.RATTLE]
         self.crates = {it.name: it for it in rtlib.crates_below(str(top))}
         self.building, self.unbuilt = threading.Lock(), set()
+        self.proved = {it: set() for it in self.crates}
 
     def __iter__(self):
         return iter(self.crates)
@@ -52,11 +60,19 @@ class Crates:
         files = (it for part in PARTS for it in (folder / part).rglob("*") if it.is_file())
         return {str(it.relative_to(folder)): it.read_text(encoding="utf-8") for it in files}
 
+    def hear(self, line):
+        """Notes the function that a line of `rt`'s says is proved."""
+        crate, path = proved_by(line) or ("", "")
+        if crate in self.proved:
+            self.proved[crate].add(path)
+
     def check(self, name, texts, functions, kept):
         """What the prover says of these functions of a crate with these texts, or of the whole crate where none is named; kept holds what the
         checks before it proved."""
         words = [*self.crates[name].words(["--jobs", "1"], keeps=False), "--incremental", kept]
-        words += [word for it in functions for word in ("--only", it.path)]
+        if functions:
+            texts = taken_by_contract(name, texts, self.proved[name], functions)
+            words += ["--allow-holes", *(word for it in functions for word in ("--only", it.path))]
         with tempfile.TemporaryDirectory(prefix="edits-") as room:
             for file, text in texts.items():
                 path = Path(room, file)
@@ -108,7 +124,7 @@ class Verdict:
 
     def refusal(self, function):
         """At what the prover refused a function by its own code, if it did."""
-        path, said = next((it for it in self.functions.items() if f"::{it[0]}".endswith(f"::{function.path}")), ("", ""))
+        path, said = next((it for it in self.functions.items() if function.is_at(it[0])), ("", ""))
         if not said.startswith(("not proved", "no proof")):
             return None
         left = LEFT.search(said)
@@ -130,7 +146,7 @@ class Verdict:
     def others(self, functions):
         """Functions that were refused by their own code though it is as it was. One that calls a refused function isn't proved either."""
         for path, said in self.functions.items():
-            is_known = any(f"::{path}".endswith(f"::{it.path}") for it in functions)
+            is_known = any(it.is_at(path) for it in functions)
             is_refused = said.startswith(("not proved", "no proof", "could not tell"))
             is_by_itself = "; it calls" not in said and ": it calls" not in said
             if not is_known and is_refused and (is_by_itself or LEFT.search(said) or any(not NAMES.search(it) for it in self.told_in_proofs(path))):

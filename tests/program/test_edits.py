@@ -5,8 +5,8 @@ import unittest
 from program import ROOT
 
 sys.path.append(str(ROOT / "tests/edits"))
-from edits import BadEdit, Edit, batches_of
-from prover import Verdict
+from edits import BadEdit, Edit, batches_of, function_at, taken_by_contract
+from prover import Verdict, proved_by
 
 TEXTS = {
     "specs/Sums.antt": "total = 1\n",
@@ -41,6 +41,15 @@ impl<A: Copy> Sums<A> {
         Sums { left }
     }
 }
+
+pub(crate) trait Sum {
+    fn start(&self) -> u32
+        ensures { result ≡ 0 };
+
+    fn step(&self) -> u32 {
+        self.start()
+    }
+}
 """,
 }
 END = "only=2 proved=0"
@@ -65,6 +74,9 @@ class Batches(unittest.TestCase):
     def test_a_trait_of_a_type(self):
         self.assertEqual(found([edit("a", "Fault::Memory", "Fault::Full")]), [[("a", {"FaultFromAllocFailed::from"})]])
 
+    def test_methods_of_a_trait(self):
+        self.assertEqual(found([edit("a", "≡ 0 }", "≡ 1 }"), edit("b", "self.start()", "0")]), [[("a", {"Sum::start"}), ("b", {"Sum::step"})]])
+
     def test_one_function_is_changed_once(self):
         edits = [edit("a", "self.left.checked_sub", "0.checked_sub"), edit("b", "checked_sub(MOST)", "checked_add(MOST)")]
         self.assertEqual(found(edits), [[("a", {"SumsIterator::next"})], [("b", {"SumsIterator::next"})]])
@@ -80,6 +92,45 @@ class Batches(unittest.TestCase):
         for old in ("not there", "u32"):
             with self.assertRaises(BadEdit):
                 edit("a", old, "other").made(TEXTS)
+
+
+class Contracts(unittest.TestCase):
+    PATHS = ("sums::sum", "sums::Sums::new", "sums::SumsIterator::next", "laws::sum_laws")
+
+    def setUp(self):
+        self.texts = {**TEXTS, "proofs/sums/sum/Answers.antt": "a = b\n", "proofs/sums/Sums/new/Answers.antt": "c = d\n"}
+
+    def of(self, old):
+        """The texts where the function with this text alone is judged."""
+        code = self.texts["src/sums.rt"]
+        return taken_by_contract("sums", self.texts, self.PATHS, [function_at("src/sums.rt", code, code.index(old))])
+
+    def test_the_function_itself_is_as_it_was(self):
+        after = self.of("a + b\n")
+        self.assertIn("    ensures { result ≡ a + b }\n{\n    a + b\n}", after["src/sums.rt"])
+        self.assertEqual(after["proofs/sums/sum/Answers.antt"], "a = b\n")
+        self.assertNotIn("proofs/sums/sum/Proof.antt", after)
+
+    def test_others_have_an_open_proof(self):
+        after = self.of("a + b\n")
+        self.assertNotIn("proofs/sums/Sums/new/Answers.antt", after)
+        self.assertEqual(
+            after["proofs/sums/Sums/new/Proof.antt"],
+            "use Rattle.sums.proofs.sums.Sums.new.Statement.{statement}\n\npub new_spec : {M : Type 1} → statement M\nnew_spec = ?\n",
+        )
+        self.assertIn("proofs/laws/sum_laws/Proof.antt", after)
+
+    def test_others_do_nothing(self):
+        after = self.of("Sums { left }")["src/sums.rt"].split("\n")
+        before = self.texts["src/sums.rt"].split("\n")
+        changed = {line: after[at] for at, line in enumerate(before) if after[at] != line}
+        self.assertEqual(changed, {"    a + b": "    loop {}", "        self.left.checked_sub(MOST)": "        loop {}"})
+        self.assertEqual(len(after), len(before))
+
+    def test_what_is_said_to_be_proved(self):
+        self.assertEqual(proved_by("fn sums::sums::Sums::new: proved\n"), ("sums", "sums::Sums::new"))
+        for line in ("fn sums::sums::sum: not proved", "fn sums::fn::sum::step: proved", "fn sums::tests::sum: proved", "fn sums::Destruct++none::drop: proved", "sums: proved"):
+            self.assertIsNone(proved_by(line), line)
 
 
 class Verdicts(unittest.TestCase):
@@ -103,6 +154,12 @@ class Verdicts(unittest.TestCase):
     def test_a_contract_that_is_not_met(self):
         said = self.of("src/sums.rt:7:5: error: `returns` does not hold", "fn sums::sums::sum: not proved")
         self.assertEqual(said.refusal(self.sum), "error: `returns` does not hold")
+
+    def test_a_function_that_is_as_it_should_be(self):
+        for word in ("proved", "no holes", "depends on a hole in `Rattle.sums.proofs.f.Proof.f_spec`"):
+            said = self.of(f"fn sums::sums::sum: {word}")
+            self.assertIsNone(said.refusal(self.sum))
+            self.assertEqual(list(said.others([])), [])
 
     def test_who_calls_a_refused_function(self):
         said = self.of("fn sums::sums::sum: no proof: it calls `sums::f`, which is not proved", "fn sums::sums::Sums::len: could not tell")
