@@ -14,7 +14,7 @@ from edits import BadEdit, taken_by_contract
 
 PARTS = ("src", "specs", "proofs")
 # An error that a text names what isn't there any more. It shows that a name went, and not that a contract refuses the body.
-UNREAD = re.compile(r"has no field|is not in scope|is no name|operand is missing|expected the end|cannot continue")
+UNREAD = re.compile(r"has no field|\(nearest: |is not in scope|is no name|operand is missing|expected the end|cannot continue")
 NAMES = re.compile(UNREAD.pattern + "|has no `|was not admitted")
 ERROR = re.compile(r"(?:note: )?(?:\./)?(?P<file>[^\s:]+):(?P<line>\d+):\d+: (?P<said>.*)")
 # What `search` left open of a function, on the line that names it; what follows is about the functions that it calls.

@@ -1,4 +1,5 @@
 """How the wrong bodies are tried: which go into one check, and what the prover's words about them come to."""
+import re
 import sys
 import unittest
 
@@ -127,6 +128,17 @@ class Contracts(unittest.TestCase):
         self.assertEqual(changed, {"    a + b": "    loop {}", "        self.left.checked_sub(MOST)": "        loop {}"})
         self.assertEqual(len(after), len(before))
 
+    def test_no_proof_rests_on_the_body_of_another_function(self):
+        of_a_body = re.compile(r"Rattle\.(\w+)\.proofs\.([\w.+]+)\.(?:Answers|Code|Goals|Invariants|Lts|Named|Reads|Tie)\b")
+        own, others = 0, []
+        for path in ROOT.glob("crates/*/proofs/**/*.antt"):
+            crate, _, *folders, _ = path.relative_to(ROOT / "crates").parts
+            cited = [it for it in of_a_body.findall(path.read_text(encoding="utf-8")) if it[0] == crate]
+            own += sum(it[1] == ".".join(folders) for it in cited)
+            others += [(path, it) for it in cited if it[1] != ".".join(folders)]
+        self.assertEqual(others, [])
+        self.assertGreater(own, 500)
+
     def test_what_is_said_to_be_proved(self):
         self.assertEqual(proved_by("fn sums::sums::Sums::new: proved\n"), ("sums", "sums::Sums::new"))
         for line in ("fn sums::sums::sum: not proved", "fn sums::fn::sum::step: proved", "fn sums::tests::sum: proved", "fn sums::Destruct++none::drop: proved", "sums: proved"):
@@ -175,6 +187,7 @@ class Verdicts(unittest.TestCase):
         said = self.of(
             "note: ./proofs/sums/sum/Answers.antt:3:4: large solution",
             "./proofs/sums/sum/Answers.antt:3:4: error: `c.left` is not in scope",
+            "./proofs/sums/sum/Answers.antt:5:4: error: `returns`: record `Rattle.sums.proofs.sums.sum.Lts.After-f` (nearest: .is_none)",
             "fn sums::sums::sum: not proved",
         )
         with self.assertRaises(BadEdit):
