@@ -5,7 +5,7 @@ from dataclasses import dataclass, field
 
 FUNCTION = re.compile(r"( *)(?:pub(?:\([^)]*\))? )?(?:const )?(?:unsafe )?fn (\w+)")
 CONSTANT = re.compile(r"const (\w+):")
-BLOCK = re.compile(r"(?:pub(?:\([^)]*\))? )?(?:unsafe )?(?:trait|impl(?:<.*?>)?) (?:(?P<trait>[\w:]+)(?:<(?P<of>\w*).*>)? for )?(?:&(?:'\w+ )?)?(?:mut )?(?P<type>[\w:]+)")
+BLOCK = re.compile(r"(?:pub(?:\([^)]*\))? )?(?:unsafe )?(?:trait|impl(?:<(?P<generics>.*?)>)?) (?:(?P<trait>[\w:]+)(?:<(?P<of>.*)>)? for )?(?:&(?:'\w+ )?)?(?:mut )?(?P<type>[\w:]+)")
 # A proof that is left open.
 OPEN = """\
 use Rattle.{crate}.proofs.{path}.Statement.{{statement}}
@@ -174,7 +174,10 @@ def module_of(file):
 
 
 def owner_of(lines):
-    """The type of the block in which a method stands; behind it the trait where the method is a trait's, and of what it is."""
+    """The type of the block in which a method stands; behind it the trait where the method is a trait's, and of which types it is, but for
+    parameters of the block."""
     block = next(it for it in map(BLOCK.match, reversed(lines)) if it)
     last_name = lambda path: (path or "").split("::")[-1]
-    return last_name(block["type"]) + last_name(block["trait"]) + (block["of"] or "")
+    parameters = {it.split(":")[0].strip() for it in (block["generics"] or "").split(",")}
+    types = re.findall(r"\w+(?!\w*::)", (block["of"] or "").replace("()", "Unit"))
+    return last_name(block["type"]) + last_name(block["trait"]) + "".join(it for it in types if it not in parameters)

@@ -1,7 +1,8 @@
 """Trying wrong bodies.
 
 The prover judges each function by its own code and by the contracts of what it calls. So edits of several functions are made together, and one
-check judges them all: it has to refuse each edited function by its own code, at more than a name that is missing, and no other function.
+check judges them all: it has to refuse of each edit a function that it changes, by that function's own code and at more than a name that is
+missing, and no other function.
 """
 
 import tempfile

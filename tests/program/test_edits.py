@@ -74,6 +74,13 @@ class Batches(unittest.TestCase):
 
     def test_a_trait_of_a_type(self):
         self.assertEqual(found([edit("a", "Fault::Memory", "Fault::Full")]), [[("a", {"FaultFromAllocFailed::from"})]])
+        for block, owner in (
+            ("impl Row<Option<plans::Plan>> for Item", "ItemRowOptionPlan"),
+            ("impl Row<()> for Pair", "PairRowUnit"),
+            ("impl<'a, T: Drop, D> Row<D> for Pair<'a, T>", "PairRow"),
+        ):
+            text = f"{block} {{\n    fn add(&self) {{}}\n}}\n"
+            self.assertEqual(function_at("src/rows.rt", text, text.index("fn")).path, f"{owner}::add")
 
     def test_methods_of_a_trait(self):
         self.assertEqual(found([edit("a", "≡ 0 }", "≡ 1 }"), edit("b", "self.start()", "0")]), [[("a", {"Sum::start"}), ("b", {"Sum::step"})]])
