@@ -165,8 +165,16 @@ class Limits(ProgramTest):
         self.assertEqual(os.path.getsize(self.folder / "whole"), 10 + 29 * most)
         self.assert_done(self.run_program("combine", "again", "whole"), told)
         self.assertTrue(filecmp.cmp(self.folder / "whole", self.folder / "again", shallow=False))
+        self.write("plan", PLAN.toml())
+        for replicas in (1, 2):
+            run = self.run_program("bill", "--replicas", replicas, "--export", "again", "plan", "whole")
+            self.assertEqual((run.status, run.err), (0, b""))
+            self.assertIn(f"\nreports {most}\n".encode(), run.out)
+            self.assertTrue(filecmp.cmp(self.folder / "whole", self.folder / "again", shallow=False))
         self.write("one", ONE)
         self.assert_refused(self.run_program("combine", "out", "whole", "1@one"), "1@one", "log", 1)
+        self.assert_refused(self.run_program("bill", "--replicas", 1, "--workers", 1, "plan", "whole", "1@one"), "1@one", "log", 1)
+        self.assert_refused(self.run_program("bill", "--replicas", 2, "plan", "whole", "1@one"), "bill", "absorb", 4)
         with open(self.folder / "most", "ab") as file:
             file.write(capture(7, most, [(TIME, 1500, 0, 1)]))
         self.assert_refused(self.run_program("combine", "out", "most"), "most", "log", 1)

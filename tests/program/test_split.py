@@ -9,12 +9,10 @@ from pathlib import Path
 
 from model import capture
 from program import TOOL, ProgramTest
+from rows import ONE, SHORT
 
-M10 = bytes.fromhex(
-    "000a0041" "6553f100" "00000005" "00000007" "00020018" "01000004" "01430008" "00e00008" "00c30001" "000a0004"
-    "01000019" "0000018bcfe56800" "00000000000005dc" "0a" "00000001"
-)
-M21 = bytes.fromhex("000a002f" "6553f100" "00000000" "00000009" "00020010" "01000002" "01420004" "0139ffff" "0100000f" "6553f100" "ff0004" "45b805dc")
+# The same record as in SHORT, of domain 9.
+OTHER_DOMAIN = SHORT[:12] + struct.pack(">I", 9) + SHORT[16:]
 
 
 def message(domain, body=b"", version=10, length=None):
@@ -48,9 +46,9 @@ class Splitting(ProgramTest):
         self.assertEqual(self.parts(), left or {})
 
     def test_two_domains(self):
-        self.write("capture", M10 + M21)
-        self.assert_split([M10, M21], self.split("parts", "capture"))
-        self.assertEqual(self.parts(), {"7.ipfix": M10, "9.ipfix": M21})
+        self.write("capture", ONE + OTHER_DOMAIN)
+        self.assert_split([ONE, OTHER_DOMAIN], self.split("parts", "capture"))
+        self.assertEqual(self.parts(), {"7.ipfix": ONE, "9.ipfix": OTHER_DOMAIN})
 
     def test_no_message(self):
         self.write("capture", b"")
@@ -58,16 +56,16 @@ class Splitting(ProgramTest):
         self.assert_split([], self.split("nowhere", "capture"))
 
     def test_a_file_that_is_there(self):
-        self.write("capture", message(5) + M10 + M21)
+        self.write("capture", message(5) + ONE + OTHER_DOMAIN)
         self.write("parts/7.ipfix", b"mine")
         self.assert_refused_by(self.split("parts", "capture"), "split", "write", 1, {"7.ipfix": b"mine"})
 
     def test_the_capture_itself(self):
-        self.write("parts/7.ipfix", M10)
-        self.assert_refused_by(self.split("parts", "parts/7.ipfix"), "split", "write", 1, {"7.ipfix": M10})
+        self.write("parts/7.ipfix", ONE)
+        self.assert_refused_by(self.split("parts", "parts/7.ipfix"), "split", "write", 1, {"7.ipfix": ONE})
 
     def test_a_link_that_leads_nowhere(self):
-        self.write("capture", message(5) + M10)
+        self.write("capture", message(5) + ONE)
         (self.folder / "parts/7.ipfix").symlink_to("nowhere")
         run = self.split("parts", "capture")
         self.assertEqual((run.status, run.out, run.err), (1, b"", b"tcatool: split: write 1\n"))
@@ -81,7 +79,7 @@ class Splitting(ProgramTest):
         return self.split("parts", "capture", env={**os.environ, "LD_PRELOAD": str(library), **settings}, preexec_fn=preexec_fn)
 
     def test_a_file_that_is_made_in_between(self):
-        self.write("capture", M10 + M21)
+        self.write("capture", ONE + OTHER_DOMAIN)
         self.assert_refused_by(self.split_beside(), "split", "write", 1, {"7.ipfix": b"mine"})
 
     def test_a_part_that_goes_in_between(self):
@@ -92,27 +90,27 @@ class Splitting(ProgramTest):
 
     def test_a_capture_that_changes_in_between(self):
         """Its second reading has a domain that the first had none of."""
-        self.write("capture", M10)
-        self.write("later", M21)
+        self.write("capture", ONE)
+        self.write("later", OTHER_DOMAIN)
         self.assert_refused_by(self.split_beside(CHANGED="capture"), "capture", "read", 1, {"7.ipfix": b""})
 
     def test_a_capture_that_goes_on_in_between(self):
         """Its second reading ends within a message, or has a faulty header; or it has one more message of the domain."""
-        for more, number in ((M10[:20], 1), (message(7, version=9), 2), (message(7, length=15), 3)):
-            self.write("capture", M10)
-            self.write("later", M10 + more)
+        for more, number in ((ONE[:20], 1), (message(7, version=9), 2), (message(7, length=15), 3)):
+            self.write("capture", ONE)
+            self.write("later", ONE + more)
             self.assert_refused_by(self.split_beside(CHANGED="capture"), "capture", "wire", number, {"7.ipfix": b""})
             (self.folder / "parts/7.ipfix").unlink()
-        self.write("capture", M10)
-        self.write("later", M10 + message(7))
+        self.write("capture", ONE)
+        self.write("later", ONE + message(7))
         self.assert_done(self.split_beside(CHANGED="capture"), b"domains 1\nmessages 1\n")
-        self.assertEqual(self.parts(), {"7.ipfix": M10 + message(7)})
+        self.assertEqual(self.parts(), {"7.ipfix": ONE + message(7)})
 
     def test_the_word_of_a_capture_is_a_path(self):
-        self.write("1@capture", M10)
-        self.assert_split([M10], self.split("parts", "1@capture"))
+        self.write("1@capture", ONE)
+        self.assert_split([ONE], self.split("parts", "1@capture"))
         (self.folder / "parts/7.ipfix").unlink()
-        self.write("capture", M10)
+        self.write("capture", ONE)
         self.assert_refused_by(self.split("parts", "2@capture"), "2@capture", "read", 1)
         self.assert_refused_by(self.split("2@parts", "capture"), "split", "write", 1)
 
@@ -145,7 +143,7 @@ class Splitting(ProgramTest):
         """A folder, and a pipe that would give its octets once: the parts would be empty."""
         (self.folder / "folder").mkdir()
         reading, writing = os.pipe()
-        os.write(writing, M10)
+        os.write(writing, ONE)
         os.close(writing)
         self.addCleanup(os.close, reading)
         for options in ((), ("--progress",)):
@@ -156,19 +154,19 @@ class Splitting(ProgramTest):
     def test_the_capture_is_judged_before_the_folder(self):
         self.write("parts/7.ipfix", b"mine")
         left = {"7.ipfix": b"mine"}
-        self.write("capture", M10 + M21[:-1])
+        self.write("capture", ONE + OTHER_DOMAIN[:-1])
         for folder in ("parts", "nowhere"):
             self.assert_refused_by(self.split(folder, "capture"), "capture", "wire", 1, left)
             self.assert_refused_by(self.split(folder, "absent"), "absent", "read", 1, left)
-        self.write("capture", M10 + b"".join(message(domain) for domain in range(4097)))
+        self.write("capture", ONE + b"".join(message(domain) for domain in range(4097)))
         self.assert_refused_by(self.split("parts", "capture"), "capture", "limits", 1, left)
 
     def test_framing(self):
         for octets, number in (
-            (M10[:-1], 1),
-            (M10 + M21[:15], 1),
-            (M10 + message(9, version=9), 2),
-            (M10 + message(9, length=15), 3),
+            (ONE[:-1], 1),
+            (ONE + OTHER_DOMAIN[:15], 1),
+            (ONE + message(9, version=9), 2),
+            (ONE + message(9, length=15), 3),
             (b"TCAX" + bytes(20), 2),
         ):
             self.write("capture", octets)
@@ -249,11 +247,11 @@ class Splitting(ProgramTest):
 
     def test_output_that_fails(self):
         """The files are whole then."""
-        self.write("capture", M10 + M21)
+        self.write("capture", ONE + OTHER_DOMAIN)
         with open("/dev/full", "wb") as full:
             run = self.split("parts", "capture", stdout=full)
         self.assertEqual((run.status, run.err), (1, b"tcatool: split: write 1\n"))
-        self.assertEqual(self.parts(), {"7.ipfix": M10, "9.ipfix": M21})
+        self.assertEqual(self.parts(), {"7.ipfix": ONE, "9.ipfix": OTHER_DOMAIN})
 
     def test_a_late_write_that_fails(self):
         def limit():

@@ -118,8 +118,8 @@ impl<'a, R: Clock + Sync> Gate for Rounds<'a, R> {
     }
 }
 
-// 191 inputs without octets, and at last an export that is cut.
-fn inputs_of_rounds(alloc: Global) -> Option<Vec<Input>>
+// 191 inputs without octets, and a last one.
+fn inputs_of_rounds(alloc: Global, last: &[u8]) -> Option<Vec<Input>>
     ensures { IfSome result (λ all. length all.items ≤ 192) }
 {
     let mut all = Vec::new(alloc);
@@ -128,15 +128,15 @@ fn inputs_of_rounds(alloc: Global) -> Option<Vec<Input>>
             return None;
         }
     }
-    let cut = Vec::from_slice(alloc, b"TCAX").ok()?;
-    if all.push(plain(cut)).is_err() || all.len() > 192 {
+    let last = Vec::from_slice(alloc, last).ok()?;
+    if all.push(plain(last)).is_err() || all.len() > 192 {
         return None;
     }
     Some(all)
 }
 
-// Whether 192 jobs came, began and ended by their numbers, all but the last one, which is cut, took, and no wait met the limit.
-fn is_through<R: Clock>(gate: &Rounds<'_, R>) -> bool {
+// Whether 192 jobs came, began and ended by their numbers, the first ones took, and no wait met the limit.
+fn is_through<R: Clock>(gate: &Rounds<'_, R>, takes: u64) -> bool {
     let met = (
         gate.came.load(Ordering::SeqCst),
         gate.late.load(Ordering::SeqCst),
@@ -147,20 +147,22 @@ fn is_through<R: Clock>(gate: &Rounds<'_, R>) -> bool {
         gate.ended.load(Ordering::SeqCst),
     );
     // 1 + 2 + .. + n is n * (n + 1) / 2
-    let (all, all_but_last) = (192 * 193 / 2, 191 * 192 / 2);
-    met == (192, 0) && through == (all, all_but_last, all)
+    let all = 192 * 193 / 2;
+    met == (192, 0) && through == (all, takes.saturating_mul(takes.saturating_add(1)) / 2, all)
 }
 
-// Whether this many workers take 192 inputs by rounds.
+// Whether this many workers take 192 inputs by rounds, of which the last one is an export that is cut, or without octets too.
 fn go_by_rounds<L: Side + Send + Sync, R: Threads + Wait + Clock + Sync>(
     rt: &R,
     alloc: Global,
     shared: Shared<L>,
     workers: u32,
+    is_cut: bool,
 ) -> bool
     requires workers { (1 ≤ workers) × (workers ≤ 64) }
 {
-    let Some(inputs) = inputs_of_rounds(alloc) else {
+    let (last, takes): (&[u8], u64) = if is_cut { (b"TCAX", 191) } else { (b"", 192) };
+    let Some(inputs) = inputs_of_rounds(alloc, last) else {
         return false;
     };
     let gate = Rounds {
@@ -173,7 +175,7 @@ fn go_by_rounds<L: Side + Send + Sync, R: Threads + Wait + Clock + Sync>(
         ended: AtomicU64::new(0),
     };
     let counts = taken(rt, alloc, shared, &inputs, &gate, workers);
-    is_through(&gate) && counts == Some((192, 191, 0))
+    is_through(&gate, takes) && counts == Some((192, takes as usize, 0))
 }
 
 fn goes_by_rounds<L: Side + Send + Sync, R: Threads + Wait + Clock + Sync>(
@@ -183,6 +185,7 @@ fn goes_by_rounds<L: Side + Send + Sync, R: Threads + Wait + Clock + Sync>(
     name: u32,
     plan: Plan,
     workers: u32,
+    is_cut: bool,
 ) -> bool
     requires name { blank.name ≡ L.name }
     requires parts { (blank.parts ≡ L.parts) × (L.parts ≡ 65537) }
@@ -193,17 +196,28 @@ fn goes_by_rounds<L: Side + Send + Sync, R: Threads + Wait + Clock + Sync>(
     let Ok(shared) = Shared::<L>::new(alloc, blank, name, plan) else {
         return false;
     };
-    go_by_rounds(rt, alloc, shared, workers)
+    go_by_rounds(rt, alloc, shared, workers, is_cut)
+}
+
+// Whether this many workers take 192 inputs by rounds, without octets and with one that is refused.
+fn go_at_once<R: Threads + Wait + Clock + Sync>(rt: &R, alloc: Global, workers: u32) -> bool
+    requires workers { (1 ≤ workers) × (workers ≤ 64) }
+{
+    for is_cut in [false, true] {
+        let Ok(plan) = plan(alloc) else {
+            return false;
+        };
+        if !goes_by_rounds::<Brand, _>(rt, alloc, Blank::new(PARTS), 1, plan, workers, is_cut) {
+            return false;
+        }
+    }
+    true
 }
 
 #[test]
 fn all_workers_work_at_once(rt: HostRuntime) {
-    let alloc = rt.alloc();
     for workers in [2, 3, 64] {
-        let Ok(plan) = plan(alloc) else {
-            panic!(rt; "a plan");
-        };
-        assert!(rt; goes_by_rounds::<Brand, _>(&rt, alloc, Blank::new(PARTS), 1, plan, workers));
+        assert!(rt; go_at_once(&rt, rt.alloc(), workers));
     }
 }
 

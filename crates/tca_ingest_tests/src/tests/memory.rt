@@ -1,8 +1,11 @@
 //! Takes that may be refused a growth, and the same takes again. They are run with each growth refused in turn, once each: where no entry
-//! was made nothing changed, else the entry names what is held; one of the two takes is completed; and the replica can be closed.
+//! was made nothing changed, else the entry names what is held; one of the two takes is completed; and the replica can be closed. And a
+//! statement that is made without a book where there is no memory for one.
 ghost use Rattle.std.specs.Prelude.{◌≡◌};
 
-use super::{FIRST, PARTS, SECOND, THIRD, closed_with, has_list, is_of_three, plan, reports};
+use super::{
+    FIRST, PARTS, SECOND, THIRD, closed_with, has_list, is_of_three, plan, report_of, reports,
+};
 use std::alloc::{AllocError, Global};
 use std::marker::Brand;
 use std::sync::Wait;
@@ -133,5 +136,58 @@ fn takes_again<L: Side, R: Wait>(
 fn a_take_that_was_refused_is_completed(rt: HostRuntime) -> Result<(), Fail> {
     let plan = plan(rt.alloc())?;
     assert!(rt; takes_again::<Brand, _>(&rt, rt.alloc(), Blank::new(PARTS), 1, plan)?);
+    Ok(())
+}
+
+// As many reports as are taken at once, after which no book is kept.
+fn long_list(alloc: Global) -> Option<Vec<Report>> {
+    let mut list = Vec::new(alloc);
+    for place in 0..1024 {
+        let Some(report) = report_of(0, (place, place, 1)) else {
+            return None;
+        };
+        if list.push(report).is_err() {
+            return None;
+        }
+    }
+    Some(list)
+}
+
+// Whether a statement is made, or lacks memory only beside a book: where there is none for the book it is made without it.
+fn is_stated_or_kept<L: Side, R: Wait>(
+    rt: &R,
+    alloc: Global,
+    shared: Shared<L>,
+) -> Result<bool, Fail> {
+    let mut passes = Vec::with_capacity(alloc, 1)?;
+    let list = long_list(alloc).ok_or("reports")?;
+    let mut pass = shared.pass(rt)?;
+    shared.take(rt, &mut pass, &list)?;
+    let is_made = shared.statement(rt, &mut pass).is_ok();
+    passes.push(pass)?;
+    let closed = closed_with(shared, passes).ok_or("a close")?;
+    Ok(is_made || closed.replica.keeps_book())
+}
+
+fn states_a_long_list<L: Side, R: Wait>(
+    rt: &R,
+    alloc: Global,
+    blank: Blank,
+    name: u32,
+    plan: Plan,
+) -> Result<bool, Fail>
+    requires name { blank.name ≡ L.name }
+    requires parts { (blank.parts ≡ L.parts) × (L.parts ≡ 65537) }
+    requires called { name ≡ L.called }
+    requires plan { plan ≡ L.plan }
+{
+    let shared = Shared::<L>::new(alloc, blank, name, plan)?;
+    is_stated_or_kept(rt, alloc, shared)
+}
+
+#[test]
+fn a_statement_lacks_memory_only_beside_a_book(rt: HostRuntime) -> Result<(), Fail> {
+    let plan = plan(rt.alloc())?;
+    assert!(rt; states_a_long_list::<Brand, _>(&rt, rt.alloc(), Blank::new(PARTS), 1, plan)?);
     Ok(())
 }

@@ -84,8 +84,8 @@ fn wants<L: Side, R: Wait>(
     }
 }
 
-// A pass takes once and another one twice, which is held back.
-fn one_back<L: Side, R: Wait>(rt: &R, alloc: Global, shared: Shared<L>) -> bool {
+// A pass takes once and another one once or twice, and the other is held back.
+fn one_back<L: Side, R: Wait>(rt: &R, alloc: Global, shared: Shared<L>, is_twice: bool) -> bool {
     let Ok(mut first) = shared.pass(rt) else {
         return false;
     };
@@ -94,16 +94,17 @@ fn one_back<L: Side, R: Wait>(rt: &R, alloc: Global, shared: Shared<L>) -> bool 
     };
     let one = take(rt, alloc, &shared, &mut first, &[FIRST]);
     let other = take(rt, alloc, &shared, &mut second, &[SECOND]);
-    let again = take(rt, alloc, &shared, &mut second, &[SECOND]);
-    let fault = CloseFault::Missing {
-        journal: 3,
-        given: 1,
+    let (journal, again) = if is_twice {
+        (3, take(rt, alloc, &shared, &mut second, &[SECOND]))
+    } else {
+        (2, other)
     };
+    let fault = CloseFault::Missing { journal, given: 1 };
     let Ok(given) = alone(alloc, first) else {
         return false;
     };
     let wanted = wants(rt, shared, given, fault, second);
-    one == Some(1) && other == Some(2) && again == Some(3) && wanted
+    one == Some(1) && other == Some(2) && again == Some(journal) && wanted
 }
 
 fn holds_one_back<L: Side, R: Wait>(
@@ -112,6 +113,7 @@ fn holds_one_back<L: Side, R: Wait>(
     blank: Blank,
     name: u32,
     plan: Plan,
+    is_twice: bool,
 ) -> bool
     requires name { blank.name ≡ L.name }
     requires parts { (blank.parts ≡ L.parts) × (L.parts ≡ 65537) }
@@ -121,15 +123,19 @@ fn holds_one_back<L: Side, R: Wait>(
     let Ok(shared) = Shared::<L>::new(alloc, blank, name, plan) else {
         return false;
     };
-    one_back(rt, alloc, shared)
+    one_back(rt, alloc, shared, is_twice)
 }
 
 #[test]
 fn a_close_wants_each_pass(rt: HostRuntime) {
-    let Ok(plan) = plan(rt.alloc()) else {
-        panic!(rt; "a plan");
-    };
-    assert!(rt; holds_one_back::<Brand, _>(&rt, rt.alloc(), Blank::new(PARTS), 1, plan));
+    for is_twice in [false, true] {
+        let Ok(plan) = plan(rt.alloc()) else {
+            panic!(rt; "a plan");
+        };
+        assert!(rt;
+            holds_one_back::<Brand, _>(&rt, rt.alloc(), Blank::new(PARTS), 1, plan, is_twice)
+        );
+    }
 }
 
 // The fronts of the receipts of all calls of a pass, beside another pass that took once and asks last.

@@ -1,4 +1,4 @@
-use Rattle.tca_ingest_tests.proofs.tests.gates.all_workers_work_at_once.Given as goal
+use Rattle.tca_ingest_tests.proofs.tests.gates.go_at_once.Given as goal
 
 abbrev pub ghosts-goes_by_rounds-L-Ledger : goal.ghosts-goes_by_rounds-L-Ledger
 ghosts-goes_by_rounds-L-Ledger g a = record { name = a.blank.name; parts = a.blank.parts }
