@@ -1,7 +1,7 @@
 //! When the tokens of a rate come. Rates are in tokens a second, times in milliseconds: token `k`, counted from 1,
 //! comes at the least millisecond `t` at which `rate * t` is at least `1000 * k`, so by a time `t` the tokens up to
 //! `rate * t / 1000` have come.
-ghost use Rattle.std.specs.Prelude.{◌≡◌, ◌⊎◌, ◌+◌, ◌<◌, ◌≤◌, ◌*◌, ◌/◌, ◌^◌};
+ghost use Rattle.std.specs.Prelude.{◌≡◌, ◌⊎◌, ◌+◌, ◌<◌, ◌≤◌, ◌*◌, ◌/◌};
 ghost use Rattle.tca_buckets.specs.Buckets.{gain, repeated};
 ghost use Rattle.tca_buckets.specs.Tokens.{due, most_rate};
 ghost use Rattle.tca_report.specs.report.Reports.{time_end};

@@ -1,6 +1,6 @@
 //! Which identities are disputed.
 ghost use Rattle.std.specs.Prelude.{◌≡◌, ◌≤◌, IfOk, IsTrue, drop, length, map};
-ghost use Rattle.std.specs.List.Sorted.{IsPermutation, IsSorted, IsStrictlySortedBy};
+ghost use Rattle.std.specs.List.Sorted.{IsStrictlySortedBy};
 ghost use Rattle.tca_join.specs.Sets.{has};
 ghost use Rattle.tca_report.specs.report.Identities.{identity_cmp, identity_of};
 ghost use Rattle.tca_log.specs.Disputes.{disputed};

@@ -3,9 +3,10 @@
 //! This crate is for those who distrust the rest. It takes the text of the plan, the octets of an export and those of
 //! a statement, and meters each account in the plainest way: the tokens that come between two packets are let in one
 //! at a time, each packet is judged as its RFC says, and where the plan has a term start both buckets are set full. Of the
-//! other crates it takes the readers of plans and exports, the table of code points, the account that owns a report, the sums of
-//! three colours to which a packet is counted (`Sums::count`), and the text of a bill. A token is let in only where a bucket has
-//! room for it, so between two packets no more are let in than packets took out before.
+//! other crates it takes the readers of plans and exports, the table of code points, the account that owns a report, the parameters
+//! of its meters and the starts of their terms, the order of identities, the types of bills, periods and sums, to which each packet
+//! is counted (`Sums::count`), and the text of a bill. A token is let in only where a bucket has room for it, so between two packets
+//! no more are let in than packets took out before.
 //! Where the identities of the reports don't ascend, it takes 12 octets of memory for each report and up to 24 for each disputed identity, beside
 //! the list of reports itself.
 //!

@@ -85,7 +85,8 @@ const TABLE_AFTER: &str =
     "One line for each account's total, and behind it one for each of its periods, under the header
 account,span,start,green_octets,green_packets,yellow_octets,yellow_packets,red_octets,
 red_packets (in one line). span counts periods from the start of 1970, and start is the
-period's first moment (RFC 3339, UTC); of a total both are empty.
+period's first moment (RFC 3339, UTC; empty from 9999-12-30T22:00:01Z on); of a total both are
+empty.
 
 Example: tcatool table monday.txt";
 
@@ -94,7 +95,8 @@ const JSON: &str = "Prints a statement as one JSON object";
 const JSON_AFTER: &str =
     "The object has accounts, disputed, format, period, reports and unassigned. period is in
 milliseconds. An account has name, spans and total; sums are objects green, red and yellow of
-octets and packets, and a span has index and start (RFC 3339, UTC) besides.
+octets and packets, and a span has index and start (RFC 3339, UTC; null from
+9999-12-30T22:00:01Z on) besides.
 
 Example: tcatool json monday.txt";
 
