@@ -178,6 +178,6 @@ def owner_of(lines):
     parameters of the block."""
     block = next(it for it in map(BLOCK.match, reversed(lines)) if it)
     last_name = lambda path: (path or "").split("::")[-1]
-    parameters = {it.split(":")[0].strip() for it in (block["generics"] or "").split(",")}
+    parameters = {it.split(":")[0].strip().lstrip("'") for it in (block["generics"] or "").split(",")}
     types = re.findall(r"\w+(?!\w*::)", (block["of"] or "").replace("()", "Unit"))
     return last_name(block["type"]) + last_name(block["trait"]) + "".join(it for it in types if it not in parameters)

@@ -77,7 +77,7 @@ class Batches(unittest.TestCase):
         for block, owner in (
             ("impl Row<Option<plans::Plan>> for Item", "ItemRowOptionPlan"),
             ("impl Row<()> for Pair", "PairRowUnit"),
-            ("impl<'a, T: Drop, D> Row<D> for Pair<'a, T>", "PairRow"),
+            ("impl<'a, T: Drop, D> Row<&'a D> for Pair<'a, T>", "PairRow"),
         ):
             text = f"{block} {{\n    fn add(&self) {{}}\n}}\n"
             self.assertEqual(function_at("src/rows.rt", text, text.index("fn")).path, f"{owner}::add")

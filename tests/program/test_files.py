@@ -167,6 +167,7 @@ class Limits(ProgramTest):
         self.assertTrue(filecmp.cmp(self.folder / "whole", self.folder / "again", shallow=False))
         self.write("plan", PLAN.toml())
         for replicas in (1, 2):
+            (self.folder / "again").unlink()
             run = self.run_program("bill", "--replicas", replicas, "--export", "again", "plan", "whole")
             self.assertEqual((run.status, run.err), (0, b""))
             self.assertIn(f"\nreports {most}\n".encode(), run.out)
