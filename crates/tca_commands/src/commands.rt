@@ -12,7 +12,7 @@ use tca_program::{many_words, named, one_word, option_word};
 const ABOUT: &str = "Usage accounting by three-colour meters (RFC 2697, RFC 2698, RFC 4115)";
 
 const AFTER: &str = "Bill, and check the bill:
-  tcacct bill --export monday.tcax plan.toml 1@north.ipfix 2@south.ipfix > monday.txt
+  tcacct bill --export monday.tcax plan.toml 1@north.ipfix 1@south.ipfix > monday.txt
   tcacct audit plan.toml monday.tcax monday.txt
 Unite exports, and meter without a plan:
   tcacct combine week.tcax monday.tcax tuesday.tcax
@@ -69,7 +69,7 @@ with the messages of two can't be cut afterwards. A log export carries the sessi
 report, so that N makes no difference there.
 
 Examples: tcacct meter rfc2697:1000:2000:1000:blind monday.tcax
-          tcacct meter rfc2698:2000:2000:1000:1000:blind 1@north.ipfix 2@south.ipfix";
+          tcacct meter rfc2698:2000:2000:1000:1000:blind 1@north.ipfix 1@south.ipfix";
 
 const COMBINE: &str = "Writes the union of the inputs' reports to OUT as one log export, and prints
 how many reports it holds";
@@ -86,7 +86,7 @@ OUT is an export of version 2, which carries the session of each report. Exports
 1 are read too, all their reports as of session 0: `tcacct combine OUT OLD` writes one anew
 in version 2.
 
-Examples: tcacct combine monday.tcax 1@north.ipfix 2@south.ipfix
+Examples: tcacct combine monday.tcax 1@north.ipfix 1@south.ipfix
           tcacct combine week.tcax monday.tcax tuesday.tcax";
 
 const BILL: &str =

@@ -248,8 +248,8 @@ impl<V: Join, A: Allocator + Clone> Join for ByKey<V, A> {
         refusal_of(&self.entries, &other.entries)
     }
 
-    /// Takes memory in proportion to the number of keys of both, since a want of memory at a late key leaves the map
-    /// as before. Where the other map has no keys there is nothing to do and no refusal.
+    /// Copies the values of both maps, since a want of memory at a late key leaves the map as before. Where the other
+    /// map has no keys there is nothing to do and no refusal.
     fn join_from(&mut self, other: &ByKey<V, A>) -> Result<(), JoinFault>
         ensures compatible { OnOk result (Compatible (clash_key V.clash) self.old other.now) }
         ensures within { OnOk result (map_full V.full self.old other.now ≡ false) }

@@ -45,8 +45,7 @@ set_of source octets given s =
     else (if nat_lt s.id 256 then Ok (record given { skipped = given.skipped + 1 })
     else data_of source octets s given given.unplaced (known (source.domain, s.id) given.templates)))
 
--- no set is read behind a fault
--- The sets take effect one after the other.
+-- The sets take effect one after the other, and none is read behind a fault.
 unfoldable pub sets_on : Source → List ℕ → ReadMessage → List SetSpan → Result ReadMessage DecodeFault
 sets_on source octets given [] = Ok given
 sets_on source octets given (s ∷ ss) = set_of source octets given s >>= (λ more. sets_on source octets more ss)
