@@ -11,6 +11,25 @@ use std::fs;
 use std::rt::Files;
 use tca_report::{Host, Input, ReadFault, read_octets};
 
+// A file without octets in the place of a standard descriptor that the program was started without.
+fn placeholder<R: Files>(rt: &R, descriptor: &str) -> Option<R::File> {
+    if fs::metadata(rt, descriptor).is_ok() {
+        return None;
+    }
+    fs::open(rt, "/dev/null").ok()
+}
+
+/// `/dev/null`, opened to be read, in the place of each of standard input, standard output and standard error that the program was started
+/// without, as long as the answer is kept. Else the next file that is opened would be in that place, and get what is printed; now a
+/// print fails as a write. Where `/dev` can't be read there is none.
+pub fn standard_placeholders<R: Files>(rt: &R) -> [Option<R::File>; 3] {
+    [
+        placeholder(rt, "/dev/fd/0"),
+        placeholder(rt, "/dev/fd/1"),
+        placeholder(rt, "/dev/fd/2"),
+    ]
+}
+
 // A file's octets. One that can't be opened has the fault of one that can't be read.
 fn read_file<R: Files + AllocGlobal>(rt: &R, path: &str) -> Result<Vec<u8>, ReadFault> {
     match fs::open(rt, path) {

@@ -20,7 +20,7 @@ mod word;
 pub use arguments::{flag, is_given, many_words, named, one_word, option_word, text, texts};
 pub use ending::{Ending, end, print_help, texts_of, words_of};
 pub use fault::{Family, RunFault};
-pub use files::{create, read_inputs, read_numbered, read_plan};
+pub use files::{create, read_inputs, read_numbered, read_plan, standard_placeholders};
 pub use inputs::{add_input, unite};
 pub use line_fault::LineFault;
 pub use output::put_text;

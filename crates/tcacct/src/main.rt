@@ -14,10 +14,11 @@ pub use tca_commands::{
 };
 use tca_commands::{NAME, run_words};
 pub use tca_program::{Asked, Family, RunFault, asked_by, split_word, unite};
-use tca_program::{Ending, end, words_of};
+use tca_program::{Ending, end, standard_placeholders, words_of};
 use tca_report::Host;
 
 fn main(rt: HostRuntime) -> ExitCode {
+    let _placeholders = standard_placeholders(&rt);
     let mut errors = rt.stderr();
     let status = match words_of(&rt) {
         Ok(words) => run_words(&rt, &words, &mut Host::new(io::writer(&rt)), &mut errors),

@@ -75,7 +75,7 @@ error counts the reports that only A has, that only B has, and that both have. R
 compared as wholes: two reports of one identity that differ are a line each.
 
 An input is a log export or a capture, and N@PATH one of session N, as `tcacct meter --help`
-says. Exit status: 0 where no report differs, 1 where some do or an input is refused.
+says. Exit status: 0 where no report differs, 1 where some do or the run is refused.
 
 Example: tcatool diff ours.tcax theirs.tcax";
 

@@ -35,10 +35,11 @@ mod told;
 use shell::{NAME, run_words};
 use std::io;
 use std::process::ExitCode;
-use tca_program::{Ending, end, words_of};
+use tca_program::{Ending, end, standard_placeholders, words_of};
 use tca_report::Host;
 
 fn main(rt: HostRuntime) -> ExitCode {
+    let _placeholders = standard_placeholders(&rt);
     let mut errors = rt.stderr();
     let status = match words_of(&rt) {
         Ok(words) => run_words(&rt, &words, &mut Host::new(io::writer(&rt)), &mut errors),
