@@ -2,7 +2,7 @@
 import random
 import struct
 
-from model import TIMES, UNSIGNED, Fault, Notes, export, read_input, statement
+from model import TIMES, UNSIGNED, Fault, Notes, capture, export, read_input, statement
 from program import ProgramTest
 from rows import PLAN, TIME
 
@@ -162,6 +162,18 @@ class Inputs(ProgramTest):
         line = b"" if notes == Notes() else f"tcacct: {word}: notes {counts}\n".encode()
         self.assert_done(self.run_program("bill", "plan", word), statement(PLAN, union), line)
         return None
+
+    def test_a_capture_of_many_messages(self):
+        rows = [(TIME + n, 100, 0, 1) for n in range(70_000)]
+        self.assertIsNone(self.assert_read(capture(7, 0, rows, 1), 0))
+
+    def test_the_longest_messages(self):
+        """Of 65,535 octets, full of short records: of fixed lengths, and of a variable one."""
+        for size, record in ((1, struct.pack(">IB", TIME // 1000, 99)), (65_535, struct.pack(">IBB", TIME // 1000, 1, 99))):
+            template = struct.pack(">HHIII", 10, 32, 0, 0, 7) + struct.pack(">8H", 2, 16, 256, 2, 322, 4, 1, size)
+            body = (record * (65_515 // len(record))).ljust(65_515, b"\0")
+            octets = template + struct.pack(">HHIIIHH", 10, 65_535, 0, 0, 7, 256, 65_519) + body
+            self.assertIsNone(self.assert_read(octets, 0))
 
     def test_right_captures(self):
         held, noted = 0, [0, 0, 0]

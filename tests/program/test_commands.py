@@ -241,14 +241,42 @@ class Bills(ProgramTest):
         self.assert_wrong_line(self.run_program("bill", "plan", *names, names[0]))
 
     def test_256_accounts_of_the_longest_names(self):
+        """With as many terms, and pairs in all, as there may be."""
         meter = PLAN.accounts[0].meter
-        accounts = [Account(f"account_{n:024}", meter, [(7, n)]) for n in range(256)]
+        terms = [(start, meter) for start in range(1, 9)]
+        accounts = [Account(f"account_{n:024}", meter, [(7 + domain, n) for domain in range(16)], terms=terms) for n in range(256)]
         rows = [(TIME + n, 7, 0, n, 100 + n, 0, n) for n in range(256)]
         self.write("plan", Plan(1000, accounts).toml())
         self.write("a", export(rows))
         self.assert_done(self.run_program("bill", "plan", "a"), statement(Plan(1000, accounts), rows))
-        self.write("plan", Plan(1000, [*accounts, Account("more", meter, [(8, 1)])]).toml())
+        self.write("plan", Plan(1000, [*accounts, Account("more", meter, [(99, 1)])]).toml())
         self.assert_refused(self.run_program("bill", "plan", "a"), "plan", "plan", 7)
+
+    def test_as_many_periods_as_reports(self):
+        """Periods of a millisecond, and identities that descend: the bill, and its audit."""
+        count = 100_000
+        self.write("plan", Plan(1, [Account("alpha", Meter(2697, (0, 10**12), (0, 0)), [(7, 1)])]).toml())
+        self.write("a", export([(TIME + n, 7, 0, count - n, 100, 0, 1) for n in range(count)]))
+        spans = "".join(f"span {TIME + n} 100 1 0 0 0 0\n" for n in range(count))
+        head = f"tcacct statement 1\nperiod 1\nreports {count}\ndisputed 0\nunassigned 0\naccount alpha\ntotal {100 * count} {count} 0 0 0 0\n"
+        text = f"{head}{spans}end\n".encode()
+        self.assert_done(self.run_program("bill", "plan", "a"), text)
+        self.write("statement", text)
+        self.assert_done(self.run_program("audit", "plan", "a", "statement"), b"agrees\n")
+
+    def test_long_names_and_letters_beyond_ascii(self):
+        """Of PLAN, OUT and an input, as they are opened and as they are told."""
+        folder = "/".join(("d" * 200, "é" * 100, "日本"))
+        (self.folder / folder).mkdir(parents=True)
+        plan, one, out, gone = (f"{folder}/{name}" for name in ("plän", "eins ß", "öut", "weg ü"))
+        self.write(plan, PLAN.toml())
+        self.write(one, noted(1))
+        report = (TIME + 1, 7, 3, 150, 60, 0, 1)
+        run = self.run_program("bill", "--export", out, plan, f"3@{one}")
+        self.assert_done(run, statement(PLAN, [report]), f"tcacct: 3@{one}: notes 2 1 1\n".encode())
+        self.assertEqual(self.read(out), export([report]))
+        self.assert_refused(self.run_program("bill", plan, f"3@{gone}"), f"3@{gone}", "read", 1)
+        self.assert_refused(self.run_program("bill", gone, one), gone, "read", 1)
 
     def test_notes_of_each_input(self):
         """Of as many as a bill may have."""
@@ -257,8 +285,9 @@ class Bills(ProgramTest):
             words.append(f"{n}@{self.write(f'n{n}', noted(n))}")
             lines.append(f"tcacct: {words[-1]}: notes {n + 1} 1 {n}\n")
         self.write("quiet", THREE_2)
-        run = self.run_program("bill", "plan", *words, "quiet")
-        self.assertEqual((run.status, run.err.decode()), (0, "".join(lines)))
+        for options in ((), ("--export", "out"), ("--replicas", 1), ("--replicas", 16, "--workers", 1)):
+            run = self.run_program("bill", *options, "plan", *words, "quiet")
+            self.assertEqual((run.status, run.err.decode()), (0, "".join(lines)))
         # Where a later input is refused its line is the only one.
         self.write("cut", ONE[:64])
         self.assert_refused(self.run_program("bill", "plan", *words, "cut"), "cut", "wire", 1)

@@ -6,9 +6,10 @@ import shutil
 import struct
 import subprocess
 import threading
+from pathlib import Path
 
 from model import capture, export, statement
-from program import PROGRAM, SECONDS, ProgramTest
+from program import PROGRAM, SECONDS, TOOL, ProgramTest
 from rows import FIRST, ONE, PLAN, SECOND, STATEMENT, THIRD, THREE_2, TIME
 
 
@@ -83,6 +84,36 @@ class Files(ProgramTest):
             run = self.run_program("--help", stdout=full)
         self.assertEqual(run.status, 0)
 
+    def test_a_standard_output_that_is_closed(self):
+        """OUT doesn't take its place."""
+        self.write("statement", STATEMENT)
+        for words in (
+            ("combine", "out", "three"),
+            ("bill", "--export", "out", "plan", "three"),
+            ("meter", "rfc2697:1000:2000:1000:blind", "three"),
+            ("audit", "plan", "three", "statement"),
+        ):
+            for closed in ((1,), (0, 1), (0, 1, 2)):
+                self.write("out", b"before")
+                run = self.run_program(*words, preexec_fn=lambda: [os.close(one) for one in closed])
+                told = b"" if 2 in closed else f"tcacct: {words[0]}: write 1\n".encode()
+                self.assertEqual((run.status, run.out, run.err), (1, b"", told))
+                self.assertEqual(self.read("out"), THREE_2 if "out" in words else b"before")
+        run = self.run_program("combine", "out", "three", preexec_fn=lambda: os.close(2))
+        self.assert_done(run, b"reports 3\n")
+        self.assertEqual(self.read("out"), THREE_2)
+
+    def test_files_that_do_not_end(self):
+        """After 4,194,304 reads, of an octet each."""
+        library = self.folder / "one.so"
+        source = Path(__file__).resolve().parent / "one.c"
+        subprocess.run(["cc", "-shared", "-fPIC", "-O1", "-o", library, source, "-ldl"], check=True)
+        env = {**os.environ, "LD_PRELOAD": str(library)}
+        self.assert_done(self.run_program("bill", "plan", "three", env=env), STATEMENT)
+        self.assert_refused(self.run_program("bill", "/dev/zero", "three", env=env), "/dev/zero", "read", 2)
+        self.assert_refused(self.run_program("combine", "out", "three", "1@/dev/zero", env=env), "1@/dev/zero", "read", 2)
+        self.assertFalse(self.has("out"))
+
     def test_a_reader_that_leaves(self):
         """Standard output is a pipe that nobody reads."""
         reading, writing = os.pipe()
@@ -96,6 +127,11 @@ class Files(ProgramTest):
         self.write("y", export([SECOND, THIRD]))
         self.assert_done(self.run_program("combine", "x", "x", "y"), b"reports 3\n")
         self.assertEqual(self.read("x"), THREE_2)
+        self.assert_done(self.run_program("bill", "--export", "y", "plan", "y", "x"), STATEMENT)
+        self.assertEqual(self.read("y"), THREE_2)
+        # What no other input has.
+        self.write("x", export([FIRST]))
+        self.write("y", export([SECOND, THIRD]))
         self.assert_done(self.run_program("bill", "--export", "y", "plan", "y", "x"), STATEMENT)
         self.assertEqual(self.read("y"), THREE_2)
 
@@ -123,6 +159,10 @@ class Files(ProgramTest):
         self.write("zero", b"period = 0\n")
         self.assert_refused(self.run_program("bill", "--export", "out", "zero", "three"), "zero", "plan", 3)
         self.assertEqual(self.read("out"), b"")
+        self.write("out", b"before")
+        self.assert_refused(self.run_program("bill", "--export", "out", "plan", "three", "missing"), "missing", "read", 1)
+        self.assertEqual(self.read("out"), b"before")
+        self.assert_refused(self.run_program("bill", "--export", "none/out", "plan", "three", "missing"), "missing", "read", 1)
 
     def test_a_word_that_is_no_text(self):
         done = subprocess.run([str(PROGRAM), b"bill", b"plan", b"\xff"], cwd=self.folder, capture_output=True, timeout=SECONDS)
@@ -179,6 +219,39 @@ class Limits(ProgramTest):
         with open(self.folder / "most", "ab") as file:
             file.write(capture(7, most, [(TIME, 1500, 0, 1)]))
         self.assert_refused(self.run_program("combine", "out", "most"), "most", "log", 1)
+        self.assert_refused(self.run_program("bill", "--replicas", 1, "plan", "most"), "most", "log", 1)
+
+    def test_other_commands_of_as_many_reports_as_a_log_holds(self):
+        """In a domain that has each place twice, of two interfaces, so that all but the last two are disputed."""
+        most = 4_194_304
+        rows = (struct.pack(">QIIIIBI", TIME + n, 7, 0, n // 2 % (most // 2 - 1) if n < most - 2 else n, 1500, 0, 1 + n % 2) for n in range(most))
+        with open(self.folder / "whole", "wb") as file:
+            file.write(b"TCAX\0\2" + struct.pack(">I", most) + b"".join(rows))
+        run = self.run_program("meter", "rfc2697:0:1000000000000:0:blind", "whole")
+        self.assert_done(run, b"green 3000 2\nyellow 0 0\nred 0 0\n")
+        lines = "".join(f"7,{1 + n},{most // 2},1,1500,{TIME + n},{TIME + most - 2 + n}\n" for n in range(2))
+        self.assert_done(self.run_program("pairs", "whole", program=TOOL), f"domain,interface,reports,packets,octets,first,last\n{lines}".encode())
+        told = f"tcatool: diff: only A 0, only B 0, both {most}\n".encode()
+        self.assert_done(self.run_program("diff", "whole", "whole", program=TOOL), b"side,time,domain,session,place,octets,dscp,interface\n", told)
+        with open(self.folder / "items", "wb") as items:
+            run = self.run_program("list", "whole", program=TOOL, stdout=items)
+        self.assert_done(run, b"")
+        with open(self.folder / "items", "rb") as items:
+            self.assertEqual(sum(piece.count(b"\n") for piece in iter(lambda: items.read(1 << 20), b"")), most + 1)
+
+    def test_an_audit_of_as_many_reports_as_a_log_holds(self):
+        """The identity of the last one is below the others'."""
+        most, each = 4_194_304, 2_048
+        with open(self.folder / "most", "wb") as file:
+            for n in range(most // each):
+                file.write(capture(7, each * n, [(TIME + n, 1500, 0, 1)] * (each if n else each - 1)))
+            file.write(capture(6, 0, [(TIME + each, 1500, 0, 1)]))
+        self.write("plan", PLAN.toml())
+        run = self.run_program("bill", "--export", "whole", "plan", "most")
+        self.assertEqual((run.status, run.err), (0, b""))
+        self.assertIn(f"\nreports {most}\n".encode(), run.out)
+        self.write("statement", run.out)
+        self.assert_done(self.run_program("audit", "plan", "whole", "statement"), b"agrees\n")
 
     def test_more_repeats_than_a_log_holds(self):
         """An input may have more reports than a log where few of them differ."""
@@ -188,6 +261,21 @@ class Limits(ProgramTest):
         run = self.run_program("bill", "plan", "repeats")
         self.assertEqual((run.status, run.err), (0, b""))
         self.assertIn(b"\nreports 2048\n", run.out)
+
+    def test_a_long_export_without_sessions(self):
+        rows = [(TIME + n, 7, 0, n, 100, 0, 1) for n in range(300_000)]
+        self.write("old", export(rows, 1))
+        self.assert_done(self.run_program("combine", "out", "old"), b"reports 300000\n")
+        self.assertEqual(self.read("out"), export(rows))
+
+    def test_as_many_templates_as_a_session_holds(self):
+        """Of two domains, each told four times; one withdrawn and another one in its place; and one more."""
+        told = b"".join(message_with(b"".join(template(256 + n) for n in range(2_048)), domain) for domain in (7, 8)) * 4
+        told += message_with(withdrawal(300) + template(3_000))
+        self.write("capture", told + ONE)
+        self.assert_done(self.run_program("combine", "out", "capture"), b"reports 1\n")
+        self.write("more", told + message_with(template(9_000)))
+        self.assert_refused(self.run_program("combine", "out", "more"), "more", "decode", 5)
 
     def test_as_many_sets_as_a_message_holds(self):
         self.write("capture", message_with(struct.pack(">HH", 4, 4) * 16_379) + ONE)

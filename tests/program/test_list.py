@@ -138,12 +138,20 @@ class Lists(ToolTest):
         report = (TIME + 2, 7, 3, 250, 60, 0, 1)
         self.assert_done(self.run_tool("list", "3@n"), HEADER + line(report, "settled").encode())
 
+    def test_many_inputs(self):
+        rows = [(TIME + n, 7, 0, n, 100 + n, 0, n) for n in range(300)]
+        names = [self.write(f"n{n}", export([row])) for n, row in enumerate(rows)]
+        self.write("plan", PLAN.toml())
+        self.assert_done(self.run_tool("list", *names), HEADER + lines_of(None, rows))
+        self.assert_done(self.run_tool("list", "--plan", "plan", *names), HEADER + lines_of(PLAN, rows))
+
     def test_refusals(self):
         self.write("plan", PLAN.toml())
         self.write("wrong", b"period = 0\n")
         self.write("a", export(THREE))
         self.write("cut", THREE_2[:96])
         self.assert_tool_refused(self.run_tool("list", "--plan", "wrong", "cut"), "wrong", "plan", 3)
+        self.assert_tool_refused(self.run_tool("list", "--plan", "wrong", "missing"), "missing", "read", 1)
         self.assert_tool_refused(self.run_tool("list", "--plan", "absent", "missing"), "absent", "read", 1)
         self.assert_tool_refused(self.run_tool("list", "--plan", "plan", "a", "missing"), "missing", "read", 1)
         self.assert_tool_refused(self.run_tool("list", "--plan", "plan", "a", "cut"), "cut", "export", 4)

@@ -93,7 +93,7 @@ class Growths(ProgramTest):
                 self.assertIn(word, reads)
 
     def check_run(self, words, out, files, all_after, reads, program=PROGRAM, err=b""):
-        """Each growth of this run refused: it writes what it writes, or says in its own name that it lacks memory and has written nothing."""
+        """Each growth of this run refused: it writes what it writes, or says in its own name that it lacks memory and has written nothing. Gives what it said."""
         name_of_it, told = b"tcatool: " if program == TOOL else b"tcacct: ", []
         for number in range(1, MOST_GROWTHS):
             for name in files:
@@ -121,6 +121,16 @@ class Growths(ProgramTest):
         if not all_after:
             self.assertIn(name_of_it + name_of_it + b"memory 1\n", told)
             self.check_words(told, reads)
+        return told
+
+    def test_of_a_bill_by_one_worker(self):
+        """A thread that isn't started and what the workers need are told of the command, and what a job needs of its input. By one worker each run asks for the same."""
+        self.write("plan", PLAN.toml())
+        self.write("reports", THREE_2)
+        told = self.check_run(["bill", "--replicas", "1", "--workers", "1", "plan", "reports"], STATEMENT, {}, False, ["plan", "reports"])
+        lines = ["bill: memory 1", "bill: work 3", "bill: work 5", "plan: plan 8", "plan: read 3", "tcacct: memory 1"]
+        lines += [f"reports: {fault}" for fault in ("log 2", "memory 1", "read 3", "share 3")]
+        self.assertEqual(set(told), {f"tcacct: {line}\n".encode() for line in lines})
 
     def test_of_the_program(self):
         self.write("plan", PLAN.toml())
@@ -159,6 +169,8 @@ class Growths(ProgramTest):
         sides = b"side,time,domain,session,place,octets,dscp,interface\n"
         same = b"tcatool: diff: only A 0, only B 0, both 3\n"
         page = (HERE / "page.html").read_bytes()
+        of_a_statement = ("read 3", "statement 5")
+        wants = {"plan": ("read 3", "plan 8"), "reports": ("read 3", "memory 1", "log 2"), "statement": of_a_statement, "none": of_a_statement}
         for all_after in (False, True):
             for words, out, files, err, reads in (
                 (["pairs", "reports"], pairs, {}, b"", ["reports"]),
@@ -171,7 +183,11 @@ class Growths(ProgramTest):
                 (["add", "statement", "none"], STATEMENT, {}, b"", ["statement", "none"]),
             ):
                 with self.subTest(words=words, all_after=all_after):
-                    self.check_run(words, out, files, all_after, reads, TOOL, err)
+                    told = self.check_run(words, out, files, all_after, reads, TOOL, err)
+                    if not all_after:
+                        # What each file lacks memory for, and what the command and the program do.
+                        lines = ["tcatool: memory 1", f"{words[0]}: memory 1", *(f"{name}: {fault}" for name in reads for fault in wants[name])]
+                        self.assertEqual(set(told), {f"tcatool: {line}\n".encode() for line in lines})
 
     def test_of_a_split(self):
         """Want of memory leaves no file. Where the folder lacked it for a file's path, that is a failed write, and may leave files that were begun."""

@@ -120,6 +120,15 @@ class AnyStatements(ToolTest):
         self.write("more", statement(3_600_000, accounts + [("more", [])]))
         self.assert_tool_refused(self.run_tool("add", "more"), "more", "statement", 1)
 
+    def test_a_month_of_hours(self):
+        numbers = random.Random(23)
+        accounts = [(f"account_{n}", [(index, any_sums(numbers)) for index in range(744)]) for n in range(3)]
+        octets = statement(3_600_000, accounts)
+        self.assert_tells(octets, "table", table(3_600_000, accounts))
+        self.assert_tells(octets, "json", as_json(3_600_000, accounts))
+        twice = [(name, [(index, tuple(2 * number for number in sums)) for index, sums in spans]) for name, spans in accounts]
+        self.assert_done(self.run_tool("add", "statement", "statement"), statement(3_600_000, twice, reports=6))
+
     def test_the_longest_period(self):
         accounts = [("alpha", [(0, ONE), (1, ONE)])]
         octets = statement(2**48 - 1, accounts)
@@ -147,10 +156,25 @@ class WholePages(ToolTest):
         self.assertEqual(self.page_of(statement(3_600_000, ROW)), (HERE / "page.html").read_bytes())
 
     def test_counts(self):
-        rows = self.tree_of(statement(250, ROW, 2**64 - 1, 5, 6)).findall(".//div[@class='counts wide']/table/tbody/tr")
-        told = [(row.find("th").text, row.find("td").text.replace("\u00a0", " ").replace("\u202f", " ")) for row in rows]
-        wanted = [("Length of a period", "250 ms"), ("Reports", "18 446 744 073 709 551 615"), ("Disputed identities", "5"), ("Reports of no account", "6")]
-        self.assertEqual(told, wanted)
+        most = 2**64 - 1
+        for counts in ((250, most, 5, 6), (2**48 - 1, most, most - 1, most - 2)):
+            period, *others = counts
+            rows = self.tree_of(statement(period, [("alpha", [(0, ONE)])], *others)).findall(".//div[@class='counts wide']/table/tbody/tr")
+            told = [(row.find("th").text, row.find("td").text.replace("\u00a0", " ").replace("\u202f", " ")) for row in rows]
+            texts = [f"{number:,}".replace(",", " ") for number in counts]
+            names = ("Length of a period", "Reports", "Disputed identities", "Reports of no account")
+            self.assertEqual(told, list(zip(names, [texts[0] + " ms", *texts[1:]], strict=True)))
+
+    def test_most_accounts_of_the_longest_names(self):
+        """The last one has no packets."""
+        accounts = [(f"account_{n:024}", [(n, ONE)] if n < 255 else []) for n in range(256)]
+        sections = self.tree_of(statement(3_600_000, accounts)).findall(".//section")
+        for section, (name, spans) in zip(sections, accounts, strict=True):
+            whole = total(spans)
+            cells = [re.sub(r"\D", "", cell.text) for cell in section.findall(".//tbody/tr/td")]
+            self.assertEqual((section.find("h2").text, cells), (name, [str(number) for number in (*whole, sum(whole[::2]), sum(whole[1::2]))]))
+            labels = [picture.get("aria-label") for picture in section.findall("figure/svg")]
+            self.assertEqual(labels, [f"Octets of {name} in each period"] if spans else [])
 
     def test_moments_below_the_bars(self):
         """The first period's, the middle one's and the last one's."""

@@ -1,7 +1,9 @@
 """How far a long command is, by `--progress`: a small library before the C library is the clock."""
 import os
 import random
+import resource
 import shutil
+import signal
 import subprocess
 import tempfile
 from pathlib import Path
@@ -24,10 +26,10 @@ class Progress(ProgramTest):
         source = Path(__file__).resolve().parent / "clock.c"
         subprocess.run(["cc", "-shared", "-fPIC", "-O1", "-o", cls.library, source], check=True)
 
-    def run_by_clock(self, step, *words):
+    def run_by_clock(self, step, *words, **options):
         """A run whose clock goes on by so many milliseconds each time it is asked: at the start, and then at each piece."""
         settings = {**os.environ, "LD_PRELOAD": str(self.library), "STEP": str(step)}
-        return self.run_program(*words, program=TOOL, env=settings)
+        return self.run_program(*words, program=TOOL, env=settings, **options)
 
     def split(self, step, *options):
         """What is told of a split of 8 MiB and a half, by a link to it, whose files are there as without a clock."""
@@ -87,6 +89,29 @@ class Progress(ProgramTest):
             self.assertEqual((run.status, run.out, run.err), (1, b"", b"tcatool: " + line + b"\n"))
         self.assertFalse(self.has("none"))
         self.assertEqual(self.read("out"), b"")
+
+    def test_a_standard_error_that_is_closed(self):
+        """OUT doesn't take its place."""
+        self.write("statement", statement(3_600_000, ROW))
+        run = self.run_by_clock(1000, "page", "--progress", "out", "statement", preexec_fn=lambda: os.close(2))
+        self.assert_done(run, b"")
+        self.assertEqual(self.read("out"), (Path(__file__).resolve().parent / "page.html").read_bytes())
+
+    def test_a_page_that_is_cut_off(self):
+        """Of a write that takes less than it is given what it took is told; the next one fails."""
+        numbers, most = random.Random(22), MEBIBYTE * 3 // 2
+        self.write("statement", statement(3_600_000, [(f"account_{n}", [(span, any_sums(numbers)) for span in range(4500)]) for n in range(3)]))
+        self.run_program("page", "out", "statement", program=TOOL)
+        whole = self.read("out")
+
+        def limit():
+            signal.signal(signal.SIGXFSZ, signal.SIG_IGN)
+            resource.setrlimit(resource.RLIMIT_FSIZE, (most, most))
+
+        run = self.run_by_clock(1000, "page", "--progress", "out", "statement", preexec_fn=limit)
+        told = f"tcatool: page: 1 of {len(whole) // MEBIBYTE} MiB\n" * 2 + "tcatool: page: write 1\n"
+        self.assertEqual((run.status, run.out, run.err.decode()), (1, b"", told))
+        self.assertEqual(self.read("out"), whole[:most])
 
     def test_a_page(self):
         """A line at each so many-th piece of it, of which each has a mebibyte but the last."""

@@ -71,6 +71,21 @@ class Splitting(ProgramTest):
         self.assertEqual((run.status, run.out, run.err), (1, b"", b"tcatool: split: write 1\n"))
         self.assertEqual(os.listdir(self.folder / "parts"), ["7.ipfix"])
 
+    def test_a_folder_of_a_parts_name(self):
+        self.write("capture", message(5) + ONE)
+        (self.folder / "parts/7.ipfix").mkdir()
+        run = self.split("parts", "capture")
+        self.assertEqual((run.status, run.out, run.err), (1, b"", b"tcatool: split: write 1\n"))
+        self.assertEqual(os.listdir(self.folder / "parts"), ["7.ipfix"])
+
+    def test_names_that_are_not_ascii(self):
+        (self.folder / "parts").rename(self.folder / "Stücke β")
+        self.write("fänge", ONE)
+        self.assert_done(self.split("Stücke β", "fänge"), b"domains 1\nmessages 1\n")
+        self.assertEqual(self.read("Stücke β/7.ipfix"), ONE)
+        run = self.split("Stücke β", "ü")
+        self.assertEqual((run.status, run.out, run.err), (1, b"", "tcatool: ü: read 1\n".encode()))
+
     def split_beside(self, preexec_fn=None, **settings):
         """A split beside another program, which a small library before the C library is."""
         library = self.folder / "between.so"
@@ -218,6 +233,31 @@ class Splitting(ProgramTest):
             for name in self.parts():
                 (self.folder / "parts" / name).unlink()
 
+    def test_domains_that_are_alike_in_part(self):
+        """In their low octets, or in their high ones."""
+        domains = [7, 7 + (1 << 8), 7 + (1 << 16), 7 + (1 << 24), 7 + (1 << 31), 0, 1 << 16, 2**32 - 1]
+        messages = [message(domain, bytes([n])) for n in range(3) for domain in domains]
+        self.write("capture", b"".join(messages))
+        self.assert_split(messages, self.split("parts", "capture"))
+
+    def test_a_capture_that_is_cut_far_within_a_message(self):
+        """One that began in the same piece of 65,536 octets, and one that began in the piece before."""
+        long = message(7, bytes(40_000))
+        for whole in (ONE + message(7, bytes(1_000)), long + long):
+            self.write("capture", whole[:-1])
+            self.assert_refused_by(self.split("parts", "capture"), "capture", "wire", 1)
+
+    def test_many_messages(self):
+        messages = [message(n % 3, n.to_bytes(4, "big")) for n in range(70_000)]
+        self.write("capture", b"".join(messages))
+        self.assert_split(messages, self.split("parts", "capture"))
+
+    def test_one_open_part_at_a_time(self):
+        """Beside the three standard files and the two readings of the capture."""
+        messages = [message(domain, bytes([n])) for n in range(3) for domain in range(5)]
+        self.write("capture", b"".join(messages))
+        self.assert_split(messages, self.split("parts", "capture", preexec_fn=lambda: resource.setrlimit(resource.RLIMIT_NOFILE, (6, 6))))
+
     def test_few_open_files(self):
         """Files that aren't open any more are opened again, also amid a domain, and each at most so often as its buffer is full."""
         library = self.folder / "openings.so"
@@ -245,6 +285,13 @@ class Splitting(ProgramTest):
         self.assert_done(run, b"domains 3\nmessages 768\n")
         self.assertEqual(self.parts(), {f"{domain}.ipfix": parts[domain] * 256 for domain in range(3)})
 
+    def test_a_capture_of_more_than_4_gib(self):
+        """Its second message is none, so that only its first piece is read."""
+        with open(self.folder / "capture", "wb") as capture:
+            capture.write(ONE)
+            capture.truncate((4 << 30) + 1)
+        self.assert_refused_by(self.split("parts", "capture"), "capture", "wire", 2)
+
     def test_output_that_fails(self):
         """The files are whole then."""
         self.write("capture", ONE + OTHER_DOMAIN)
@@ -252,6 +299,15 @@ class Splitting(ProgramTest):
             run = self.split("parts", "capture", stdout=full)
         self.assertEqual((run.status, run.err), (1, b"tcatool: split: write 1\n"))
         self.assertEqual(self.parts(), {"7.ipfix": ONE, "9.ipfix": OTHER_DOMAIN})
+
+    def test_a_standard_output_that_is_closed(self):
+        """No part takes its place."""
+        self.write("capture", ONE + OTHER_DOMAIN)
+        for closed in ((1,), (0, 1)):
+            run = self.split("parts", "capture", preexec_fn=lambda: [os.close(one) for one in closed])
+            self.assert_refused_by(run, "split", "write", 1, {"7.ipfix": ONE, "9.ipfix": OTHER_DOMAIN})
+            for name in self.parts():
+                (self.folder / "parts" / name).unlink()
 
     def test_a_late_write_that_fails(self):
         def limit():

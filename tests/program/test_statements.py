@@ -110,6 +110,15 @@ class Sums(ToolTest):
         both = STATEMENT.replace(b"reports 3", b"reports 9").replace(b"total 1500 1 1000 1 800 1\nspan 472222 1500 1 1000 1 800 1\n", total)
         self.assert_done(self.run_tool("add", "s", "later", "s"), both)
 
+    def test_many_statements(self):
+        """Faults name those far behind."""
+        names = [self.write(f"s{n}", STATEMENT) for n in range(300)]
+        whole = STATEMENT.replace(b"reports 3", b"reports 900").replace(b"1500 1 1000 1 800 1", b"450000 300 300000 300 240000 300")
+        self.assert_done(self.run_tool("add", *names), whole)
+        self.write("cut", STATEMENT[:-1])
+        self.assert_tool_refused(self.run_tool("add", *names, "cut"), "cut", "statement", 1)
+        self.assert_tool_refused(self.run_tool("add", *names, "missing"), "missing", "read", 1)
+
     def test_refusals(self):
         self.write("s", STATEMENT)
         self.write("period", STATEMENT.replace(b"period 3600000", b"period 3600001"))
@@ -126,6 +135,7 @@ class Sums(ToolTest):
         self.assert_tool_refused(self.run_tool("add", "s", "most", "cut"), "most", "statement", 4)
         self.assert_tool_refused(self.run_tool("add", "s", "missing"), "missing", "read", 1)
         self.assert_tool_refused(self.run_tool("add", "absent", "missing"), "absent", "read", 1)
+        self.assert_tool_refused(self.run_tool("add", "cut", "missing"), "missing", "read", 1)
         self.assert_done(self.run_tool("add", "most"), STATEMENT.replace(b"1500 1", most + b" 1"))
 
 

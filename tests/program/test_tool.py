@@ -168,6 +168,14 @@ class Pairs(ToolTest):
         self.write("a", export([]))
         self.assert_done(self.run_tool("pairs", "a"), PAIRS)
 
+    def test_many_inputs(self):
+        """Each has a pair of its own."""
+        rows = [(TIME + n, 7, 0, n, 100 + n, 0, n) for n in range(300)]
+        names = [self.write(f"n{n}", export([row])) for n, row in enumerate(rows)]
+        lines = "".join(f"7,{n},1,1,{100 + n},{TIME + n},{TIME + n}\n" for n in range(300))
+        self.assert_done(self.run_tool("pairs", *names), PAIRS + lines.encode())
+        self.assert_tool_refused(self.run_tool("pairs", *names, "missing"), "missing", "read", 1)
+
     def test_repeats(self):
         self.write("a", THREE_1)
         self.write("one", ONE + ONE)

@@ -573,6 +573,22 @@ fn refuses(alloc: Global, log: &mut Log, new: Report, old: Report) -> bool {
     alone && new == Err(LogFault::Full) && old == Ok(0) && log.len() == LIMIT
 }
 
+// A shared list, in its order and against it.
+fn refuses_lists(
+    alloc: Global,
+    log: &mut Log,
+    new: Report,
+    old: Report,
+) -> Result<bool, AllocError> {
+    for given in [[old, new], [new, old]] {
+        let given = Vec::from_slice(alloc, &given)?;
+        if log.add_list(Items::of(alloc, given)?) != Err(LogFault::Full) {
+            return Ok(false);
+        }
+    }
+    Ok(log.len() == LIMIT)
+}
+
 // Through the trait alone.
 fn join_refused<J: Join>(value: &mut J, other: &J) -> Option<JoinFault> {
     value.join_from(other).err()
@@ -597,6 +613,7 @@ fn a_full_log_refuses_what_is_new_long(rt: HostRuntime) -> Result<(), Fail> {
     let mut log = Log::new(rt.alloc());
     assert!(rt; fill(&mut log));
     assert!(rt; refuses(rt.alloc(), &mut log, new, old));
+    assert!(rt; refuses_lists(rt.alloc(), &mut log, new, old)?);
     assert!(rt; refuses_union(rt.alloc(), &mut log, new));
     Ok(())
 }

@@ -171,12 +171,12 @@ fn a_long_list_with_each_report_twice_is_taken(rt: HostRuntime) {
     assert!(rt; goes_twice(rt.alloc()) == Some(true));
 }
 
-// Whether no book is kept, one is once it is asked for, and the bill stays.
+// Whether no book is kept, one is once it is asked for, once more too, and the bill stays.
 fn gets_book(one: &mut Replica) -> bool {
     let Ok(before) = one.totals() else {
         return false;
     };
-    if one.keeps_book() || one.keep_book().is_err() {
+    if one.keeps_book() || one.keep_book().is_err() || one.keep_book().is_err() {
         return false;
     }
     let Ok(after) = one.totals() else {

@@ -2,9 +2,10 @@
 use super::outcomes::{Outcome, absorbed, holds, merged, took};
 use super::{Play, Row, delta, goes, in_row, reports};
 use std::alloc::Global;
-use tca_gossip::Replica;
-use tca_join::JoinFault;
+use tca_gossip::{Delta, Replica, Run};
+use tca_join::{Items, JoinFault};
 use tca_log::LogFault;
+use tca_report::Report;
 
 const LIMIT: u32 = 4_194_304;
 
@@ -59,4 +60,52 @@ impl Play for AtTheLimit {
 #[test]
 fn a_full_replica_stops_before_what_is_new_long(rt: HostRuntime) {
     assert!(rt; goes(rt.alloc(), (1, 3), &AtTheLimit {}) == Some(true));
+}
+
+#[derive(Drop)]
+struct PastTheLimit {}
+
+// Reports that no full replica has.
+fn new_ones(alloc: Global) -> Option<Vec<Report>> {
+    in_row(alloc, 5_000_000, 600_000)
+}
+
+fn takes_one(alloc: Global, one: &mut Replica) -> bool {
+    match new_ones(alloc) {
+        Some(list) => took(&one.take(&list)) == Outcome::Took(1, 1, Some(LogFault::Full)),
+        None => false,
+    }
+}
+
+// A delta of them, from the start of an origin.
+fn long_delta(alloc: Global) -> Option<Delta> {
+    let list = new_ones(alloc)?;
+    let reports = Items::of(alloc, list).ok()?;
+    let mut runs = Vec::new(alloc);
+    let run = Run {
+        origin: 2,
+        start: 0,
+        reports,
+    };
+    runs.push(run).ok()?;
+    Delta::of(runs)
+}
+
+fn absorbs_one(alloc: Global, two: &mut Replica) -> bool {
+    match long_delta(alloc) {
+        Some(sent) => absorbed(&two.absorb(&sent)) == Outcome::Stopped(1, LogFault::Full),
+        None => false,
+    }
+}
+
+impl Play for PastTheLimit {
+    fn play(&self, alloc: Global, one: &mut Replica, two: &mut Replica) -> Option<bool> {
+        let takes = fill(alloc, one) && takes_one(alloc, one);
+        Some(takes && fill(alloc, two) && absorbs_one(alloc, two))
+    }
+}
+
+#[test]
+fn long_lists_stop_where_there_is_no_room_long(rt: HostRuntime) {
+    assert!(rt; goes(rt.alloc(), (1, 3), &PastTheLimit {}) == Some(true));
 }

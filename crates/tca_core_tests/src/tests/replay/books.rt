@@ -128,6 +128,24 @@ fn a_late_report_is_metered_in_its_term(rt: HostRuntime) -> Result<(), Fail> {
     Ok(())
 }
 
+// How many rows a new book meters that is to fit the log of these reports.
+fn refitted(alloc: Global, rows: &[(u32, u32, u32)]) -> Result<u64, Fail> {
+    let mut log = Log::new(alloc);
+    for row in rows {
+        let (place, late, octets) = *row;
+        log.add(report(place, late, octets, 0).ok_or("a report")?)?;
+    }
+    let plan = Plan::from_text(alloc, PLAN.as_bytes())?;
+    let mut book = Book::new(alloc, plan, 1)?;
+    Ok(book.refit(alloc, &log)?.steps)
+}
+
+#[test]
+fn a_refit_meters_each_row_once(rt: HostRuntime) -> Result<(), Fail> {
+    assert!(rt; refitted(rt.alloc(), &FIRST)? == 3);
+    Ok(())
+}
+
 pub(super) fn some_reports(alloc: Global, numbers: &mut Numbers) -> Result<Vec<Report>, Fail> {
     let mut list = Vec::new(alloc);
     for _ in 0..numbers.below(40) {
