@@ -27,6 +27,7 @@ HOLDS = {
     "tca_ingest_tests": (
         "tests::memory::a_take_that_was_refused_is_completed",
         "tests::memory::a_statement_lacks_memory_only_beside_a_book",
+        "tests::memory::a_call_that_is_refused_a_growth_says_so",
         "tests::jobs_memory::workers_that_were_refused_close",
         "tests::jobs_memory::workers_that_were_refused_close_at_once",
         "tests::jobs_memory::a_worker_that_was_refused_its_thread_does_nothing",

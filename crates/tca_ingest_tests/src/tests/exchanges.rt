@@ -169,7 +169,7 @@ fn two_replicas_with_a_pass_each_tell_each_other(rt: HostRuntime) {
     assert!(rt; tells_by_one_pass::<Brand, Brand, _>(&rt, rt.alloc(), one, two));
 }
 
-// Whether a replica that is told by itself what it took appends nothing.
+// Whether a replica that is told by itself, before it took reports and then what it took, appends nothing.
 fn tells_itself<L: Side, R: Wait>(rt: &R, alloc: Global, shared: &Shared<L>) -> bool {
     let Ok(mut mine) = shared.pass(rt) else {
         return false;
@@ -177,9 +177,10 @@ fn tells_itself<L: Side, R: Wait>(rt: &R, alloc: Global, shared: &Shared<L>) -> 
     let Ok(mut theirs) = shared.pass(rt) else {
         return false;
     };
+    let early = tells(rt, (shared, &mut mine), (shared, &mut theirs), 3, 0);
     let taken = take(rt, alloc, shared, &mut mine, &[FIRST, SECOND]);
-    let told = tells(rt, (shared, &mut mine), (shared, &mut theirs), 4, 0);
-    taken == Some(1) && told && has_made(rt, shared, 2)
+    let told = tells(rt, (shared, &mut mine), (shared, &mut theirs), 7, 0);
+    early && taken == Some(4) && told && has_made(rt, shared, 2)
 }
 
 fn is_told_by_itself<L: Side, R: Wait>(

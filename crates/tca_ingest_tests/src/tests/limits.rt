@@ -2,15 +2,16 @@
 ghost use Rattle.std.specs.Prelude.{◌≡◌};
 
 use super::jobs::exports;
-use super::{FIRST, PARTS, alone, lengths, plan, with_one_more};
+use super::{FIRST, PARTS, alone, has_made, lengths, plan, with_one_more};
 use std::alloc::Global;
 use std::marker::Brand;
 use std::sync::Wait;
+use std::sync::atomic::{AtomicU64, Ordering};
 use std::sync::ledger::Blank;
 use std::thread::Threads;
 use tca_accounts::Plan;
 use tca_gossip::{Delta, Summary};
-use tca_ingest::{JobFault, NoGate, Pass, ShareFault, Shared, Side, exchange, work};
+use tca_ingest::{Gate, JobFault, Pass, ShareFault, Shared, Side, exchange, work};
 use tca_join::ByKey;
 
 // Makes passes, and answers whether they have the numbers from 0 on.
@@ -99,28 +100,38 @@ fn is_full<L: Side, R: Wait>(
     refused == [Some(ShareFault::JournalFull); 5] && pass.calls().len() == 524_288
 }
 
-// Whether two passes fill the journal, and then no more is noted.
-fn is_filled<L: Side, R: Wait>(
+// Whether two passes fill the journal, and then no more is noted. The summary of an exchange takes the last place, so that the other
+// replica sends, and the absorb is refused.
+fn is_filled<I: Side, F: Side, R: Wait>(
     rt: &R,
     alloc: Global,
-    shared: &Shared<L>,
-    first: &mut Pass<L>,
-    second: &mut Pass<L>,
+    shared: &Shared<I>,
+    passes: (&mut Pass<I>, &mut Pass<I>),
+    empty: (&Shared<F>, &mut Pass<F>),
 ) -> bool {
+    let ((first, second), (other, theirs)) = (passes, empty);
     let half = asks(rt, shared, first, 524_288);
-    let other = asks(rt, shared, second, 524_288);
-    half && other && is_full(rt, alloc, shared, first)
+    let less = asks(rt, shared, second, 524_287);
+    let refused = exchange(rt, shared, second, other, theirs).err();
+    let noted = (second.calls().len(), theirs.calls().len()) == (524_288, 1);
+    let exchanged = refused == Some(ShareFault::JournalFull) && noted;
+    half && less && exchanged && is_full(rt, alloc, shared, first)
 }
 
 // The passes that filled the journal.
-fn filled<L: Side, R: Wait>(rt: &R, alloc: Global, shared: &Shared<L>) -> Option<Vec<Pass<L>>> {
+fn filled<I: Side, F: Side, R: Wait>(
+    rt: &R,
+    alloc: Global,
+    shared: &Shared<I>,
+    empty: (&Shared<F>, &mut Pass<F>),
+) -> Option<Vec<Pass<I>>> {
     let Ok(mut first) = shared.pass(rt) else {
         return None;
     };
     let Ok(mut second) = shared.pass(rt) else {
         return None;
     };
-    if !is_filled(rt, alloc, shared, &mut first, &mut second) {
+    if !is_filled(rt, alloc, shared, (&mut first, &mut second), empty) {
         return None;
     }
     let Ok(one) = alone(alloc, first) else {
@@ -129,7 +140,27 @@ fn filled<L: Side, R: Wait>(rt: &R, alloc: Global, shared: &Shared<L>) -> Option
     with_one_more(one, second).ok()
 }
 
-// Whether a worker's job, whose input is good, is refused for the journal.
+// Counts what it is told of jobs: one before, ten inside and a hundred after.
+#[derive(Drop)]
+struct Counting {
+    told: AtomicU64,
+}
+
+impl Gate for Counting {
+    fn before(&self, _job: u32) {
+        self.told.fetch_add(1, Ordering::SeqCst);
+    }
+
+    fn inside(&self, _job: u32) {
+        self.told.fetch_add(10, Ordering::SeqCst);
+    }
+
+    fn after(&self, _job: u32) {
+        self.told.fetch_add(100, Ordering::SeqCst);
+    }
+}
+
+// Whether a worker's job, whose input is good, is refused for the journal, and a gate told of each part of it.
 fn refuses_a_job<L: Side + Send + Sync, R: Threads + Wait + Sync>(
     rt: &R,
     alloc: Global,
@@ -138,16 +169,20 @@ fn refuses_a_job<L: Side + Send + Sync, R: Threads + Wait + Sync>(
     let Some(inputs) = exports(alloc, &[FIRST]) else {
         return false;
     };
-    let Ok(worked) = work(rt, alloc, shared, &inputs, &NoGate, 1) else {
+    let gate = Counting {
+        told: AtomicU64::new(0),
+    };
+    let Ok(worked) = work(rt, alloc, shared, &inputs, &gate, 1) else {
         return false;
     };
-    match worked.done.as_slice() {
+    let refused = match worked.done.as_slice() {
         [done] => match &done.result {
             Err(fault) => *fault == JobFault::Share(ShareFault::JournalFull),
             Ok(_) => false,
         },
         _ => false,
-    }
+    };
+    refused && gate.told.load(Ordering::SeqCst) == 111
 }
 
 // Whether an exchange is refused for the journal of the replica that is to send, and for that of one that is to ask.
@@ -159,42 +194,47 @@ fn refuses_exchanges<I: Side, F: Side, R: Wait>(
     let ((shared, pass), (other, mine)) = (full, empty);
     let sends = exchange(rt, other, mine, shared, pass).err();
     let asks = exchange(rt, shared, pass, other, mine).err();
-    [sends, asks] == [Some(ShareFault::JournalFull); 2] && mine.calls().len() == 1
+    [sends, asks] == [Some(ShareFault::JournalFull); 2] && mine.calls().len() == 2
 }
 
-// Whether an empty replica is refused for the journal of this one, and closes with the summary that it asked by.
+// Whether an empty replica is refused for the journal of this one, and closes with what it sent and the summary that it asked by.
 fn exchanges_with_none<I: Side, F: Side, R: Wait>(
     rt: &R,
     alloc: Global,
     full: (&Shared<I>, &mut Pass<I>),
     empty: Shared<F>,
+    pass: Pass<F>,
 ) -> bool {
-    let Ok(mut mine) = empty.pass(rt) else {
-        return false;
-    };
+    let mut mine = pass;
     let refused = refuses_exchanges(rt, full, (&empty, &mut mine));
+    let made = has_made(rt, &empty, 1);
     let Ok(passes) = alone(alloc, mine) else {
         return false;
     };
-    refused && lengths(empty, passes) == Some((1, 0))
+    refused && made && lengths(empty, passes) == Some((2, 0))
 }
 
-// Two passes fill the journal, no job and no exchange gets by it, and they close.
+// Two passes fill the journal, no job and no exchange gets by it, and they close. What is refused takes no number of a pass: the two and
+// the worker's were made.
 fn fills<I: Side + Send + Sync, F: Side, R: Threads + Wait + Sync>(
     rt: &R,
     alloc: Global,
     shared: Shared<I>,
     empty: Shared<F>,
 ) -> bool {
-    let Some(mut passes) = filled(rt, alloc, &shared) else {
+    let Ok(mut mine) = empty.pass(rt) else {
+        return false;
+    };
+    let Some(mut passes) = filled(rt, alloc, &shared, (&empty, &mut mine)) else {
         return false;
     };
     let refused = refuses_a_job(rt, alloc, &shared);
     let told = match passes.first_mut() {
-        Some(pass) => exchanges_with_none(rt, alloc, (&shared, pass), empty),
+        Some(pass) => exchanges_with_none(rt, alloc, (&shared, pass), empty, mine),
         None => false,
     };
-    refused && told && lengths(shared, passes) == Some((1_048_576, 0))
+    let made = has_made(rt, &shared, 3);
+    refused && told && made && lengths(shared, passes) == Some((1_048_576, 0))
 }
 
 fn fills_the_journal<I: Side + Send + Sync, F: Side, R: Threads + Wait + Sync>(

@@ -1,10 +1,11 @@
 //! Takes that may be refused a growth, and the same takes again. They are run with each growth refused in turn, once each: where no entry
-//! was made nothing changed, else the entry names what is held; one of the two takes is completed; and the replica can be closed. And a
-//! statement that is made without a book where there is no memory for one.
+//! was made nothing changed, else the entry names what is held; one of the two takes is completed; and the replica can be closed. A
+//! statement that is made without a book where there is no memory for one; and each other call, which says what it lacks.
 ghost use Rattle.std.specs.Prelude.{◌≡◌};
 
 use super::{
-    FIRST, PARTS, SECOND, THIRD, closed_with, has_list, is_of_three, plan, report_of, reports,
+    FIRST, PARTS, SECOND, THIRD, closed_with, has_list, has_made, is_of_three, plan, report_of,
+    reports,
 };
 use std::alloc::{AllocError, Global};
 use std::marker::Brand;
@@ -12,7 +13,8 @@ use std::sync::Wait;
 use std::sync::ledger::Blank;
 use std::test::Fail;
 use tca_accounts::{Bill, Plan};
-use tca_ingest::{Entry, Pass, Receipt, ShareFault, Shared, Side};
+use tca_ingest::{Entry, Pass, Receipt, ShareFault, Shared, Side, exchange};
+use tca_join::ByKey;
 use tca_log::LogFault;
 use tca_report::Report;
 
@@ -106,14 +108,15 @@ fn closes<L: Side>(shared: Shared<L>, passes: Vec<Pass<L>>, list: &[Report]) -> 
     has_list(&closed.replica, list) && is_right(&closed.replica.totals())
 }
 
-// Takes the three rows twice, and closes.
+// Takes the three rows twice, by one pass, and closes.
 fn twice<L: Side, R: Wait>(rt: &R, alloc: Global, shared: Shared<L>) -> Result<bool, Fail> {
     let mut passes = Vec::with_capacity(alloc, 1)?;
     let list = reports(alloc, &[FIRST, SECOND, THIRD]).ok_or("reports")?;
     let mut pass = shared.pass(rt)?;
     let taken = are_taken(rt, &shared, &mut pass, &list);
+    let made = has_made(rt, &shared, 1);
     passes.push(pass)?;
-    Ok(taken && closes(shared, passes, &list))
+    Ok(taken && made && closes(shared, passes, &list))
 }
 
 fn takes_again<L: Side, R: Wait>(
@@ -189,5 +192,65 @@ fn states_a_long_list<L: Side, R: Wait>(
 fn a_statement_lacks_memory_only_beside_a_book(rt: HostRuntime) -> Result<(), Fail> {
     let plan = plan(rt.alloc())?;
     assert!(rt; states_a_long_list::<Brand, _>(&rt, rt.alloc(), Blank::new(PARTS), 1, plan)?);
+    Ok(())
+}
+
+// States, sends all that it holds, absorbs it, and tells itself.
+fn calls_each<L: Side, R: Wait>(
+    rt: &R,
+    alloc: Global,
+    shared: &Shared<L>,
+    mine: &mut Pass<L>,
+    theirs: &mut Pass<L>,
+) -> Result<(), ShareFault> {
+    shared.statement(rt, mine)?;
+    let sent = shared.delta(rt, theirs, &ByKey::new(alloc))?;
+    let Entry::Sent { delta, .. } = sent.entry else {
+        unreachable!();
+    };
+    shared.absorb(rt, mine, &delta)?;
+    exchange(rt, shared, mine, shared, theirs)?;
+    Ok(())
+}
+
+// Whether each call on a replica of three rows is made, or says that it lacks memory and takes no number of a pass; then it closes.
+fn lacks_memory_alone<L: Side, R: Wait>(
+    rt: &R,
+    alloc: Global,
+    shared: Shared<L>,
+) -> Result<bool, Fail> {
+    let mut passes = Vec::with_capacity(alloc, 2)?;
+    let list = reports(alloc, &[FIRST, SECOND, THIRD]).ok_or("reports")?;
+    let mut mine = shared.pass(rt)?;
+    let mut theirs = shared.pass(rt)?;
+    shared.take(rt, &mut mine, &list)?;
+    let refused = calls_each(rt, alloc, &shared, &mut mine, &mut theirs).err();
+    let made = has_made(rt, &shared, 2);
+    passes.push(mine)?;
+    passes.push(theirs)?;
+    let is_told = refused == None || refused == Some(ShareFault::Memory);
+    Ok(is_told && made && closed_with(shared, passes).is_some())
+}
+
+fn calls_lack_memory_alone<L: Side, R: Wait>(
+    rt: &R,
+    alloc: Global,
+    blank: Blank,
+    name: u32,
+    plan: Plan,
+) -> Result<bool, Fail>
+    requires name { blank.name ≡ L.name }
+    requires parts { (blank.parts ≡ L.parts) × (L.parts ≡ 65537) }
+    requires called { name ≡ L.called }
+    requires plan { plan ≡ L.plan }
+{
+    let shared = Shared::<L>::new(alloc, blank, name, plan)?;
+    lacks_memory_alone(rt, alloc, shared)
+}
+
+#[test]
+fn a_call_that_is_refused_a_growth_says_so(rt: HostRuntime) -> Result<(), Fail> {
+    let plan = plan(rt.alloc())?;
+    assert!(rt; calls_lack_memory_alone::<Brand, _>(&rt, rt.alloc(), Blank::new(PARTS), 1, plan)?);
     Ok(())
 }

@@ -138,19 +138,20 @@ fn a_close_wants_each_pass(rt: HostRuntime) {
     }
 }
 
-// The fronts of the receipts of all calls of a pass, beside another pass that took once and asks last.
-fn fronts<L: Side, R: Wait>(rt: &R, alloc: Global, shared: &Shared<L>) -> Option<[u64; 6]> {
+// The fronts of the receipts of all calls of a pass, beside another pass that took nothing and then a row, and asks last.
+fn fronts<L: Side, R: Wait>(rt: &R, alloc: Global, shared: &Shared<L>) -> Option<[u64; 7]> {
     let mut first = shared.pass(rt).ok()?;
     let mut pass = shared.pass(rt).ok()?;
     let since: Summary = ByKey::new(alloc);
     let nothing = Delta::of(Vec::new(alloc))?;
+    let none = take(rt, alloc, shared, &mut first, &[])?;
     let taken = take(rt, alloc, shared, &mut first, &[FIRST])?;
     let asked = shared.summary(rt, &mut pass).ok()?.front;
     let sent = shared.delta(rt, &mut pass, &since).ok()?.front;
     let stated = shared.statement(rt, &mut pass).ok()?.front;
     let absorbed = shared.absorb(rt, &mut pass, &nothing).ok()?.front;
     let last = shared.statement(rt, &mut first).ok()?.front;
-    Some([taken, asked, sent, stated, absorbed, last])
+    Some([none, taken, asked, sent, stated, absorbed, last])
 }
 
 fn counts_all_entries<L: Side, R: Wait>(
@@ -168,7 +169,7 @@ fn counts_all_entries<L: Side, R: Wait>(
     let Ok(shared) = Shared::<L>::new(alloc, blank, name, plan) else {
         return false;
     };
-    fronts(rt, alloc, &shared) == Some([1, 2, 3, 4, 5, 6]) && has_made(rt, &shared, 2)
+    fronts(rt, alloc, &shared) == Some([1, 2, 3, 4, 5, 6, 7]) && has_made(rt, &shared, 2)
 }
 
 #[test]

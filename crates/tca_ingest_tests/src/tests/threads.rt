@@ -15,7 +15,7 @@ use tca_join::Items;
 use tca_log::Log;
 use tca_report::Report;
 
-// What two threads give one replica: a list each, and a delta that both absorb.
+// What two threads give one replica: a list each, and a delta of two origins that both absorb.
 #[derive(Drop)]
 struct Day {
     some: Vec<Report>,
@@ -23,23 +23,22 @@ struct Day {
     delta: Delta,
 }
 
-// The delta that both absorb.
-fn absorbed(alloc: Global) -> Option<Delta> {
-    let Some(reports) = reports(alloc, &[THIRD, (9, 3, 40)]) else {
-        return None;
-    };
-    let Ok(reports) = Items::of(alloc, reports) else {
-        return None;
-    };
-    let run = Run {
-        origin: 2,
+// The first rows of an origin.
+fn run_of(alloc: Global, origin: u32, rows: &[(u32, u32, u32)]) -> Option<Run> {
+    let reports = reports(alloc, rows)?;
+    let reports = Items::of(alloc, reports).ok()?;
+    Some(Run {
+        origin,
         start: 0,
         reports,
-    };
+    })
+}
+
+// The delta that both absorb.
+fn absorbed(alloc: Global) -> Option<Delta> {
     let mut runs = Vec::new(alloc);
-    if runs.push(run).is_err() {
-        return None;
-    }
+    runs.push(run_of(alloc, 2, &[THIRD, (9, 3, 40)])?).ok()?;
+    runs.push(run_of(alloc, 3, &[(8, 4, 50)])?).ok()?;
     Delta::of(runs)
 }
 
