@@ -222,9 +222,9 @@ class Limits(ProgramTest):
         self.assert_refused(self.run_program("bill", "--replicas", 1, "plan", "most"), "most", "log", 1)
 
     def test_other_commands_of_as_many_reports_as_a_log_holds(self):
-        """In a domain that has each place twice, of two interfaces, so that all but the last two are disputed."""
+        """Each place stands twice, of two interfaces, and so is disputed, but for the last two."""
         most = 4_194_304
-        rows = (struct.pack(">QIIIIBI", TIME + n, 7, 0, n // 2 % (most // 2 - 1) if n < most - 2 else n, 1500, 0, 1 + n % 2) for n in range(most))
+        rows = (struct.pack(">QIIIIBI", TIME + n, 7, 0, n // 2 if n < most - 2 else n, 1500, 0, 1 + n % 2) for n in range(most))
         with open(self.folder / "whole", "wb") as file:
             file.write(b"TCAX\0\2" + struct.pack(">I", most) + b"".join(rows))
         run = self.run_program("meter", "rfc2697:0:1000000000000:0:blind", "whole")
