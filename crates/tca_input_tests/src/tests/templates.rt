@@ -195,6 +195,32 @@ fn reads_a_record(rt: HostRuntime) {
     assert!(rt; lists(&decoder, &[(7, 256, false)]));
 }
 
+// A data set of 63,004 octets: 3,000 records by the template of the first message.
+fn long_set(alloc: Global) -> Result<Vec<u8>, AllocError> {
+    let mut octets = Vec::from_slice(alloc, b"\x01\x00\xf6\x1c")?;
+    for _ in 0..3000 {
+        octets.extend_from_slice(part(data_set(), 4, 25))?;
+    }
+    Ok(octets)
+}
+
+// How many records are read of a message with the template and that data set.
+fn read_of_long(alloc: Global, decoder: &mut Decoder) -> Option<usize> {
+    let Ok(many) = long_set(alloc) else {
+        return None;
+    };
+    match read(alloc, decoder, 0, &[template_set(), &many]) {
+        Ok(outcome) => Some(outcome.fields.len()),
+        Err(_) => None,
+    }
+}
+
+#[test]
+fn many_records_are_read(rt: HostRuntime) {
+    let mut decoder = Decoder::new(rt.alloc(), SESSION);
+    assert!(rt; read_of_long(rt.alloc(), &mut decoder) == Some(3000));
+}
+
 // How many records were handed on, whether the last of them is the one of `fixed`, and of which session it is.
 #[derive(Clone, Copy)]
 struct Told {

@@ -183,6 +183,31 @@ fn a_stream_comes_octet_by_octet(rt: HostRuntime) {
     assert!(rt; framer.finish() == Ok(()));
 }
 
+// So many messages, one after the other.
+fn many(alloc: Global, count: u32) -> Result<Vec<u8>, AllocError> {
+    let mut octets = Vec::new(alloc);
+    for _ in 0..count {
+        octets.extend_from_slice(fixed())?;
+    }
+    Ok(octets)
+}
+
+// How many messages end in a piece, where it has no fault.
+fn ends_in(framer: &mut Framer, piece: &[u8]) -> Option<usize> {
+    match framer.feed(piece) {
+        Ok(framed) if framed.fault.is_none() => Some(framed.messages.len()),
+        _ => None,
+    }
+}
+
+#[test]
+fn many_messages_come_in_a_piece(rt: HostRuntime) -> Result<(), Fail> {
+    let octets = many(rt.alloc(), 2000)?;
+    let mut framer = Framer::new(rt.alloc());
+    assert!(rt; ends_in(&mut framer, &octets) == Some(2000));
+    Ok(())
+}
+
 #[test]
 fn a_faulty_stream_stays_so(rt: HostRuntime) {
     let fault = WireFault::BadVersion(9);
