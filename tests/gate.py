@@ -67,7 +67,7 @@ class Proving:
 
 
 def main():
-    lanes = int(os.environ.get("RT_JOBS") or 3)
+    lanes = int(os.environ.get("RT_JOBS") or 4)
     with tempfile.TemporaryDirectory(prefix="gate-") as folder:
         top = Path(folder, ROOT.name)
         shutil.copytree(ROOT, top, symlinks=True, ignore=shutil.ignore_patterns(".git", "out", "must-fail", "__pycache__"))
